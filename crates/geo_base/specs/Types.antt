@@ -1,0 +1,49 @@
+-- The types that code and definitions share, each under its own name; a variant is written behind the name of its type.
+pub use Rattle.geo_base.specs.declared.change.Change.{Change}
+pub use Rattle.geo_base.specs.declared.change.Change.TheVariants as change
+pub use Rattle.geo_base.specs.declared.client.Held.{Held}
+pub use Rattle.geo_base.specs.declared.client.Line.{Line}
+pub use Rattle.geo_base.specs.declared.client.Line.TheVariants as line
+pub use Rattle.geo_base.specs.declared.consumer.Consumer.{Consumer}
+pub use Rattle.geo_base.specs.declared.consumer.Outstanding.{Outstanding}
+pub use Rattle.geo_base.specs.declared.entry.Content.{Content}
+pub use Rattle.geo_base.specs.declared.entry.Content.TheVariants as content
+pub use Rattle.geo_base.specs.declared.entry.Entry.{Entry}
+pub use Rattle.geo_base.specs.declared.entry.Ident.{Ident}
+pub use Rattle.geo_base.specs.declared.entry.Metadata.{Metadata}
+pub use Rattle.geo_base.specs.declared.entry.Targets.{Targets}
+pub use Rattle.geo_base.specs.declared.entry.Targets.TheVariants as targets
+pub use Rattle.geo_base.specs.declared.event.Event.{Event}
+pub use Rattle.geo_base.specs.declared.event.Event.TheVariants as event
+pub use Rattle.geo_base.specs.declared.event.Fate.{Fate}
+pub use Rattle.geo_base.specs.declared.event.Fate.TheVariants as fate
+pub use Rattle.geo_base.specs.declared.event.Step.{Step}
+pub use Rattle.geo_base.specs.declared.event.Step.TheVariants as step
+pub use Rattle.geo_base.specs.declared.frame.AckKind.{AckKind}
+pub use Rattle.geo_base.specs.declared.frame.AckKind.TheVariants as ack_kind
+pub use Rattle.geo_base.specs.declared.frame.Frame.{Frame}
+pub use Rattle.geo_base.specs.declared.frame.Frame.TheVariants as frame
+pub use Rattle.geo_base.specs.declared.frame.SubKind.{SubKind}
+pub use Rattle.geo_base.specs.declared.frame.SubKind.TheVariants as sub_kind
+pub use Rattle.geo_base.specs.declared.marker.ClusterPosition.{ClusterPosition}
+pub use Rattle.geo_base.specs.declared.marker.Marker.{Marker}
+pub use Rattle.geo_base.specs.declared.marker.Marker.TheVariants as marker
+pub use Rattle.geo_base.specs.declared.marker.Place.{Place}
+pub use Rattle.geo_base.specs.declared.marker.Place.TheVariants as place
+pub use Rattle.geo_base.specs.declared.packet.Out.{Out}
+pub use Rattle.geo_base.specs.declared.packet.Packet.{Packet}
+pub use Rattle.geo_base.specs.declared.packet.Peer.{Peer}
+pub use Rattle.geo_base.specs.declared.packet.Peer.TheVariants as peer
+pub use Rattle.geo_base.specs.declared.position.Position.{Position}
+pub use Rattle.geo_base.specs.declared.sender.Pending.{Pending}
+pub use Rattle.geo_base.specs.declared.sender.SenderState.{SenderState}
+pub use Rattle.geo_base.specs.declared.sender.SenderState.TheVariants as sender_state
+pub use Rattle.geo_base.specs.declared.session.AttachedProducer.{AttachedProducer}
+pub use Rattle.geo_base.specs.declared.session.Session.{Session}
+pub use Rattle.geo_base.specs.declared.snapshot.Builder.{Builder}
+pub use Rattle.geo_base.specs.declared.snapshot.CachedSnapshot.{CachedSnapshot}
+pub use Rattle.geo_base.specs.declared.snapshot.Cut.{Cut}
+pub use Rattle.geo_base.specs.declared.snapshot.Progress.{Progress}
+pub use Rattle.geo_base.specs.declared.snapshot.Progress.TheVariants as progress
+pub use Rattle.geo_base.specs.declared.write.Write.{Write}
+pub use Rattle.geo_base.specs.declared.write.Write.TheVariants as write

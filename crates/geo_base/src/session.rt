@@ -1,0 +1,17 @@
+//! What a client has open at a broker.
+use crate::bytes::Text;
+use crate::sequence::Sequence;
+
+/// A producer of a client's session, under the id that its commands use.
+#[derive(Debug, Drop)]
+pub struct AttachedProducer {
+    pub id: u64,
+    pub name: Text,
+}
+
+/// A client's connection: its number, and its producers in order of attachment.
+#[derive(Debug, Drop)]
+pub struct Session {
+    pub number: u64,
+    pub producers: Sequence<AttachedProducer>,
+}

@@ -1,0 +1,19 @@
+//! What a broker writes durably.
+use crate::bytes::Text;
+use crate::entry::Entry;
+use crate::frame::SubKind;
+use crate::sequence::Sequence;
+
+/// One durable write. `Acks` and `SenderAck` say which indexes a cursor gains, `Seek` that a cursor becomes all below an index.
+#[derive(Debug, Drop)]
+pub enum Write {
+    Append(Entry),
+    Create { sub: Text, kind: SubKind, replicated: bool, latest: bool },
+    Alter { sub: Text, kind: SubKind, replicated: bool },
+    Delete { sub: Text },
+    Acks { sub: Text, indexes: Sequence<u64> },
+    Seek { sub: Text, below: u64 },
+    SenderAck { remote: u32, index: u64 },
+    SessionNumber { remote: u32, session: u64 },
+    Ledger,
+}
