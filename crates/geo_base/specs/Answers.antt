@@ -1,7 +1,6 @@
 -- What a broker answers on a client's link (CommandError and CommandSendError; which refusal has which code is own).
 use Rattle.std.specs.Prelude.{ℕ, List, []}
-use Rattle.geo_base.specs.Types.{Change, Frame, Out, Session}
-use Rattle.geo_base.specs.Types.change
+use Rattle.geo_base.specs.Types.{Frame, Out, Session}
 use Rattle.geo_base.specs.Types.frame
 use Rattle.geo_base.specs.Types.peer
 use Rattle.geo_base.specs.Link.{sends}

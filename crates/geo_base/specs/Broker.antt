@@ -1,5 +1,5 @@
 -- A broker, which owns one topic at one cluster: its state, and what one durable write and one change in memory do to it.
-use Rattle.std.specs.Prelude.{ℕ, Bool, not, if◌then◌else◌, List, [], ◌∷◌, ◌++◌, length, map, filter, find, replicate, Option, Some, None, slice_set, slice_index_or, is_some}
+use Rattle.std.specs.Prelude.{ℕ, not, if◌then◌else◌, List, [], ◌∷◌, ◌++◌, length, map, filter, find, replicate, Option, None, slice_set, slice_index_or, is_some}
 use Rattle.std.specs.Str.{bytes_eq}
 use Rattle.geo_base.specs.Types.{Builder, Change, Entry, Session, Write}
 use Rattle.geo_base.specs.Types.change
@@ -34,8 +34,13 @@ pub record Broker : Type 0 where
 -- an empty topic has ledger 0
 abbrev pub new_broker : ℕ → ℕ → Broker
 new_broker clusters clients = record {
-  entries = []; ledgers = 0 ∷ []; senders = replicate clusters new_sender; receivers = replicate clusters None; subs = [];
-  sessions = replicate clients None; builder = None;
+  entries = [];
+  ledgers = 0 ∷ [];
+  senders = replicate clusters new_sender;
+  receivers = replicate clusters None;
+  subs = [];
+  sessions = replicate clients None;
+  builder = None;
 }
 
 -- what stands past the end of a list of brokers

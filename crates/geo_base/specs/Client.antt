@@ -30,8 +30,19 @@ pub record Client : Type 0 where
 
 abbrev pub new_client : Declared → Client
 new_client d = record {
-  cluster = d.cluster; connection = 0; connected = false; done = 0; produce = None; sub = None; flow = None; unanswered = [];
-  held = []; receipts = 0; duplicates = 0; errors = 0; got = [];
+  cluster = d.cluster;
+  connection = 0;
+  connected = false;
+  done = 0;
+  produce = None;
+  sub = None;
+  flow = None;
+  unanswered = [];
+  held = [];
+  receipts = 0;
+  duplicates = 0;
+  errors = 0;
+  got = [];
 }
 
 -- what an event does at a client

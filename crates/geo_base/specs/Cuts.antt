@@ -1,5 +1,5 @@
 -- What a cut is: where the mark-delete has passed its local position, all that its remote positions cover was passed too.
-use Rattle.std.specs.Prelude.{◌≡◌, ℕ, ◌<◌, ◌≤◌, ◌≢◌, true, List, length, Option, Some, None, slice_index_or}
+use Rattle.std.specs.Prelude.{◌≡◌, ℕ, ◌<◌, ◌≤◌, ◌≢◌, true, length, Some, None, slice_index_or}
 use Rattle.geo_base.specs.Types.{Cut, Entry, Position}
 use Rattle.geo_base.specs.Broker.{Broker}
 use Rattle.geo_base.specs.Entry.{is_data, meant_for}

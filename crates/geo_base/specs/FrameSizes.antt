@@ -1,6 +1,6 @@
 -- How many bytes a frame takes, its first four included (Pulsar binary protocol: total size, command size, command, and for
 -- SEND and MESSAGE metadata size, metadata, payload; every field that a command has a value for is written).
-use Rattle.std.specs.Prelude.{ℕ, ◌+◌, List, [], ◌∷◌, length, Option, Some, None}
+use Rattle.std.specs.Prelude.{ℕ, ◌+◌, List, [], ◌∷◌, Option, Some, None}
 use Rattle.geo_base.specs.Types.{Entry, Frame, Out, Place, Position}
 use Rattle.geo_base.specs.Types.frame
 use Rattle.geo_base.specs.Sizes.{bytes_field, number_field, optional_text, text_field, place_name, position_size, entry_size}

@@ -39,7 +39,7 @@ abbrev pub acks_all : Client → List Held → Acted
 acks_all k [] = stays k
 acks_all k (h ∷ hs) =
     becomes (record (past k) { held = drop most_acks (h ∷ hs) })
-      (to_broker k (frame.Ack (id_of k.sub) ack_kind.Individual (map (λ (g : Held). g.position) (take most_acks (h ∷ hs)))))
+    (to_broker k (frame.Ack (id_of k.sub) ack_kind.Individual (map (λ (g : Held). g.position) (take most_acks (h ∷ hs)))))
 
 -- the most publishes that wait for their receipts (own)
 abbrev pub most_unanswered : ℕ

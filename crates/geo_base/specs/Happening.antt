@@ -30,37 +30,37 @@ unfoldable pub broker_does : Setup → World → Planned → World
 broker_does s w p =
     if p.plan.idle then idles w
     else
-        let n = node s p.topic p.cluster in
-        let stamp = next_stamp (slice_index w.broker_clocks n) (packet_at w.links p.takes) in
-        record {
-          brokers = slice_set w.brokers n (done s.per_ledger (broker_at w n) p.plan);
-          clients = w.clients;
-          links = taken_from p.takes (delivered (from_broker s p.topic p.cluster) stamp p.plan.sent w.links);
-          broker_clocks = slice_set w.broker_clocks n stamp;
-          client_clocks = w.client_clocks;
-          events = w.events + 1;
-          idle = w.idle;
-          rounds = w.rounds;
-          frame_bytes = w.frame_bytes + sent_bytes s.clusters p.plan.sent;
-        }
+    let n = node s p.topic p.cluster in
+    let stamp = next_stamp (slice_index w.broker_clocks n) (packet_at w.links p.takes) in
+    record {
+      brokers = slice_set w.brokers n (done s.per_ledger (broker_at w n) p.plan);
+      clients = w.clients;
+      links = taken_from p.takes (delivered (from_broker s p.topic p.cluster) stamp p.plan.sent w.links);
+      broker_clocks = slice_set w.broker_clocks n stamp;
+      client_clocks = w.client_clocks;
+      events = w.events + 1;
+      idle = w.idle;
+      rounds = w.rounds;
+      frame_bytes = w.frame_bytes + sent_bytes s.clusters p.plan.sent;
+    }
 
 -- an event of a client
 unfoldable pub client_does : Setup → World → ℕ → Option LinkName → Acted → World
 client_does s w c takes a =
     if a.idle then idles w
     else
-        let stamp = next_stamp (slice_index w.client_clocks c) (packet_at w.links takes) in
-        record {
-          brokers = w.brokers;
-          clients = slice_set w.clients c a.client;
-          links = delivered (from_client c) stamp a.sent (taken_from takes w.links);
-          broker_clocks = w.broker_clocks;
-          client_clocks = slice_set w.client_clocks c stamp;
-          events = w.events + 1;
-          idle = w.idle;
-          rounds = w.rounds;
-          frame_bytes = w.frame_bytes + sent_bytes s.clusters a.sent;
-        }
+    let stamp = next_stamp (slice_index w.client_clocks c) (packet_at w.links takes) in
+    record {
+      brokers = w.brokers;
+      clients = slice_set w.clients c a.client;
+      links = delivered (from_client c) stamp a.sent (taken_from takes w.links);
+      broker_clocks = w.broker_clocks;
+      client_clocks = slice_set w.client_clocks c stamp;
+      events = w.events + 1;
+      idle = w.idle;
+      rounds = w.rounds;
+      frame_bytes = w.frame_bytes + sent_bytes s.clusters a.sent;
+    }
 
 abbrev pub does_planned : Setup → World → Option Planned → World
 does_planned s w None = idles w

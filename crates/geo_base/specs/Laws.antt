@@ -1,7 +1,7 @@
 -- What holds at every moment of every run. Each law stands on a public function of its own once it is proved.
 use Rattle.std.specs.Prelude.{◌≡◌, ℕ, zero, suc, ◌+◌, ◌-◌, ◌*◌, ◌^◌, ◌<◌, ◌≤◌, ◌≢◌, nat_le, ◌==◌, Bool, true, false, ◌&&◌, if◌then◌else◌, List, [], ◌∷◌, ◌++◌, length, map, filter, sum, Some, None, slice_get, slice_index_or}
 use Rattle.std.specs.List.{list_all}
-use Rattle.geo_base.specs.Types.{Builder, CachedSnapshot, ClusterPosition, Consumer, Cut, Entry, Position, Step, SubKind}
+use Rattle.geo_base.specs.Types.{Builder, CachedSnapshot, ClusterPosition, Consumer, Entry, Position, Step, SubKind}
 use Rattle.geo_base.specs.Types.content
 use Rattle.geo_base.specs.Types.event
 use Rattle.geo_base.specs.Types.marker
@@ -100,7 +100,7 @@ abbrev pub NamesSettled : Setup → List Step → Type 0
 NamesSettled s es = (t z i a y : ℕ) (e : Entry) (n : List ℕ) (remote : List ClusterPosition) → z < length s.clusters → y < length s.clusters → a ≢ y
     → IsEntry (topic_after s es t z) i e → e.ident.origin ≡ a → e.content ≡ content.Marked (marker.Update n remote)
     → (p : Position) × (j : ℕ) × (positions_for y remote ≡ p ∷ []) × (index_of (topic_after s es t y).ledgers p ≡ Some j)
-      × ((k : ℕ) (f : Entry) → k ≤ j → IsEntry (topic_after s es t y) k f → is_data f.content ≡ true → meant_for a f ≡ true → IsSettled s es t n f)
+    × ((k : ℕ) (f : Entry) → k ≤ j → IsEntry (topic_after s es t y) k f → is_data f.content ≡ true → meant_for a f ≡ true → IsSettled s es t n f)
 
 -- budget: settling ends within its rounds, in a world where nothing is left to do
 abbrev pub settled_after : Setup → List Step → World
@@ -113,8 +113,8 @@ SettlesInTime s es = (is_quiet s (settled_after s es) ≡ true) × ((settled_aft
 abbrev pub IsComplete : Setup → List Step → Type 0
 IsComplete s es = (t x y : ℕ) → t < length s.topics → ArePair s x y
     → ((sender_at (topic_at s (settled_after s es) t x) y).state ≡ sender_state.Open)
-      × ((i : ℕ) → i < length (topic_at s (settled_after s es) t x).entries → has (sender_at (topic_at s (settled_after s es) t x) y).cursor i ≡ true)
-      × (outbound x y (topic_at s (settled_after s es) t x).entries ≡ of_origin x (topic_at s (settled_after s es) t y).entries)
+    × ((i : ℕ) → i < length (topic_at s (settled_after s es) t x).entries → has (sender_at (topic_at s (settled_after s es) t x) y).cursor i ≡ true)
+    × (outbound x y (topic_at s (settled_after s es) t x).entries ≡ of_origin x (topic_at s (settled_after s es) t y).entries)
 
 -- offers: with permits enough, twice as many offers as there are entries and ten more bring every message out
 abbrev pub offered : ℕ → Setup → World → ℕ → ℕ → ℕ → World

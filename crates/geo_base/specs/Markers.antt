@@ -1,8 +1,8 @@
 -- Snapshots of replicated subscriptions (PIP-33): a request and its answers, and what a cluster does with a marker of another
 -- one that its sender reads.
-use Rattle.std.specs.Prelude.{ℕ, ◌+◌, ◌-◌, ◌^◌, ◌&&◌, if◌then◌else◌, List, [], ◌∷◌, ◌++◌, length, Option, Some, None, is_none}
+use Rattle.std.specs.Prelude.{ℕ, ◌-◌, ◌^◌, ◌&&◌, if◌then◌else◌, List, [], ◌∷◌, length, Option, Some, None, is_none}
 use Rattle.std.specs.List.{list_any}
-use Rattle.geo_base.specs.Types.{Builder, Change, ClusterPosition, Content, Entry, Marker, Progress, Write}
+use Rattle.geo_base.specs.Types.{Builder, ClusterPosition, Content, Entry, Marker, Progress}
 use Rattle.geo_base.specs.Types.change
 use Rattle.geo_base.specs.Types.content
 use Rattle.geo_base.specs.Types.marker
@@ -27,7 +27,7 @@ request_marker h b id = own_marker h b (marker.Request id (place.Known h.own)) t
 abbrev pub response_marker : Site → Broker → ℕ → List ℕ → Entry
 response_marker h b y id =
     own_marker h b (marker.Response id (record { cluster = place.Known h.own; position = position_at b.ledgers (length b.entries - 1) }))
-      (targets.Only (2 ^ y)) (cluster_name h y ∷ [])
+    (targets.Only (2 ^ y)) (cluster_name h y ∷ [])
 
 abbrev pub snapshot_marker : Site → Broker → Builder → Entry
 snapshot_marker h b u = own_marker h b (marker.Snapshot u.id u.cut.local (named u.cut)) (targets.Only (2 ^ h.own)) (cluster_name h h.own ∷ [])

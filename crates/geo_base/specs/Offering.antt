@@ -44,7 +44,7 @@ offer_marker h b s i =
 abbrev pub offer_snapshot : Site → Broker → Subscription → ℕ → CachedSnapshot → Plan
 offer_snapshot h b s i c =
     plan_of (write.Acks s.name (i ∷ []) ∷ update_after h b (with_acks (i ∷ []) (record s { cache = cached s.cache c })))
-        (change.Cache s.name c ∷ change.Passed s.name i ∷ change.Acked s.name ∷ []) []
+    (change.Cache s.name c ∷ change.Passed s.name i ∷ change.Acked s.name ∷ []) []
 
 -- only one whose local position is stored
 abbrev pub offer_cut : Site → Broker → Subscription → ℕ → Position → List ClusterPosition → Option ℕ → Plan

@@ -1,7 +1,7 @@
 -- read: the sender to another cluster looks at the next entry that its cursor lacks. What the own cluster stored first and is
 -- to go there is sent, a marker of the other cluster is acted on, and all else is passed over: a replicated message is never
 -- replicated again (geo-replication manual).
-use Rattle.std.specs.Prelude.{ℕ, ◌==◌, ◌&&◌, if◌then◌else◌, List, [], ◌∷◌, length, Option, Some, None, slice_get}
+use Rattle.std.specs.Prelude.{ℕ, ◌==◌, ◌&&◌, if◌then◌else◌, [], ◌∷◌, length, Option, Some, None, slice_get}
 use Rattle.geo_base.specs.Types.{Entry}
 use Rattle.geo_base.specs.Types.change
 use Rattle.geo_base.specs.Types.frame

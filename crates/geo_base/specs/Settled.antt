@@ -1,6 +1,6 @@
 -- Which messages of a topic are settled on a subscription, over a whole run at all clusters: acknowledged by a client, passed
 -- over by a creation at Latest or by a seek. No part of the program keeps this set; it only grows.
-use Rattle.std.specs.Prelude.{◌≡◌, ℕ, ◌==◌, Bool, true, ◌&&◌, if◌then◌else◌, List, [], ◌∷◌, ◌++◌, length, take, Option, Some, None, slice_get}
+use Rattle.std.specs.Prelude.{◌≡◌, ℕ, ◌==◌, true, ◌&&◌, if◌then◌else◌, List, [], ◌∷◌, ◌++◌, length, take, Option, Some, None, slice_get}
 use Rattle.std.specs.List.{list_any}
 use Rattle.std.specs.Str.{bytes_eq}
 use Rattle.geo_base.specs.Types.{Entry, Event, Ident, Step, Write}

@@ -8,17 +8,35 @@ use crate::position::Position;
 #[derive(Debug, Drop)]
 pub enum Line {
     Produce,
-    Pub { seq: u64, to: Targets, key: Option<Text>, text: Blob },
-    Sub { sub: Text, kind: SubKind, earliest: bool, replicated: bool },
-    Flow { permits: u32 },
-    Ack { ident: Ident },
-    AckTo { ident: Ident },
+    Pub {
+        seq: u64,
+        to: Targets,
+        key: Option<Text>,
+        text: Blob,
+    },
+    Sub {
+        sub: Text,
+        kind: SubKind,
+        earliest: bool,
+        replicated: bool,
+    },
+    Flow {
+        permits: u32,
+    },
+    Ack {
+        ident: Ident,
+    },
+    AckTo {
+        ident: Ident,
+    },
     AckAll,
     Unsub,
     Close,
     CloseProducer,
     Ping,
-    Move { cluster: u32 },
+    Move {
+        cluster: u32,
+    },
 }
 
 /// A message that came to a client and that it has not acknowledged, with the position under which it came.

@@ -13,19 +13,64 @@ pub enum Fate {
 /// `source` and `target` are the two ends of the forward link.
 #[derive(Clone, Copy, Debug, Drop, PartialEq, Eq)]
 pub enum Event {
-    Go { client: u32 },
-    Get { client: u32 },
-    Reconnect { client: u32 },
-    Serve { cluster: u32, client: u32 },
-    Drop { cluster: u32, client: u32 },
-    Reset { topic: u32, source: u32, target: u32 },
-    Read { topic: u32, source: u32, target: u32 },
-    Take { topic: u32, source: u32, target: u32, fate: Fate },
-    Receipt { topic: u32, source: u32, target: u32, fate: Fate },
-    Snap { topic: u32, cluster: u32 },
-    Offer { topic: u32, cluster: u32, sub: u32 },
-    Seek { topic: u32, cluster: u32, sub: u32, to: Option<Position> },
-    Restart { topic: u32, cluster: u32 },
+    Go {
+        client: u32,
+    },
+    Get {
+        client: u32,
+    },
+    Reconnect {
+        client: u32,
+    },
+    Serve {
+        cluster: u32,
+        client: u32,
+    },
+    Drop {
+        cluster: u32,
+        client: u32,
+    },
+    Reset {
+        topic: u32,
+        source: u32,
+        target: u32,
+    },
+    Read {
+        topic: u32,
+        source: u32,
+        target: u32,
+    },
+    Take {
+        topic: u32,
+        source: u32,
+        target: u32,
+        fate: Fate,
+    },
+    Receipt {
+        topic: u32,
+        source: u32,
+        target: u32,
+        fate: Fate,
+    },
+    Snap {
+        topic: u32,
+        cluster: u32,
+    },
+    Offer {
+        topic: u32,
+        cluster: u32,
+        sub: u32,
+    },
+    Seek {
+        topic: u32,
+        cluster: u32,
+        sub: u32,
+        to: Option<Position>,
+    },
+    Restart {
+        topic: u32,
+        cluster: u32,
+    },
 }
 
 /// One line of a schedule. `Halt(k, e)` stops the node after the first `k` durable writes of `e`.

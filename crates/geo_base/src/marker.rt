@@ -20,8 +20,21 @@ pub struct ClusterPosition {
 /// What a marker says. `id` names a snapshot.
 #[derive(Debug, Drop)]
 pub enum Marker {
-    Request { id: Text, source: Place },
-    Response { id: Text, answer: ClusterPosition },
-    Snapshot { id: Text, local: Position, remote: Sequence<ClusterPosition> },
-    Update { sub: Text, remote: Sequence<ClusterPosition> },
+    Request {
+        id: Text,
+        source: Place,
+    },
+    Response {
+        id: Text,
+        answer: ClusterPosition,
+    },
+    Snapshot {
+        id: Text,
+        local: Position,
+        remote: Sequence<ClusterPosition>,
+    },
+    Update {
+        sub: Text,
+        remote: Sequence<ClusterPosition>,
+    },
 }

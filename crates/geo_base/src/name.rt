@@ -33,7 +33,7 @@ pub struct Name<K> {
 impl<K> Model for Name<K> {
     ghost use Rattle.std.specs.Prelude.{◌≡◌, List, ℕ, true};
     ghost use Rattle.std.specs.List.{list_all};
-ghost use Rattle.geo_base.specs.Name.{is_name};
+    ghost use Rattle.geo_base.specs.Name.{is_name};
 
     ghost Value = { List ℕ };
 

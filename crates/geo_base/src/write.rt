@@ -8,12 +8,35 @@ use crate::sequence::Sequence;
 #[derive(Debug, Drop)]
 pub enum Write {
     Append(Entry),
-    Create { sub: Text, kind: SubKind, replicated: bool, latest: bool },
-    Alter { sub: Text, kind: SubKind, replicated: bool },
-    Delete { sub: Text },
-    Acks { sub: Text, indexes: Sequence<u64> },
-    Seek { sub: Text, below: u64 },
-    SenderAck { remote: u32, index: u64 },
-    SessionNumber { remote: u32, session: u64 },
+    Create {
+        sub: Text,
+        kind: SubKind,
+        replicated: bool,
+        latest: bool,
+    },
+    Alter {
+        sub: Text,
+        kind: SubKind,
+        replicated: bool,
+    },
+    Delete {
+        sub: Text,
+    },
+    Acks {
+        sub: Text,
+        indexes: Sequence<u64>,
+    },
+    Seek {
+        sub: Text,
+        below: u64,
+    },
+    SenderAck {
+        remote: u32,
+        index: u64,
+    },
+    SessionNumber {
+        remote: u32,
+        session: u64,
+    },
     Ledger,
 }

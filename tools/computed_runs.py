@@ -1,0 +1,226 @@
+#!/usr/bin/env python3
+"""Computes runs by the definitions of crates/geo_base, inside the checker.
+
+A run is a script NAME.geo with its report NAME.report beside it, and NAME.bytes (the bytes of all frames sent) where that is
+known. From these a module of proofs is written whose statements hold by computation alone: the machine's report of the run
+over the script's schedule is the report, line by line, and the frames have these bytes. Nothing is typed by hand.
+
+usage: computed_runs.py write OUT NAME.geo ..   writes OUT/Run_NAME.antt for each script
+       computed_runs.py check NAME.geo ..       computes the runs in a copy of the crate, and says which agree
+"""
+import os
+import re
+import shutil
+import subprocess
+import sys
+import tempfile
+import time
+
+ROOT = os.path.dirname(os.path.dirname(os.path.abspath(__file__)))
+KINDS = {'exclusive': 'Exclusive', 'shared': 'Shared', 'failover': 'Failover', 'keyshared': 'KeyShared'}
+WORDS = {'produce': 'Produce', 'ackall': 'AckAll', 'unsub': 'Unsub', 'close': 'Close', 'closep': 'CloseProducer', 'ping': 'Ping'}
+UNFOLDED = ('setup schedule shown digits go get reconnect serve drop_client reset take_packet receipt read snap offer seek '
+            'restart planned broker_does broker_halts client_does happens stops settled_world steps report_lines')
+IMPORTS = '''use Rattle.std.specs.Prelude.{◌≡◌, ℕ, ◌∷◌, [], List, true, false, Some, None, codes, refl}
+use Rattle.std.specs.Fmt.{digits}
+use Rattle.geo_base.specs.Types.{Step}
+use Rattle.geo_base.specs.Types.event
+use Rattle.geo_base.specs.Types.fate
+use Rattle.geo_base.specs.Types.line
+use Rattle.geo_base.specs.Types.step
+use Rattle.geo_base.specs.Types.sub_kind
+use Rattle.geo_base.specs.Types.targets
+use Rattle.geo_base.specs.Client.{reconnect}
+use Rattle.geo_base.specs.Forwarding.{receipt, reset, take_packet}
+use Rattle.geo_base.specs.Getting.{get}
+use Rattle.geo_base.specs.Going.{go}
+use Rattle.geo_base.specs.Happening.{broker_does, broker_halts, client_does, happens, stops}
+use Rattle.geo_base.specs.Markers.{snap}
+use Rattle.geo_base.specs.Offering.{offer}
+use Rattle.geo_base.specs.Planned.{planned}
+use Rattle.geo_base.specs.Reading.{read}
+use Rattle.geo_base.specs.Report.{report_lines}
+use Rattle.geo_base.specs.Run.{all_limits, run, run_under, settled_world, steps}
+use Rattle.geo_base.specs.Seeking.{restart, seek}
+use Rattle.geo_base.specs.Serving.{drop_client, serve}
+use Rattle.geo_base.specs.Setup.{Setup}
+'''
+
+
+def text(t):
+    return '(codes "%s")' % t.replace('\\', '\\\\').replace('"', '\\"') if t else '[]'
+
+
+def items(parts):
+    return '(%s)' % ' ∷ '.join(parts + ['[]']) if parts else '[]'
+
+
+class Script:
+    """The declarations and the schedule of a script that is known to be accepted."""
+
+    def __init__(self, path):
+        self.per_ledger = 50000
+        self.clusters, self.topics, self.clients, self.events = [], [], [], []
+        self.at, self.lines, self.subs = {}, {}, {}
+        with open(path) as file:
+            for line in file.read().split('\n'):
+                if line and not line.startswith('#'):
+                    self.read(line, line.split(' '))
+        for client in self.clients:
+            subs = self.subs.setdefault(self.at[client][0], [])
+            for words, _ in self.lines[client]:
+                if words[0] == 'sub' and words[1] not in subs:
+                    subs.append(words[1])
+
+    def read(self, line, words):
+        if words[0] == 'ledger':
+            self.per_ledger = int(words[1])
+        elif words[0] == 'cluster':
+            self.clusters.append(words[1])
+        elif words[0] == 'topic':
+            self.topics.append(words[1])
+        elif words[0] == 'client':
+            self.clients.append(words[1])
+            self.at[words[1]] = (self.topics.index(words[2]), self.clusters.index(words[3]))
+            self.lines[words[1]] = []
+        elif words[0] == 'do':
+            self.lines[words[1]].append((words[2:], line.split(' ', 2)[2]))
+        elif words[0] not in ('geo', 'chance'):
+            self.events.append(words)
+
+    def targets(self, to):
+        if to == '*':
+            return 'targets.All'
+        return '(targets.Only %d)' % sum(1 << self.clusters.index(name) for name in to.split(','))
+
+    def ident(self, origin, producer, seq):
+        return '(record { origin = %d; producer = %s; seq = %s })' % (self.clusters.index(origin), text(producer), seq)
+
+    def line(self, words, line):
+        word = words[0]
+        if word == 'pub':
+            _, seq, to, key, payload = line.split(' ', 4)
+            key = 'None' if key == '-' else '(Some %s)' % text(key)
+            return 'line.Pub %s %s %s %s' % (seq, self.targets(to), key, text(payload))
+        if word == 'sub':
+            flags = ('true' if words[3] == 'earliest' else 'false', 'true' if words[4] == 'replicated' else 'false')
+            return 'line.Sub %s sub_kind.%s %s %s' % (text(words[1]), KINDS[words[2]], *flags)
+        if word == 'flow':
+            return 'line.Flow %s' % words[1]
+        if word in ('ack', 'ackto'):
+            return 'line.%s %s' % ('Ack' if word == 'ack' else 'AckTo', self.ident(*words[1:]))
+        if word == 'move':
+            return 'line.Move %d' % self.clusters.index(words[1])
+        return 'line.%s' % WORDS[word]
+
+    def event(self, words):
+        word, name = words[0], words[0].capitalize()
+        if word in ('go', 'get', 'reconnect'):
+            return 'event.%s %d' % (name, self.clients.index(words[1]))
+        if word in ('serve', 'drop'):
+            return 'event.%s %d %d' % (name, self.clusters.index(words[1]), self.clients.index(words[2]))
+        topic, at = self.topics.index(words[1]), self.clusters.index(words[2])
+        if word in ('reset', 'read', 'take', 'receipt'):
+            fate = ' fate.' + words[4].capitalize() if len(words) > 4 else ''
+            return 'event.%s %d %d %d%s' % (name, topic, at, self.clusters.index(words[3]), fate)
+        if word in ('snap', 'restart'):
+            return 'event.%s %d %d' % (name, topic, at)
+        sub = self.subs[topic].index(words[3])
+        if word == 'offer':
+            return 'event.Offer %d %d %d' % (topic, at, sub)
+        to = 'None' if words[4] == 'end' else '(Some (record { ledger = %s; entry = %s }))' % tuple(words[4].split(':'))
+        return 'event.Seek %d %d %d %s' % (topic, at, sub, to)
+
+    def step(self, words):
+        if words[0] in ('settle', 'stop'):
+            return 'step.' + words[0].capitalize()
+        if words[0] == 'halt':
+            return 'step.Halt %s (%s)' % (words[1], self.event(words[2:]))
+        return 'step.Plain (%s)' % self.event(words)
+
+    def declared(self, client):
+        topic, cluster = self.at[client]
+        lines = ''.join('\n      %s ∷' % self.line(*line) for line in self.lines[client])
+        return 'record { name = %s; topic = %d; cluster = %d; lines =%s [] } ∷' % (text(client), topic, cluster, lines)
+
+
+def module(path):
+    """The text of the proof module of a script."""
+    script, base = Script(path), path[:-len('.geo')]
+    with open(base + '.report') as file:
+        report = file.read().split('\n')[:-1]
+    out = ['-- The run %s, computed: the definitions give its report. Written by tools/computed_runs.py.' % os.path.basename(base)]
+    out += [IMPORTS, 'setup : Setup', 'setup = record {', '  per_ledger = %d;' % script.per_ledger]
+    out += ['  clusters = %s;' % items([text(name) for name in script.clusters])]
+    out += ['  topics = %s;' % items([text(name) for name in script.topics]), '  clients =']
+    out += ['    ' + script.declared(client) for client in script.clients] + ['    [];', '}', '']
+    out += ['schedule : List Step', 'schedule ='] + ['    %s ∷' % script.step(words) for words in script.events] + ['    []', '']
+    out += ['shown : List (List ℕ)', 'shown ='] + ['    %s ∷' % text(line) for line in report] + ['    []', '']
+    out += ['reported : report_lines setup (run setup schedule) ≡ shown', 'unfolding ' + UNFOLDED, 'reported = refl']
+    if os.path.exists(base + '.bytes'):
+        with open(base + '.bytes') as file:
+            out += ['', 'sent : (run_under all_limits setup schedule).world.frame_bytes ≡ %s' % file.read().strip()]
+        out += ['unfolding ' + UNFOLDED, 'sent = refl']
+    return '\n'.join(out) + '\n'
+
+
+def name_of(path):
+    return 'Run_' + os.path.basename(path)[:-len('.geo')]
+
+
+def write(out, paths):
+    for path in paths:
+        with open(os.path.join(out, name_of(path) + '.antt'), 'w') as file:
+            file.write(module(path))
+
+
+def copy_of_crate(where, paths):
+    """A copy of the repository's lowest crate with these runs in place of its own; gives its folder."""
+    crate = os.path.join(where, 'crates', 'geo_base')
+    shutil.copytree(os.path.join(ROOT, 'crates', 'geo_base'), crate, symlinks=True)
+    shutil.copy(os.path.join(ROOT, 'HANDLES'), where)
+    with open(os.path.join(where, 'crates.txt'), 'w') as file:
+        file.write('geo_base: thiserror\n')
+    proofs = os.path.join(crate, 'proofs')
+    for old in os.listdir(proofs):
+        if old.startswith('Run_'):
+            os.remove(os.path.join(proofs, old))
+    write(proofs, paths)
+    with open(os.path.join(proofs, 'Lib.antt')) as file:
+        kept = [line for line in file.read().split('\n') if line and 'Run_' not in line]
+    with open(os.path.join(proofs, 'Lib.antt'), 'w') as file:
+        file.write('\n'.join(kept + ['mod ' + name_of(path) for path in paths]) + '\n')
+    return crate
+
+
+def refused(crate):
+    """Checks the crate; gives the names of the runs that were refused, and what else was."""
+    done = subprocess.run(['rt', 'check'], cwd=crate, capture_output=True, text=True)
+    lines = (done.stdout + done.stderr).split('\n')
+    errors = [line for line in lines if re.search(r'\berror\b', line)]
+    runs = {found.group(1) for line in errors for found in [re.search(r'Run_(\w+)\.antt', line)] if found}
+    other = [line for line in errors if 'Run_' not in line]
+    proved = any(line.startswith('logic=proved') for line in lines)
+    return runs, other, proved
+
+
+def check(paths):
+    with tempfile.TemporaryDirectory() as where:
+        began = time.time()
+        runs, other, proved = refused(copy_of_crate(where, paths))
+        for path in paths:
+            base = os.path.basename(path)[:-len('.geo')]
+            print('%s %s' % ('REFUSED' if base in runs else 'agrees', base))
+        for line in other[:5]:
+            print(line)
+        print('%d runs, %d refused, %.0f seconds' % (len(paths), len(runs), time.time() - began))
+        return 0 if proved and not runs and not other else 1
+
+
+if __name__ == '__main__':
+    if len(sys.argv) > 3 and sys.argv[1] == 'write':
+        write(sys.argv[2], sys.argv[3:])
+    elif len(sys.argv) > 2 and sys.argv[1] == 'check':
+        sys.exit(check(sys.argv[2:]))
+    else:
+        sys.exit(__doc__)
