@@ -93,6 +93,13 @@ impl<K> Name<K> {
             Err(_) => Err(NameFault::Memory),
         }
     }
+
+    /// The name.
+    pub fn as_str(&self) -> &str
+        ensures { result.now ≡ self.now }
+    {
+        self.text.as_str()
+    }
 }
 
 fn are_name_bytes(bytes: &[u8]) -> bool
@@ -132,6 +139,22 @@ impl ProducerName {
     {
         let name: Name<Producer> = Name::read(alloc, text)?;
         Ok(ProducerName { text: name.text })
+    }
+
+    /// The name's bytes.
+    pub fn as_bytes(&self) -> &[u8]
+        ensures { result.now ≡ self.now }
+    {
+        self.text.as_bytes()
+    }
+
+    /// A copy.
+    pub fn copy(&self, alloc: Global) -> Result<ProducerName, Memory>
+        ensures { IfOk result (λ c. c ≡ self.now) }
+    {
+        Ok(ProducerName {
+            text: self.text.copy(alloc)?,
+        })
     }
 
     /// A producer's name as it came.
