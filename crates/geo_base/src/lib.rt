@@ -8,6 +8,7 @@ pub mod bytes;
 pub mod change;
 pub mod client;
 pub mod consumer;
+pub mod copy;
 pub mod entry;
 pub mod event;
 pub mod frame;

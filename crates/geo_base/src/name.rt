@@ -142,6 +142,22 @@ impl ProducerName {
         Ok(ProducerName { text: name.text })
     }
 
+    /// The name's bytes.
+    pub fn as_bytes(&self) -> &[u8]
+        ensures { result.now ≡ self.now }
+    {
+        self.text.as_bytes()
+    }
+
+    /// A copy.
+    pub fn copy(&self, alloc: Global) -> Result<ProducerName, Memory>
+        ensures { IfOk result (λ c. c ≡ self.now) }
+    {
+        Ok(ProducerName {
+            text: self.text.copy(alloc)?,
+        })
+    }
+
     /// A producer's name as it came.
     pub fn any(alloc: Global, text: &str) -> Result<ProducerName, Memory>
         ensures { IfOk result (λ name. name ≡ text.now) }

@@ -1,0 +1,153 @@
+//! Copies of entries and of what they hold. Each may want memory, and is equal to its source otherwise.
+ghost use Rattle.std.specs.Prelude.{◌≡◌, IfOk};
+
+use crate::bytes::Text;
+use crate::entry::{Content, Entry, Ident, Metadata};
+use crate::marker::{ClusterPosition, Marker, Place};
+use crate::memory::Memory;
+use crate::sequence::Sequence;
+use std::alloc::Global;
+
+/// A copy of a text that may be absent.
+pub fn optional_text_copy(alloc: Global, text: &Option<Text>) -> Result<Option<Text>, Memory>
+    ensures { IfOk result (λ c. c ≡ text.now) }
+{
+    match text {
+        None => Ok(None),
+        Some(text) => Ok(Some(text.copy(alloc)?)),
+    }
+}
+
+impl Sequence<Text> {
+    /// A copy.
+    pub fn copy(&self, alloc: Global) -> Result<Sequence<Text>, Memory>
+        ensures { IfOk result (λ c. c ≡ self.now) }
+    {
+        let mut copied = Sequence::new(alloc);
+        let texts = self.as_slice();
+        for text in texts {
+            copied.push(text.copy(alloc)?)?;
+        }
+        Ok(copied)
+    }
+}
+
+impl Place {
+    /// A copy.
+    pub fn copy(&self, alloc: Global) -> Result<Place, Memory>
+        ensures { IfOk result (λ c. c ≡ self.now) }
+    {
+        match self {
+            Place::Known(cluster) => Ok(Place::Known(*cluster)),
+            Place::Stranger(name) => Ok(Place::Stranger(name.copy(alloc)?)),
+        }
+    }
+}
+
+impl ClusterPosition {
+    /// A copy.
+    pub fn copy(&self, alloc: Global) -> Result<ClusterPosition, Memory>
+        ensures { IfOk result (λ c. c ≡ self.now) }
+    {
+        Ok(ClusterPosition {
+            cluster: self.cluster.copy(alloc)?,
+            position: self.position,
+        })
+    }
+}
+
+impl Sequence<ClusterPosition> {
+    /// A copy.
+    pub fn copy(&self, alloc: Global) -> Result<Sequence<ClusterPosition>, Memory>
+        ensures { IfOk result (λ c. c ≡ self.now) }
+    {
+        let mut copied = Sequence::new(alloc);
+        let positions = self.as_slice();
+        for position in positions {
+            copied.push(position.copy(alloc)?)?;
+        }
+        Ok(copied)
+    }
+}
+
+impl Marker {
+    /// A copy.
+    pub fn copy(&self, alloc: Global) -> Result<Marker, Memory>
+        ensures { IfOk result (λ c. c ≡ self.now) }
+    {
+        match self {
+            Marker::Request { id, source } => Ok(Marker::Request {
+                id: id.copy(alloc)?,
+                source: source.copy(alloc)?,
+            }),
+            Marker::Response { id, answer } => Ok(Marker::Response {
+                id: id.copy(alloc)?,
+                answer: answer.copy(alloc)?,
+            }),
+            Marker::Snapshot { id, local, remote } => Ok(Marker::Snapshot {
+                id: id.copy(alloc)?,
+                local: *local,
+                remote: remote.copy(alloc)?,
+            }),
+            Marker::Update { sub, remote } => Ok(Marker::Update {
+                sub: sub.copy(alloc)?,
+                remote: remote.copy(alloc)?,
+            }),
+        }
+    }
+}
+
+impl Content {
+    /// A copy.
+    pub fn copy(&self, alloc: Global) -> Result<Content, Memory>
+        ensures { IfOk result (λ c. c ≡ self.now) }
+    {
+        match self {
+            Content::Data => Ok(Content::Data),
+            Content::Marked(marker) => Ok(Content::Marked(marker.copy(alloc)?)),
+            Content::Unread(kind) => Ok(Content::Unread(*kind)),
+        }
+    }
+}
+
+impl Ident {
+    /// A copy.
+    pub fn copy(&self, alloc: Global) -> Result<Ident, Memory>
+        ensures { IfOk result (λ c. c ≡ self.now) }
+    {
+        Ok(Ident {
+            origin: self.origin,
+            producer: self.producer.copy(alloc)?,
+            seq: self.seq,
+        })
+    }
+}
+
+impl Metadata {
+    /// A copy.
+    pub fn copy(&self, alloc: Global) -> Result<Metadata, Memory>
+        ensures { IfOk result (λ c. c ≡ self.now) }
+    {
+        Ok(Metadata {
+            publish_time: self.publish_time,
+            key: optional_text_copy(alloc, &self.key)?,
+            names: self.names.copy(alloc)?,
+            rest: self.rest.copy(alloc)?,
+        })
+    }
+}
+
+impl Entry {
+    /// A copy.
+    pub fn copy(&self, alloc: Global) -> Result<Entry, Memory>
+        ensures { IfOk result (λ c. c ≡ self.now) }
+    {
+        Ok(Entry {
+            ident: self.ident.copy(alloc)?,
+            content: self.content.copy(alloc)?,
+            to: self.to,
+            meta: self.meta.copy(alloc)?,
+            payload: self.payload.copy(alloc)?,
+        })
+    }
+}
