@@ -1,5 +1,5 @@
 -- The bytes that a source has left, where it tells them.
-use Rattle.std.specs.Prelude.{◌≡◌, ◌<◌, ℕ, List, length, Option, IfSome}
+use Rattle.std.specs.Prelude.{◌<◌, ℕ, List, length, Option, IfSome}
 use Rattle.std.specs.Io.KnownBytes.{Consumes}
 
 -- more than `most` bytes are left

@@ -20,7 +20,7 @@ impl Model for ByteBuf {
 }
 
 impl ByteBuf {
-    /// No bytes, which take no memory.
+    /// An empty buffer, which takes no memory yet.
     pub fn new(alloc: Global) -> ByteBuf
         ensures { result ≡ [] }
     {
@@ -29,18 +29,21 @@ impl ByteBuf {
         }
     }
 
+    /// How many bytes there are.
     pub fn len(&self) -> usize
         ensures { result ≡ length self.now }
     {
         self.bytes.len()
     }
 
+    /// Whether there is no byte.
     pub fn is_empty(&self) -> bool
         ensures { IsTrue result ↔ (self.now ≡ []) }
     {
         self.bytes.is_empty()
     }
 
+    /// The bytes.
     pub fn as_slice(&self) -> &[u8]
         ensures { result.now ≡ self.now }
     {

@@ -1,5 +1,5 @@
 //! A source in memory.
-ghost use Rattle.std.specs.Prelude.{◌≡◌, ◌≤◌, ◌<◌, ◌-◌, Ok, Some, IfOk, OnErr, IsErr, ◌↔◌, IsTrue, Contains, length, min, take, drop, vec_len, if◌then◌else◌, is_ok};
+ghost use Rattle.std.specs.Prelude.{◌≡◌, ◌≤◌, ◌<◌, Ok, Some, IfOk, OnErr, IsErr, ◌↔◌, Contains, length, min, if◌then◌else◌, is_ok};
 ghost use Rattle.std.specs.Io.{ReadsAtMost};
 ghost use Rattle.std.specs.Io.KnownBytes.{ReadConsumes};
 ghost use Rattle.geo_io.specs.Faults.{one_more, Rose};
@@ -73,7 +73,8 @@ impl Source for MemSource {
 
         // It fails at the planned calls alone, and else moves as much as it can.
         ensures planned { IsErr result ↔ Contains self.old.fails self.new.calls }
-        ensures moved { IfOk result (λ n. n ≡ min self.old.most (min (length self.old.left) (length buf.old))) }
+        ensures moved { IfOk result (λ n.
+            n ≡ min self.old.most (min (length self.old.left) (length buf.old))) }
         ensures after { self.new ≡ record self.old {
           left = self.new.left;
           calls = one_more self.old.calls;

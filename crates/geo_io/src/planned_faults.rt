@@ -1,5 +1,5 @@
 //! Calls that fail by plan.
-ghost use Rattle.std.specs.Prelude.{◌≡◌, [], IfOk, IsTrue, ◌↔◌, Contains, if◌then◌else◌};
+ghost use Rattle.std.specs.Prelude.{◌≡◌, IfOk, IsTrue, ◌↔◌, Contains, if◌then◌else◌};
 ghost use Rattle.geo_io.specs.Faults.{one_more};
 
 use crate::fault::Memory;
@@ -32,7 +32,8 @@ impl PlannedFaults {
         ensures planned { IsTrue result ↔ Contains self.new.fails.items self.new.calls }
         ensures fails { self.new.fails.items ≡ self.old.fails.items }
         ensures calls { self.new.calls ≡ one_more self.old.calls }
-        ensures faults { self.new.faults ≡ (if result then one_more self.old.faults else self.old.faults) }
+        ensures faults { self.new.faults
+            ≡ (if result then one_more self.old.faults else self.old.faults) }
     {
         self.calls = self.calls.saturating_add(1);
         let fails = self.fails.contains(&self.calls);
@@ -42,6 +43,7 @@ impl PlannedFaults {
         fails
     }
 
+    /// Counts one fault more.
     pub(crate) fn count_fault(&mut self)
         ensures faults { self.new.faults ≡ one_more self.old.faults }
         ensures calls { self.new.calls ≡ self.old.calls }

@@ -12,8 +12,9 @@ use std::io::{Read, Write};
 use std::marker::Model;
 
 /// A source over a reader of std, such as the standard input. It tells nothing of its bytes, and
-/// counts each error of the reader. Contracts see that count, which stops at `u64::MAX`.
-#[derive(Drop)]
+/// counts each error of the reader, an interrupted call among them. Contracts see that count, which
+/// stops at `u64::MAX`.
+#[derive(Debug, Drop)]
 pub struct StdSource<T> {
     input: T,
     faults: u64,
@@ -26,6 +27,7 @@ impl<T> Model for StdSource<T> {
 }
 
 impl<T: Read> StdSource<T> {
+    /// A source over the reader, with no fault counted.
     pub fn new(input: T) -> StdSource<T>
         ensures { result ≡ 0 }
     {
@@ -64,7 +66,7 @@ impl<T: Read> Source for StdSource<T> {
 ///
 /// It does not flush: give it a writer without a buffer, since an error in what a buffer keeps
 /// until it is dropped is never seen here.
-#[derive(Drop)]
+#[derive(Debug, Drop)]
 pub struct StdSink<T> {
     output: T,
     faults: u64,
@@ -77,6 +79,7 @@ impl<T> Model for StdSink<T> {
 }
 
 impl<T: Write> StdSink<T> {
+    /// A sink over the writer, with no fault counted.
     pub fn new(output: T) -> StdSink<T>
         ensures { result ≡ 0 }
     {

@@ -1,5 +1,5 @@
 //! A source and a sink over memory of the caller's, which take no memory and never fail.
-ghost use Rattle.std.specs.Prelude.{◌≡◌, ◌≤◌, ◌<◌, ◌++◌, ◌||◌, nat_lt, ◌+◌, ◌-◌, Ok, Some, None, IfOk, OnErr, length, min, [], take, drop, false, if◌then◌else◌};
+ghost use Rattle.std.specs.Prelude.{◌≡◌, ◌≤◌, ◌<◌, ◌++◌, ◌||◌, nat_lt, ◌+◌, Ok, Some, OnErr, length, min, [], take, false};
 ghost use Rattle.std.specs.Io.{ReadsAtMost, WritesAtMost};
 ghost use Rattle.std.specs.Io.KnownBytes.{ReadConsumes};
 ghost use Rattle.geo_io.specs.Faults.{Rose};
@@ -26,6 +26,7 @@ impl<'a> Model for SteadySource<'a> {
 }
 
 impl<'a> SteadySource<'a> {
+    /// A source whose input is these bytes.
     pub fn new(bytes: &'a [u8]) -> SteadySource<'a>
         ensures { result ≡ bytes.now }
     {
@@ -41,6 +42,8 @@ impl<'a> Source for SteadySource<'a> {
     fn read(&mut self, buf: &mut [u8]) -> Result<usize, Failed>
         ensures within { ReadsAtMost result buf.new }
         ensures bytes { ReadConsumes (Some self.old) (Some self.new) result buf.new }
+
+        // The count is always 0, so these say that it never fails.
         ensures later { 0 ≤ 0 }
         ensures cause { OnErr result (Rose 0 0) }
 
@@ -56,7 +59,7 @@ impl<'a> Source for SteadySource<'a> {
 
 /// A sink over a fixed buffer, which never fails: it takes every piece whole, and keeps the first
 /// bytes that fit. It tells its bytes while all of them fit.
-#[derive(Drop)]
+#[derive(Debug, Drop)]
 pub struct SteadySink<'a> {
     buffer: &'a mut [u8],
     filled: usize,
@@ -79,6 +82,7 @@ impl<'a> Model for SteadySink<'a> {
 }
 
 impl<'a> SteadySink<'a> {
+    /// An empty sink that keeps as many bytes as the buffer is long.
     pub fn new(buffer: &'a mut [u8]) -> SteadySink<'a>
         ensures { result ≡ record { kept = []; size = length buffer.old; overflowed = false } }
     {
@@ -105,6 +109,8 @@ impl<'a> Sink for SteadySink<'a> {
     fn write(&mut self, piece: &[u8]) -> Result<usize, Failed>
         ensures within { WritesAtMost result piece.now }
         ensures bytes { WriteGains (held_of self.old) (held_of self.new) result piece.now }
+
+        // The count is always 0, so these say that it never fails.
         ensures later { 0 ≤ 0 }
         ensures cause { OnErr result (Rose 0 0) }
         ensures stalled { result ≡ Ok 0 → 0 < length piece.now → Rose 0 0 }

@@ -1,6 +1,12 @@
+ghost use Rattle.std.specs.Prelude.{◌≤◌, length, OnOk};
+ghost use Rattle.geo_io.specs.Sink.{Gains};
+ghost use Rattle.geo_io.specs.Ends.{held_of};
+
 use crate::{
-    MemSink, MemSource, ReadFault, Sink, SteadySink, SteadySource, WriteFault, read_all, write_all,
+    MemSink, MemSource, Memory, ReadFault, Sink, SteadySink, SteadySource, WriteFault, read_all,
+    write_all,
 };
+use std::alloc::Global;
 use std::test::Fail;
 
 /// Ten bytes by three in a call: the calls of a sink end after 3, 6, 9 and 10 bytes, and a source
@@ -78,5 +84,31 @@ fn steady_ends_never_fail(rt: HostRuntime) -> Result<(), Fail> {
     assert_eq!(rt; sink.write(b"defg"), Ok(4));
     write_all(&mut sink, b"h")?;
     assert!(rt; sink.bytes() == b"abcde".as_slice());
+    Ok(())
+}
+
+/// What the clauses give a caller: between ends that never fail, the whole input arrives, and only
+/// want of memory keeps it back.
+fn copied(alloc: Global, input: &[u8], output: &mut SteadySink<'_>) -> Result<(), Memory>
+    requires { length input.now ≤ 100 }
+    ensures { OnOk result (Gains (held_of output.old) (held_of output.new) input.now) }
+{
+    let bytes = match read_all(alloc, &mut SteadySource::new(input), 100) {
+        Ok(bytes) => bytes,
+        Err(ReadFault::Memory) => return Err(Memory),
+        Err(ReadFault::Failed | ReadFault::TooLong) => unreachable!(),
+    };
+    match write_all(output, bytes.as_slice()) {
+        Ok(()) => Ok(()),
+        Err(_) => unreachable!(),
+    }
+}
+
+#[test]
+fn clauses_compose(rt: HostRuntime) -> Result<(), Fail> {
+    let mut buffer = [0u8; 5];
+    let mut sink = SteadySink::new(&mut buffer);
+    copied(rt.alloc(), b"abc", &mut sink)?;
+    assert!(rt; sink.bytes() == b"abc".as_slice());
     Ok(())
 }

@@ -51,13 +51,17 @@ const CHUNK: usize = 16_384;
 /// Reads all bytes to the end of the input, `max` at most. `Failed` comes only where the source
 /// failed in this call, and `TooLong` exactly where more than `max` bytes came.
 pub fn read_all<S: Source>(alloc: Global, source: &mut S, max: usize) -> Result<ByteBuf, ReadFault>
+    // On Ok these are all the bytes that were left, and they are at most `max`.
     ensures whole { IfOk result (λ bytes. IfSome (S.left source.old) (λ input. bytes ≡ input)) }
-    ensures end { OnOk result (IsAtEnd (S.left source.new)) }
     ensures short { IfOk result (λ bytes. length bytes ≤ max) }
+    ensures end { OnOk result (IsAtEnd (S.left source.new)) }
+
+    // When the faults come, and what they leave: some of the bytes were taken.
     ensures long { IsErrOf result ReadFault.TooLong → LongerThan (S.left source.old) max }
     ensures cause { IsErrOf result ReadFault.Failed
         → Rose (S.faults source.old) (S.faults source.new) }
     ensures rest { OnErr result (ConsumesSome (S.left source.old) (S.left source.new)) }
+
     ensures later { S.faults source.old ≤ S.faults source.new }
 {
     let mut bytes = ByteBuf::new(alloc);
@@ -81,13 +85,17 @@ pub struct WriteFault {
     pub out: u64,
 }
 
-/// Writes all bytes, and takes no memory. A fault comes only where the sink failed in this call; a
-/// call that takes 0 bytes is such a failure.
+/// Writes all bytes, and takes no memory. A fault comes only where the sink failed in this call. A
+/// write that takes 0 bytes of those that are left ends the call so too.
 pub fn write_all<K: Sink>(sink: &mut K, bytes: &[u8]) -> Result<(), WriteFault>
     ensures whole { OnOk result (Gains (K.held sink.old) (K.held sink.new) bytes.now) }
-    ensures part { IfErr result (λ fault. Gains (K.held sink.old) (K.held sink.new) (take fault.out bytes.now)) }
+
+    // A fault comes before the last byte, and leaves in the sink the bytes that it says.
+    ensures part { IfErr result (λ fault.
+        Gains (K.held sink.old) (K.held sink.new) (take fault.out bytes.now)) }
     ensures short { IfErr result (λ fault. fault.out < length bytes.now) }
     ensures cause { OnErr result (Rose (K.faults sink.old) (K.faults sink.new)) }
+
     ensures later { K.faults sink.old ≤ K.faults sink.new }
 {
     let mut out = 0;

@@ -1,4 +1,4 @@
-use Rattle.std.proofs.Common.{List, ℕ, ◌-◌, length, take, drop, arith, rules, subst, sym}
+use Rattle.std.proofs.Common.{List, ℕ, take, drop, arith, rules, subst, sym}
 use Rattle.std.proofs.lemmas.List.{take_rest}
 use Rattle.std.proofs.Math.Seq.{take-add}
 use Rattle.geo_io.specs.Sink.{Gains}

@@ -1,4 +1,4 @@
-use Rattle.std.proofs.Common.{◌+◌, ◌≡◌, ◌≤◌, ◌∙◌, length, drop, take, ap, min, arith, length-drop, length-take, ◌-◌}
+use Rattle.std.proofs.Common.{◌+◌, ◌≡◌, ◌∙◌, length, drop, take, ap, min, arith, length-drop, length-take, ◌-◌}
 use Rattle.std.proofs.lemmas.List.{drop_all, take_rest}
 use Rattle.geo_io.proofs.Parts.{drop_copied}
 use Rattle.geo_io.proofs.mem_source.MemSourceSource.read.Goals as goal
