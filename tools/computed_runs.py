@@ -162,8 +162,8 @@ def module(path, as_test=False):
     script, base = Script(path), path[:-len('.geo')]
     with open(base + '.report') as file:
         report = file.read().split('\n')[:-1]
-    out = ['-- The run %s, computed: the definitions give its report. Written by tools/computed_runs.py.' % os.path.basename(base)]
-    out += [IMPORTS + (TEST_IMPORTS + TEST if as_test else ''), 'setup : Setup', 'setup = record {', '  per_ledger = %d;' % script.per_ledger]
+    out = [TEST] if as_test else []
+    out += ['setup : Setup', 'setup = record {', '  per_ledger = %d;' % script.per_ledger]
     out += ['  clusters = %s;' % items([text(name) for name in script.clusters])]
     out += ['  topics = %s;' % items([text(name) for name in script.topics]), '  clients =']
     out += ['    ' + script.declared(client) for client in script.clients] + ['    [];', '}', '']
@@ -177,7 +177,25 @@ def module(path, as_test=False):
         with open(base + '.bytes') as file:
             out += ['', 'sent : (run_under all_limits setup schedule).world.frame_bytes ≡ %s' % file.read().strip()]
         out += ['unfolding ' + UNFOLDED, 'sent = refl']
-    return '\n'.join(out) + '\n'
+    body = '\n'.join(out) + '\n'
+    head = '-- The run %s, computed: the definitions give its report. Written by tools/computed_runs.py.\n' % os.path.basename(base)
+    return head + used(IMPORTS + TEST_IMPORTS if as_test else IMPORTS, body) + '\n' + body
+
+
+def used(imports, body):
+    """The lines of imports, with the names that a body uses alone."""
+    words = set(re.findall(r'[^\s(){};.]+', body))
+    kept = []
+    for line in imports.strip().split('\n'):
+        path, names = re.fullmatch(r'use (\S+?)(?:\.\{(.*)\})?', line).groups()
+        if names is None:
+            if path.split('.')[-1] in words:
+                kept.append(line)
+            continue
+        found = [name for name in names.split(', ') if name.strip('◌') in words]
+        if found:
+            kept.append('use %s.{%s}' % (path, ', '.join(found)))
+    return '\n'.join(kept) + '\n'
 
 
 def name_of(path):

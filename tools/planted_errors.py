@@ -20,7 +20,7 @@ ERRORS = {
     'duplicates by the producer alone': ('Entry', 'same_stream a b = (a.origin == b.origin) && bytes_eq', 'same_stream a b = bytes_eq'),
     'a ledger takes one entry more': ('Topic', '    if nat_lt (last_length ledgers) per\n    then slice_set', '    if nat_lt (last_length ledgers) (per + 1)\n    then slice_set'),
     'the mark moves over a hole': ('Cursor', 'if x == m then mark_from xs (m + 1) else m', 'mark_from xs (m + 1)'),
-    'a target list is read by another bit': ('Entry', '(bits / (2 ^ y)) % 2 == 1', '(bits / (2 ^ (y * 2))) % 2 == 1'),
+    'a target list is read by another bit': ('Entry', '(bits / (2 ^ y)) % 2 == 1', '(bits / (2 ^ (y % 2))) % 2 == 1'),
     'reset reads on': ('Sender', 'state = sender_state.Opening; read_index = 0;', 'state = sender_state.Opening; read_index = s.read_index;'),
     'reset keeps the pending numbers': ('Sender', 'state = sender_state.Opening; read_index = 0; next = 0; pending = [] }', 'state = sender_state.Opening; read_index = 0; next = 0; pending = s.pending }'),
     'a restart forgets the session number': ('Sender', 'sender_restarted s = record { cursor = s.cursor; session = s.session;', 'sender_restarted s = record { cursor = s.cursor; session = 0;'),
