@@ -1,0 +1,2 @@
+//! Laws over every run of the written machine.
+#![tactic(auto)]
