@@ -6,3 +6,8 @@ pub mod LinkWalk
 pub mod ReadWalk
 pub mod OfferWalk
 pub mod EventWalk
+pub mod Runs
+pub mod Frames
+pub mod Appends
+pub mod Fresh
+pub mod Once

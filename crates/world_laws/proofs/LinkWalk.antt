@@ -11,7 +11,7 @@ use Rattle.world_laws.proofs.Types.sender_state
 use Rattle.world_laws.proofs.Types.write
 use Rattle.geo_base.specs.Broker.{Broker, Site, receiver_at, sender_at}
 use Rattle.geo_base.specs.Entry.{with_origin}
-use Rattle.geo_base.specs.Forwarding.{closes, opens, receipt_command, receipt_fate, receipt_packet, receives, take_command, take_fate, take_frame, take_in, take_send}
+use Rattle.geo_base.specs.Forwarding.{closes, opens, receipt_command, receipt_fate, receipt_packet, receives, take_command, take_fate, take_frame, take_in}
 use Rattle.geo_base.specs.Link.{sends}
 use Rattle.geo_base.specs.Plan.{Plan, done, plan_of, quiet_plan, twice}
 use Rattle.geo_base.specs.Position.{nowhere}
@@ -19,14 +19,14 @@ use Rattle.geo_base.specs.Receiver.{is_open}
 use Rattle.geo_base.specs.Sender.{pending_index}
 use Rattle.geo_base.specs.Topic.{accepts, next_position}
 use Rattle.world_laws.proofs.Shapes.{Answered, Fated, InLink, Taken, is_answer, is_opening, may_store}
-use Rattle.world_laws.proofs.Walk.{on_if, on_test}
+use Rattle.world_laws.proofs.Walk.{on_test}
 
 -- take
 stored_taken : (h : Site) (b : Broker) (x : ℕ) (p : Packet) (id seq : ℕ) (source : Option Place) (e : Entry) (a : Bool)
     → p.frame ≡ frame.Send id seq source e → is_open (receiver_at b x) p.session ≡ true → may_store h x p.frame ≡ true
     → accepts b.entries (with_origin x e).ident ≡ a
     → Taken h b x p (plan_of (if a then write.Append (with_origin x e) ∷ [] else []) []
-        (sends (peer.Back x) p.session (frame.SendReceipt p.session seq (Some (if a then next_position h.per_ledger b.ledgers else nowhere)))))
+    (sends (peer.Back x) p.session (frame.SendReceipt p.session seq (Some (if a then next_position h.per_ledger b.ledgers else nowhere)))))
 stored_taken h b x p id seq source e true is at may new = Taken.Stores id seq source e is at may new
 stored_taken h b x p id seq source e false is at may old = Taken.Repeats id seq source e is at may old
 
@@ -34,8 +34,8 @@ command_taken : (h : Site) (b : Broker) (x : ℕ) (p : Packet) (f : Frame) → p
     → Taken h b x p (take_command h b x p.session f)
 command_taken h b x p (frame.Send id seq source e) is other at =
     on_test (Taken h b x p) (may_store h x (frame.Send id seq source e)) _ _
-      (λ may. stored_taken h b x p id seq source e (accepts b.entries (with_origin x e).ident) is at (ap (may_store h x) is ∙ may) refl)
-      (λ may. Taken.Refuses (ap (is_opening h p) is) at (ap (may_store h x) is ∙ may))
+    (λ may. stored_taken h b x p id seq source e (accepts b.entries (with_origin x e).ident) is at (ap (may_store h x) is ∙ may) refl)
+    (λ may. Taken.Refuses (ap (is_opening h p) is) at (ap (may_store h x) is ∙ may))
 command_taken h b x p f is other at = Taken.Refuses (ap (is_opening h p) is ∙ other) at (ap (may_store h x) is)
 
 in_taken : (h : Site) (b : Broker) (x : ℕ) (p : Packet) → is_opening h p p.frame ≡ false → Taken h b x p (take_in h b x p)
@@ -46,7 +46,7 @@ frame_taken : (h : Site) (b : Broker) (x : ℕ) (p : Packet) (f : Frame) → p.f
 frame_taken h b x p frame.Unreadable is = Taken.Unreadable is
 frame_taken h b x p (frame.Producer topic id request name) is =
     on_test (Taken h b x p) (bytes_eq topic h.topic && (id == p.session)) _ _ (λ opening. Taken.Opens topic id request name is opening)
-      (λ other. in_taken h b x p (ap (is_opening h p) is ∙ other))
+    (λ other. in_taken h b x p (ap (is_opening h p) is ∙ other))
 frame_taken h b x p f is = in_taken h b x p (ap (is_opening h p) is)
 
 -- no plan of an action on a packet is idle
@@ -63,14 +63,14 @@ twice_fated : (per : ℕ) (b : Broker) (Acts : Broker → Plan → Type 0) (lost
     → Fated per b Acts lost (twice per b f)
 twice_fated per b Acts lost f acts acted =
     on_test (Fated per b Acts lost) (f b).idle (f b) _ (λ idle. absurd (false≢true (sym acted ∙ idle)))
-      (λ _. Fated.Twice (f b) (f (done per b (f b))) (acts b) (acts (done per b (f b))))
+    (λ _. Fated.Twice (f b) (f (done per b (f b))) (acts b) (acts (done per b (f b))))
 
 pub fate_taken : (h : Site) (b : Broker) (x : ℕ) (p : Packet) (f : Fate) → Fated h.per_ledger b (λ c. Taken h c x p) (closes x) (take_fate h b x p f)
 fate_taken h b x p fate.Good = Fated.Once _ (frame_taken h b x p p.frame refl)
 fate_taken h b x p fate.Lost = Fated.Lost
 fate_taken h b x p fate.Twice =
     twice_fated h.per_ledger b (λ c. Taken h c x p) (closes x) (λ c. take_frame h c x p p.frame) (λ c. frame_taken h c x p p.frame refl)
-      (taken_acts h b x p _ (frame_taken h b x p p.frame refl))
+    (taken_acts h b x p _ (frame_taken h b x p p.frame refl))
 
 -- receipt
 opened_answered : (b : Broker) (y : ℕ) (p : Packet) (request : ℕ) (name : List ℕ) (state : SenderState) → InLink b y p
@@ -107,4 +107,4 @@ fate_answered h b y p fate.Good = Fated.Once _ (packet_answered b y p)
 fate_answered h b y p fate.Lost = Fated.Lost
 fate_answered h b y p fate.Twice =
     twice_fated h.per_ledger b (λ c. Answered c y p) (quiet_plan []) (λ c. receipt_packet c y p) (λ c. packet_answered c y p)
-      (answered_acts b y p _ (packet_answered b y p))
+    (answered_acts b y p _ (packet_answered b y p))

@@ -53,7 +53,7 @@ content_offered : (h : Site) (b : Broker) (n : List ℕ) (v : Subscription) (i :
 content_offered h b n v i e content.Data due is = data_offered h b n v i e (pick v.kind v.consumers (key_bytes e.meta.key)) due is refl
 content_offered h b n v i e (content.Marked (marker.Snapshot id local remote)) due is =
     on_test (Offers h b n) ((e.ident.origin == h.own) && v.replicated) (offer_cut h b v i local remote (index_of b.ledgers local)) _
-      (λ own. cut_offered h b n v i e id local remote (index_of b.ledgers local) due is own refl) (λ _. marker_offered h b n v i e due (ap is_data is))
+    (λ own. cut_offered h b n v i e id local remote (index_of b.ledgers local) due is own refl) (λ _. marker_offered h b n v i e due (ap is_data is))
 content_offered h b n v i e (content.Marked (marker.Request id source)) due is = marker_offered h b n v i e due (ap is_data is)
 content_offered h b n v i e (content.Marked (marker.Response id answer)) due is = marker_offered h b n v i e due (ap is_data is)
 content_offered h b n v i e (content.Marked (marker.Update m remote)) due is = marker_offered h b n v i e due (ap is_data is)

@@ -1,6 +1,6 @@
 -- The walk through read: what a sender does with the next entry that its cursor lacks.
-use Rattle.std.proofs.Common.{◌≡◌, ℕ, ◌+◌, Bool, true, false, List, [], ◌∷◌, length, refl, ◌==◌}
-use Rattle.std.specs.Prelude.{Option, Some, None, if◌then◌else◌, ◌&&◌, slice_get}
+use Rattle.std.proofs.Common.{◌≡◌, ℕ, ◌+◌, true, List, length, refl, ◌==◌}
+use Rattle.std.specs.Prelude.{Option, Some, None, ◌&&◌, slice_get}
 use Rattle.world_laws.proofs.Types.{Builder, ClusterPosition, Content, Entry, Marker, Progress}
 use Rattle.world_laws.proofs.Types.content
 use Rattle.world_laws.proofs.Types.marker
@@ -16,7 +16,7 @@ use Rattle.geo_base.specs.Sender.{index_to_read}
 use Rattle.geo_base.specs.Subscribing.{has_room}
 use Rattle.geo_base.specs.Subscription.{Subscription, with_acks}
 use Rattle.geo_base.specs.Topic.{position_at}
-use Rattle.geo_base.specs.Updating.{only_index, passed_over, positions_for, read_update, update_to, updates}
+use Rattle.geo_base.specs.Updating.{only_index, passed_over, positions_for, update_to, updates}
 use Rattle.world_laws.proofs.Shapes.{Hears, IsMarkerOf, IsResponse, IsUpdate, Reads, ReadsNext, is_outbound}
 use Rattle.world_laws.proofs.ServeWalk.{updates_after}
 use Rattle.world_laws.proofs.Walk.{on_test}
@@ -35,7 +35,7 @@ response_read h b y i e id answer None next of is built = Reads.Skips i e next o
 response_read h b y i e id answer (Some u) next of is built =
     let heard : Heard = on_response u id y answer.position (position_at b.ledgers i) in
     on_test (Reads h b y) (is_place y answer.cluster) (heard_from h b y i heard) _
-      (λ named. after_read h b y i e id answer u heard.progress heard.builder next (of, is, built, named) refl) (λ _. Reads.Skips i e next of.0)
+    (λ named. after_read h b y i e id answer u heard.progress heard.builder next (of, is, built, named) refl) (λ _. Reads.Skips i e next of.0)
 
 sub_read : (h : Site) (b : Broker) (y i j : ℕ) (e : Entry) (n : List ℕ) (remote : List ClusterPosition) (o : Option Subscription)
     → ReadsNext h b y i e → IsUpdate h b y e n remote j → sub_named b.subs n ≡ o
@@ -50,7 +50,7 @@ update_read : (h : Site) (b : Broker) (y i : ℕ) (e : Entry) (n : List ℕ) (re
 update_read h b y i e n remote None next of is at = Reads.Skips i e next of.0
 update_read h b y i e n remote (Some j) next of is at =
     on_test (Reads h b y) (is_name n && has_room b n) (updates h b y i n (passed_over y 0 (j + 1) b.entries) (sub_named b.subs n)) _
-      (λ may. sub_read h b y i j e n remote (sub_named b.subs n) next (of, is, at, may) refl) (λ _. Reads.Skips i e next of.0)
+    (λ may. sub_read h b y i j e n remote (sub_named b.subs n) next (of, is, at, may) refl) (λ _. Reads.Skips i e next of.0)
 
 marker_read : (h : Site) (b : Broker) (y i : ℕ) (e : Entry) (m : Marker) → ReadsNext h b y i e → IsMarkerOf h y e → e.content ≡ content.Marked m
     → Reads h b y (read_marker h b y i m)
@@ -71,8 +71,8 @@ entry_read : (h : Site) (b : Broker) (y i : ℕ) (o : Option Entry) → is_remot
 entry_read h b y i None remote at is = Reads.NothingToRead
 entry_read h b y i (Some e) remote at is =
     on_test (Reads h b y) (is_outbound h y e) _ _ (λ out. Reads.Forwards i e (remote, at, is) out)
-      (λ other. on_test (Reads h b y) (e.ident.origin == y) _ _ (λ of. content_read h b y i e e.content (remote, at, is) (other, of) refl)
-        (λ _. Reads.Skips i e (remote, at, is) other))
+    (λ other. on_test (Reads h b y) (e.ident.origin == y) _ _ (λ of. content_read h b y i e e.content (remote, at, is) (other, of) refl)
+    (λ _. Reads.Skips i e (remote, at, is) other))
 
 index_read : (h : Site) (b : Broker) (y : ℕ) (o : Option ℕ) → is_remote h y ≡ true
     → index_to_read (sender_at b y).state (sender_at b y) (length b.entries) ≡ o → Reads h b y (read_at h b y o)
@@ -83,4 +83,4 @@ pub read_shape : (h : Site) (b : Broker) (y : ℕ) → Reads h b y (read h b y)
 unfolding read
 read_shape h b y =
     on_test (Reads h b y) (is_remote h y) (read_at h b y (index_to_read (sender_at b y).state (sender_at b y) (length b.entries))) _
-      (λ remote. index_read h b y (index_to_read (sender_at b y).state (sender_at b y) (length b.entries)) remote refl) (λ _. Reads.NothingToRead)
+    (λ remote. index_read h b y (index_to_read (sender_at b y).state (sender_at b y) (length b.entries)) remote refl) (λ _. Reads.NothingToRead)

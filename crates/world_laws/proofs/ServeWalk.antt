@@ -1,5 +1,5 @@
 -- The walk through serve: each branch has its shape.
-use Rattle.std.proofs.Common.{◌≡◌, ℕ, Bool, true, false, List, [], ◌∷◌, refl, sym, subst, ◌==◌}
+use Rattle.std.proofs.Common.{◌≡◌, ℕ, Bool, true, false, List, [], ◌∷◌, refl, sym, ◌==◌}
 use Rattle.std.specs.Prelude.{Option, Some, None, if◌then◌else◌, ◌&&◌, ◌||◌, not, nat_lt, length, is_some}
 use Rattle.std.specs.List.{list_any}
 use Rattle.std.specs.Str.{bytes_eq}
@@ -18,7 +18,7 @@ use Rattle.geo_base.specs.Position.{nowhere}
 use Rattle.geo_base.specs.Producing.{is_sound, is_taken, may_attach, name_with, serve_close_producer, serve_producer, serve_send, stores}
 use Rattle.geo_base.specs.Serving.{serve_command, serve_frame, serve_in}
 use Rattle.geo_base.specs.Storing.{appending_update, update_after}
-use Rattle.geo_base.specs.Subscribing.{altering, consumed_by, has_room, is_busy, joins, same_kind, serve_close_consumer, serve_flow, serve_subscribe, serve_unsubscribe, subscribes}
+use Rattle.geo_base.specs.Subscribing.{consumed_by, has_room, is_busy, joins, same_kind, serve_close_consumer, serve_flow, serve_subscribe, serve_unsubscribe, subscribes}
 use Rattle.geo_base.specs.Subscription.{Subscription, is_attached, with_acks}
 use Rattle.geo_base.specs.Topic.{accepts, next_position}
 use Rattle.world_laws.proofs.Shapes.{InSession, IsSound, MayJoin, Served, Updates}
@@ -33,19 +33,19 @@ passed_updates h b v (Some cut) replicated is = Updates.Update cut replicated is
 pub updates_after : (h : Site) (b : Broker) (v : Subscription) → Updates h b v (update_after h b v)
 updates_after h b v =
     on_test (λ (o : Option Cut). Updates h b v (appending_update h b v.name o)) v.replicated _ _
-      (λ r. passed_updates h b v (last_passed (mark v.cursor) v.cache) r refl) (λ _. Updates.NoUpdate)
+    (λ r. passed_updates h b v (last_passed (mark v.cursor) v.cache) r refl) (λ _. Updates.NoUpdate)
 
 producer_served : (h : Site) (b : Broker) (c : ℕ) (p : Packet) (s : Session) (topic : List ℕ) (id request : ℕ) (n : Option (List ℕ)) → InSession b c p s
     → Served h b c p (serve_producer h b c s topic id request n)
 producer_served h b c p s topic id request None at = Served.Answers s _ at
 producer_served h b c p s topic id request (Some n) at =
     on_if (Served h b c p) (not (bytes_eq topic h.topic && may_attach n)) _ _ (Served.Answers s _ at)
-      (on_if (Served h b c p) (is_taken n c 0 b.sessions) _ _ (Served.Answers s _ at) (Served.ChangesProducers s _ _ at))
+    (on_if (Served h b c p) (is_taken n c 0 b.sessions) _ _ (Served.Answers s _ at) (Served.ChangesProducers s _ _ at))
 
 stored_served : (h : Site) (b : Broker) (c : ℕ) (p : Packet) (s : Session) (id seq : ℕ) (source : Option Place) (e : Entry) (a : Bool)
     → InSession b c p s → IsSound h s p id seq source e → accepts b.entries (with_origin h.own e).ident ≡ a
     → Served h b c p (plan_of (if a then write.Append (with_origin h.own e) ∷ [] else []) []
-        (answer c s (frame.SendReceipt id seq (Some (if a then next_position h.per_ledger b.ledgers else nowhere)))))
+    (answer c s (frame.SendReceipt id seq (Some (if a then next_position h.per_ledger b.ledgers else nowhere)))))
 stored_served h b c p s id seq source e true at sound is = Served.Stores s id seq source e at sound is
 stored_served h b c p s id seq source e false at sound is = Served.Repeats s id seq source e at sound is
 
@@ -55,8 +55,8 @@ send_served : (h : Site) (b : Broker) (c : ℕ) (p : Packet) (s : Session) (id s
 send_served h b c p s id seq source e None at is named = Served.Answers s _ at
 send_served h b c p s id seq source e (Some n) at is named =
     on_test (Served h b c p) (is_sound h n seq source e) (stores h b c s id seq (with_origin h.own e)) _
-      (λ sound. stored_served h b c p s id seq source e (accepts b.entries (with_origin h.own e).ident) at (is, (n, named, sound)) refl)
-      (λ _. Served.Answers s _ at)
+    (λ sound. stored_served h b c p s id seq source e (accepts b.entries (with_origin h.own e).ident) at (is, (n, named, sound)) refl)
+    (λ _. Served.Answers s _ at)
 
 closed_served : (h : Site) (b : Broker) (c : ℕ) (p : Packet) (s : Session) (id request : ℕ) → InSession b c p s → Served h b c p (serve_close_producer c s id request)
 closed_served h b c p s id request at =
@@ -69,9 +69,9 @@ joined_served h b c p s topic n kind id request consumer earliest replicated Non
     Served.Creates s topic n kind id request consumer earliest replicated at is may named
 joined_served h b c p s topic n kind id request consumer earliest replicated (Some v) at is may named =
     on_test (Served h b c p) (is_busy kind v) _ _ (λ _. Served.Answers s _ at)
-      (λ free. on_test (λ (ws : List Write). Served h b c p (joins c s n id request ws)) (same_kind kind v.kind && (v.replicated || not replicated)) _ _
-        (λ same. Served.Joins s topic n kind id request consumer earliest replicated v at is may named free same)
-        (λ other. Served.Alters s topic n kind id request consumer earliest replicated v at is may named free other))
+    (λ free. on_test (λ (ws : List Write). Served h b c p (joins c s n id request ws)) (same_kind kind v.kind && (v.replicated || not replicated)) _ _
+    (λ same. Served.Joins s topic n kind id request consumer earliest replicated v at is may named free same)
+    (λ other. Served.Alters s topic n kind id request consumer earliest replicated v at is may named free other))
 
 not_false : (a : Bool) → not a ≡ false → a ≡ true
 not_false true h = refl
@@ -82,8 +82,8 @@ subscribe_served : (h : Site) (b : Broker) (c : ℕ) (p : Packet) (s : Session) 
     → Served h b c p (serve_subscribe h b c s topic n kind id request earliest replicated)
 subscribe_served h b c p s topic n kind id request consumer earliest replicated at is =
     on_test (Served h b c p) (not (bytes_eq topic h.topic && is_name n && has_room b n)) _ _ (λ _. Served.Answers s _ at)
-      (λ ok. on_test (Served h b c p) (list_any (is_attached c) b.subs) _ _ (λ _. Served.Answers s _ at)
-        (λ alone. joined_served h b c p s topic n kind id request consumer earliest replicated (sub_named b.subs n) at is (not_false _ ok, alone) refl))
+    (λ ok. on_test (Served h b c p) (list_any (is_attached c) b.subs) _ _ (λ _. Served.Answers s _ at)
+    (λ alone. joined_served h b c p s topic n kind id request consumer earliest replicated (sub_named b.subs n) at is (not_false _ ok, alone) refl))
 
 flow_served : (h : Site) (b : Broker) (c : ℕ) (p : Packet) (s : Session) (id permits : ℕ) (o : Option Subscription)
     → InSession b c p s → p.frame ≡ frame.Flow id permits → consumed_by b.subs c id ≡ o → Served h b c p (serve_flow c permits o)
