@@ -56,8 +56,6 @@ ERRORS = {
     'an update stops one short': ('Updating', 'passed_over y 0 (j + 1) b.entries', 'passed_over y 0 j b.entries'),
     'an update passes over all': ('Updating', 'passes y e = not (is_data e.content) || meant_for y e', 'passes y e = true'),
     'an update creates at Latest': ('Updating', 'write.Create n sub_kind.Exclusive true false', 'write.Create n sub_kind.Exclusive true true'),
-    'an update needs no position': ('Updating', 'only_index ledgers (p ∷ q ∷ ps) = None', 'only_index ledgers (p ∷ q ∷ ps) = index_of ledgers p'),
-    'a local subscription updates': ('Storing', 'if s.replicated then last_passed', 'if not s.replicated || s.replicated then last_passed'),
     'cumulative stops one short': ('Acknowledging', 'up_to (Some i) = below (i + 1)', 'up_to (Some i) = below i'),
     'shared allows cumulative': ('Acknowledging', 'allows_cumulative sub_kind.Shared = false', 'allows_cumulative sub_kind.Shared = true'),
     'a detach drops what was due before': ('Subscription', 'due = with_indexes s.due (filter', 'due = with_indexes [] (filter'),
