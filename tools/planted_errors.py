@@ -60,7 +60,6 @@ ERRORS = {
     'shared allows cumulative': ('Acknowledging', 'allows_cumulative sub_kind.Shared = false', 'allows_cumulative sub_kind.Shared = true'),
     'a detach drops what was due before': ('Subscription', 'due = with_indexes s.due (filter', 'due = with_indexes [] (filter'),
     'a detach drops what was out': ('Subscription', '(out_with c s.out));', '[]);'),
-    'what is acknowledged stays due': ('Subscription', 'due = filter (λ i. not (has s.cursor i)) s.due;', 'due = s.due;'),
     'consumers of two kinds': ('Subscribing', '(not (same_kind kind s.kind) || same_kind kind sub_kind.Exclusive)', 'same_kind kind sub_kind.Exclusive'),
     'two exclusive consumers': ('Subscribing', '(not (same_kind kind s.kind) || same_kind kind sub_kind.Exclusive)', 'not (same_kind kind s.kind)'),
     'a subscription stays local': ('Subscribing', 'write.Alter s.name kind (s.replicated || replicated)', 'write.Alter s.name kind s.replicated'),
