@@ -1,3 +1,4 @@
+pub mod Names
 mod Run_one_message
 mod Run_lost_packet_recovered
 mod Run_packet_twice
