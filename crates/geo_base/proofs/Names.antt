@@ -14,12 +14,12 @@ below_128 b low high small within = omega (arith, leb-true _ _ (and_parts (nat_l
 name_byte-ascii : (b : ℕ) → name_byte b ≡ true → b < 128
 name_byte-ascii b is =
     elim (or_cases ((nat_le 97 b && nat_le b 122) || (nat_le 48 b && nat_le b 57)) (b == 95) is) [
-      inl other ↦
-        elim (or_cases (nat_le 97 b && nat_le b 122) (nat_le 48 b && nat_le b 57) other) [
-          inl letter ↦ below_128 b 97 122 (omega arith) letter
-        | inr digit ↦ below_128 b 48 57 (omega arith) digit
-        ]
-    | inr underscore ↦ omega (arith, eqb-true _ _ underscore)
+      | inl other ↦
+          elim (or_cases (nat_le 97 b && nat_le b 122) (nat_le 48 b && nat_le b 57) other) [
+            | inl letter ↦ below_128 b 97 122 (omega arith) letter
+            | inr digit ↦ below_128 b 48 57 (omega arith) digit
+          ]
+      | inr underscore ↦ omega (arith, eqb-true _ _ underscore)
     ]
 
 name_ascii : (n : List ℕ) → list_all name_byte n ≡ true → IsAscii n
