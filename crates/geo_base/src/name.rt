@@ -44,19 +44,19 @@ impl<K> Model for Name<K> {
 
 /// What a `ClusterName` names.
 #[derive(Debug, Drop)]
-pub enum Cluster {}
+pub struct Cluster;
 
 /// What a `TopicName` names.
 #[derive(Debug, Drop)]
-pub enum Topic {}
+pub struct Topic;
 
 /// What a `SubName` names.
 #[derive(Debug, Drop)]
-pub enum Subscription {}
+pub struct Subscription;
 
 /// What a script's client names: its producer.
 #[derive(Debug, Drop)]
-pub enum Producer {}
+pub struct Producer;
 
 /// The name of a cluster.
 pub type ClusterName = Name<Cluster>;
