@@ -1,0 +1,4 @@
+pub mod Varints
+pub mod Values
+pub mod Fields
+pub mod Unique

@@ -1,0 +1,5 @@
+pub mod Varint
+pub mod Field
+pub mod Text
+pub mod Faults
+pub mod Canonical
