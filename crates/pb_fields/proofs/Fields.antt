@@ -1,18 +1,17 @@
 -- A field at the front of bytes, read.
-use Rattle.std.proofs.Common.{◌≡◌, ◌≢◌, ℕ, zero, suc, ◌+◌, ◌-◌, ◌*◌, ◌/◌, ◌%◌, ◌^◌, ◌<◌, ◌≤◌, List, [], ◌∷◌, ◌++◌, length, refl, sym, ap, subst, ◌∙◌, append_assoc, arith}
+use Rattle.std.proofs.Common.{◌≡◌, ◌≢◌, ℕ, ◌+◌, ◌-◌, ◌*◌, ◌/◌, ◌%◌, ◌^◌, ◌<◌, List, [], ◌∷◌, ◌++◌, length, refl, sym, ap, ◌∙◌, append_assoc, arith}
 use Rattle.std.proofs.lemmas.List.{append-nil, length-append}
 use Rattle.pb_fields.specs.declared.field.Field.{Field}
-use Rattle.pb_fields.specs.declared.field.Value.{Value}
 use Rattle.pb_fields.specs.declared.field.WireType.{WireType}
 use Rattle.pb_fields.specs.declared.field.WireType.TheVariants as wire
 use Rattle.pb_fields.specs.declared.fault.FieldFault.{FieldFault}
 use Rattle.pb_fields.specs.declared.fault.FieldFault.TheVariants as fault
 use Rattle.pb_fields.specs.declared.fault.FieldError.{FieldError}
 use Rattle.pb_fields.specs.declared.fault.FieldError.TheVariants as field_error
-use Rattle.pb_fields.specs.Field.{wire_number, wire_type, HasNumber}
-use Rattle.pb_fields.specs.Varint.{IsGroups, last, more, IsVarint, TakesVarint}
-use Rattle.pb_fields.specs.Text.{IsValue, TakesValue, IsFieldText, TakesField, IsText, end, next}
-use Rattle.pb_fields.specs.Faults.{BrokenVarint, BrokenValue, BrokenBehind, value, BrokenField, tag, behind, ForFault, HasFault, IsFaultOf, fault_at}
+use Rattle.pb_fields.specs.Field.{wire_number}
+use Rattle.pb_fields.specs.Varint.{IsGroups, last, more, TakesVarint}
+use Rattle.pb_fields.specs.Text.{TakesValue, IsFieldText, TakesField, IsText, end, next}
+use Rattle.pb_fields.specs.Faults.{BrokenVarint, BrokenValue, value, BrokenField, tag, behind, ForFault, HasFault, IsFaultOf, fault_at}
 
 -- a tag has room for 29 bits of number, and its low three bits are the type
 pub tag_fits : (n : ℕ) (w : WireType) → n < 2 ^ 29 → 8 * n + wire_number w < 2 ^ 32

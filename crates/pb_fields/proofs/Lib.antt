@@ -2,3 +2,4 @@ pub mod Varints
 pub mod Values
 pub mod Fields
 pub mod Unique
+pub mod Written

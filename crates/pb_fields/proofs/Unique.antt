@@ -1,10 +1,10 @@
 -- The grammar gives bytes one answer at most: no text begins another, and what has a reading has no fault.
-use Rattle.std.proofs.Common.{◌≡◌, ◌≢◌, ℕ, zero, suc, ◌+◌, ◌*◌, ◌/◌, ◌%◌, ◌^◌, ◌<◌, ◌≤◌, List, [], ◌∷◌, ◌++◌, length, take, drop, refl, sym, ap, subst, ◌∙◌, append_assoc, arith, Result, Ok, Err}
+use Rattle.std.proofs.Common.{◌≡◌, ℕ, suc, ◌+◌, ◌*◌, ◌/◌, ◌%◌, ◌^◌, ◌<◌, ◌≤◌, List, [], ◌∷◌, ◌++◌, length, take, drop, refl, sym, ap, subst, ◌∙◌, append_assoc, arith, Result, Ok, Err}
 use Rattle.std.specs.Prelude.{IfOk, IfErr}
 use Rattle.std.specs.Int.{w32, w64, from_le_bytes, to_le_bytes}
 use Rattle.std.proofs.lemmas.Nat.{from_le_bytes-to_le_bytes_4, from_le_bytes-to_le_bytes_8}
 use Rattle.std.proofs.Math.Nat.{pow-suc}
-use Rattle.std.proofs.lemmas.List.{append-nil, length-append, nil_from_length, take_at, drop_at}
+use Rattle.std.proofs.lemmas.List.{length-append, nil_from_length, take_at, drop_at}
 use Rattle.pb_fields.specs.declared.field.Field.{Field}
 use Rattle.pb_fields.specs.declared.field.Value.{Value}
 use Rattle.pb_fields.specs.declared.field.Value.TheVariants as value
@@ -15,7 +15,7 @@ use Rattle.pb_fields.specs.declared.fault.FieldFault.TheVariants as fault
 use Rattle.pb_fields.specs.declared.fault.PbFault.{PbFault}
 use Rattle.pb_fields.specs.declared.fault.PbFault.TheVariants as pb
 use Rattle.pb_fields.specs.Field.{wire_number, wire_type}
-use Rattle.pb_fields.specs.Varint.{IsGroups, last, more, IsVarint, TakesVarint}
+use Rattle.pb_fields.specs.Varint.{IsGroups, last, more, TakesVarint}
 use Rattle.pb_fields.specs.Text.{IsValue, IsFieldText, TakesValue, TakesField, IsText, end, next}
 use Rattle.pb_fields.specs.Text as text
 use Rattle.pb_fields.specs.Faults.{AllGoOn, BrokenVarint, ends, too_large, BrokenValue, BrokenBehind, BrokenField, HasFault, IsFaultOf, fault_at, Answers}
@@ -28,9 +28,10 @@ sized a bytes c x s e = record { text = s.text; parts = e ∙ ap (λ (k : List �
 
 -- two lists that are one, cut at the same length
 same_cut : (a b x y : List ℕ) → length a ≡ length b → a ++ x ≡ b ++ y → (a ≡ b) × (x ≡ y)
-same_cut a b x y len e =
-    (sym (take_at a x (length a) refl) ∙ ap (λ (s : List ℕ). take (length a) s) e ∙ take_at b y (length a) (sym len),
-     sym (drop_at a x (length a) refl) ∙ ap (λ (s : List ℕ). drop (length a) s) e ∙ drop_at b y (length a) (sym len))
+same_cut a b x y len e = (
+  sym (take_at a x (length a) refl) ∙ ap (λ (s : List ℕ). take (length a) s) e ∙ take_at b y (length a) (sym len),
+  sym (drop_at a x (length a) refl) ∙ ap (λ (s : List ℕ). drop (length a) s) e ∙ drop_at b y (length a) (sym len),
+)
 
 head_is : (a b : ℕ) (x y : List ℕ) → a ∷ x ≡ b ∷ y → a ≡ b
 head_is a b x y e = cc

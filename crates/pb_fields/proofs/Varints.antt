@@ -1,7 +1,6 @@
 -- Reading a varint byte by byte.
-use Rattle.std.proofs.Common.{◌≡◌, ℕ, zero, suc, ◌+◌, ◌-◌, ◌*◌, ◌^◌, ◌/◌, ◌%◌, ◌<◌, ◌≤◌, List, [], ◌∷◌, ◌++◌, length, take, drop, get_or, refl, sym, ap, subst, ◌∙◌, append_assoc, add-one, arith, inl, inr, Fits, w64}
+use Rattle.std.proofs.Common.{◌≡◌, ℕ, suc, ◌+◌, ◌*◌, ◌^◌, ◌%◌, ◌<◌, ◌≤◌, List, [], ◌∷◌, ◌++◌, length, take, drop, get_or, refl, sym, ap, subst, ◌∙◌, append_assoc, arith, inl, inr}
 use Rattle.std.specs.Prelude.{bit_and}
-use Rattle.std.specs.List.{AllByRecursion}
 use Rattle.std.proofs.lemmas.Nat.{pow-add, and_mask, shl_whole, mod_below, mul-add-lt}
 use Rattle.std.proofs.Math.Pow.{pow_mono}
 use Rattle.std.proofs.lemmas.Bool.{cases_lt}
@@ -9,7 +8,7 @@ use Rattle.std.proofs.lemmas.List.{append-nil, take_more, take-append-drop, leng
 use Rattle.std.proofs.Math.Seq.{drop-cons}
 use Rattle.std.proofs.Math.ListN.{drop_of_length-le}
 use Rattle.pb_fields.specs.declared.fault.FieldFault.TheVariants as fault
-use Rattle.pb_fields.specs.Varint.{IsGroups, last, more, IsVarint, TakesVarint}
+use Rattle.pb_fields.specs.Varint.{IsGroups, last, more, TakesVarint}
 use Rattle.pb_fields.specs.Faults.{AllGoOn, BrokenVarint, ends, too_large}
 
 pub AllGoOn-push : (bs : List ℕ) (b : ℕ) → AllGoOn bs → 128 ≤ b → AllGoOn (bs ++ b ∷ [])
@@ -40,8 +39,8 @@ within_64 n b i lt le tenth =
       | inr ge ↦ let nine : i ≡ 9 = omega arith in let one : b ≤ 1 = tenth nine in let n-lt = subst (λ (k : ℕ). n < 2 ^ (7 * k)) nine lt in subst (λ (k : ℕ). n + (b % 128) * 2 ^ (7 * k) < 2 ^ 64) (sym nine) (omega (arith, n-lt, one))
     ]
   where
-  places : (i : ℕ) → i < 9 → 2 ^ (7 * (i + 1)) ≤ 2 ^ 63
-  places i lt = pow_mono {i = 7 * (i + 1)} {j = 63} (omega arith)
+    places : (i : ℕ) → i < 9 → 2 ^ (7 * (i + 1)) ≤ 2 ^ 63
+    places i lt = pow_mono {i = 7 * (i + 1)} {j = 63} (omega arith)
 
 -- What stands before index i has been read as n, and a varint goes on there.
 pub record HasRead (bytes : List ℕ) (i n : ℕ) : Type 0 where
@@ -69,10 +68,10 @@ HasRead-more bytes i n h lt goes byte tenth =
       below = below_next n b i h.below;
       go_on = rw front (AllGoOn-push (take i bytes) b h.go_on goes);
       completes = λ tail high g.
-        let here : IsGroups (b ∷ tail) (b % 128 + 128 * high) = more goes byte (let e : b % 128 + 128 * high + 128 ≡ b + 128 * high = omega arith in e) g in
-        let split : take (i + 1) bytes ++ tail ≡ take i bytes ++ b ∷ tail = rw front (append_assoc (take i bytes) (b ∷ []) tail) in
-        let value : n + 2 ^ (7 * i) * (b % 128 + 128 * high) ≡ n + (b % 128) * 2 ^ (7 * i) + 2 ^ (7 * (i + 1)) * high = rw (next_place i) (omega arith) in
-        rw split (subst (λ (k : ℕ). IsGroups (take i bytes ++ b ∷ tail) k) value (h.completes (b ∷ tail) (b % 128 + 128 * high) here));
+          let here : IsGroups (b ∷ tail) (b % 128 + 128 * high) = more goes byte (let e : b % 128 + 128 * high + 128 ≡ b + 128 * high = omega arith in e) g in
+          let split : take (i + 1) bytes ++ tail ≡ take i bytes ++ b ∷ tail = rw front (append_assoc (take i bytes) (b ∷ []) tail) in
+          let value : n + 2 ^ (7 * i) * (b % 128 + 128 * high) ≡ n + (b % 128) * 2 ^ (7 * i) + 2 ^ (7 * (i + 1)) * high = rw (next_place i) (omega arith) in
+          rw split (subst (λ (k : ℕ). IsGroups (take i bytes ++ b ∷ tail) k) value (h.completes (b ∷ tail) (b % 128 + 128 * high) here));
     }
 
 -- the last byte

@@ -1,5 +1,5 @@
 -- The canonical text of a list of fields: the fields in their order, each varint as short as can be.
-use Rattle.std.specs.Prelude.{ℕ, zero, suc, ◌+◌, ◌*◌, ◌/◌, ◌%◌, List, [], ◌∷◌, ◌++◌, length, nat_lt, if◌then◌else◌}
+use Rattle.std.specs.Prelude.{◌≡◌, ℕ, zero, suc, ◌+◌, ◌*◌, ◌/◌, ◌%◌, List, [], ◌∷◌, ◌++◌, length, take, nat_lt, if◌then◌else◌}
 use Rattle.std.specs.List.{flat_map}
 use Rattle.std.specs.Int.{w32, w64, to_le_bytes}
 use Rattle.pb_fields.specs.declared.field.Field.{Field}
@@ -7,7 +7,7 @@ use Rattle.pb_fields.specs.declared.field.Value.{Value}
 use Rattle.pb_fields.specs.declared.field.Value.TheVariants as value
 use Rattle.pb_fields.specs.Field.{wire_number, wire_type}
 
--- the groups of a number that needs at most so many bytes behind the first
+-- the groups of a number that has at most so many behind the first
 unfoldable pub groups : ℕ → ℕ → List ℕ
 groups zero n = n ∷ []
 groups (suc more) n = if nat_lt n 128 then n ∷ [] else (128 + n % 128) ∷ groups more (n / 128)
@@ -27,3 +27,7 @@ field_text f = varint (8 * f.number + wire_number (wire_type f.value)) ++ value_
 
 abbrev pub text : List Field → List ℕ
 text fs = flat_map field_text fs
+
+-- new begins as old
+abbrev pub Extends : List ℕ → List ℕ → Type 0
+Extends old new = take (length old) new ≡ old

@@ -1,5 +1,5 @@
 -- Fields and their values.
-use Rattle.std.specs.Prelude.{ℕ, ◌<◌, ◌≤◌, ◌^◌, List, length}
+use Rattle.std.specs.Prelude.{ℕ, ◌<◌, ◌^◌, length}
 use Rattle.pb_fields.specs.declared.field.Field.{Field}
 use Rattle.pb_fields.specs.declared.field.Value.{Value}
 use Rattle.pb_fields.specs.declared.field.Value.TheVariants as value

@@ -1,5 +1,5 @@
 -- Varints (Protocol Buffers encoding, "Base 128 Varints").
-use Rattle.std.specs.Prelude.{◌≡◌, ◌≢◌, ℕ, ◌+◌, ◌*◌, ◌^◌, ◌<◌, ◌≤◌, List, [], ◌∷◌, ◌++◌, length}
+use Rattle.std.specs.Prelude.{◌≡◌, ℕ, ◌+◌, ◌*◌, ◌^◌, ◌<◌, ◌≤◌, List, [], ◌∷◌, ◌++◌, length}
 
 -- Groups of seven bits, a byte each, the least group first. A byte below 128 is the last and stands for itself.
 -- One from 128 on has its high bit set, so that another follows: it stands for its low seven bits, and the bytes

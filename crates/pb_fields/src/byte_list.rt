@@ -9,7 +9,7 @@ use std::marker::Model;
 /// Bytes that own their memory.
 #[derive(Debug, Drop)]
 pub struct ByteList {
-    bytes: Vec<u8>,
+    pub(crate) bytes: Vec<u8>,
 }
 
 impl Model for ByteList {

@@ -7,12 +7,18 @@
 mod byte_list;
 mod fault;
 mod field;
+mod laws;
 mod memory;
 mod read;
+mod write;
 
 pub use byte_list::ByteList;
 pub use fault::{FieldFault, PbFault};
 pub use field::{Field, FieldList, Value, WireType};
+pub use laws::{canonical_text, one_reading};
 pub use memory::Memory;
 pub use read::read_fields;
+pub use write::write_field;
 
+#[cfg(test)]
+mod tests;

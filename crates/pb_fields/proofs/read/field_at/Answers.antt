@@ -1,4 +1,3 @@
-use Rattle.std.proofs.Common.{refl}
 use Rattle.std.proofs.lemmas.Result.{err_from_is_err_and}
 use Rattle.pb_fields.specs.Faults.{BrokenValue, BrokenField, behind}
 use Rattle.pb_fields.proofs.Fields.{ForFault-weaker, broken_tag, broken_value, takes_field}
@@ -19,7 +18,7 @@ returns-in_err-value-clause-err c =
     let p = err_from_is_err_and c.from_residual-in_err-value.result c.from_residual-in_err-value.ensures.1 in
     let n = c.in_ok-number.ensures.ok in
     rw (p.1, p.2) (ForFault-weaker (BrokenValue c.in_ok-number.wire c.in_ok-tag.rest.now) (BrokenField c.args.bytes.now) _
-      (λ why broken. broken_value c.args.bytes.now c.in_ok-tag.rest.now c.in_ok-tag.tag c.in_ok-number.number c.in_ok-number.wire why c.in_ok-tag.ensures.ok n.0 n.1 n.2 broken) c.in_err-value.ensures.err)
+    (λ why broken. broken_value c.args.bytes.now c.in_ok-tag.rest.now c.in_ok-tag.tag c.in_ok-number.number c.in_ok-number.wire why c.in_ok-tag.ensures.ok n.0 n.1 n.2 broken) c.in_err-value.ensures.err)
 
 pub returns-clause-ok : goal.returns-clause-ok
 returns-clause-ok c =

@@ -1,4 +1,4 @@
-use Rattle.std.proofs.Common.{◌≡◌, ◌≢◌, ◌<◌, ◌^◌, ◌%◌, ◌/◌, arith}
+use Rattle.std.proofs.Common.{◌≡◌, ◌≢◌, ◌%◌, ◌/◌, arith}
 use Rattle.pb_fields.specs.declared.field.WireType.{WireType}
 use Rattle.pb_fields.specs.Field.{wire_number}
 use Rattle.pb_fields.specs.Faults.{too_large, wire_type, number}

@@ -1,4 +1,3 @@
-use Rattle.std.proofs.Common.{◌∙◌, arith}
 use Rattle.std.proofs.lemmas.Result.{err_from_is_err_and}
 use Rattle.pb_fields.specs.Faults.{varint, fixed64, fixed32}
 use Rattle.pb_fields.proofs.Values.{takes_varint, takes_fixed64, takes_fixed32, takes_bytes}

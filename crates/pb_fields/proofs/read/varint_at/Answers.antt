@@ -1,4 +1,4 @@
-use Rattle.std.proofs.Common.{◌≡◌, ℕ, ◌+◌, ◌*◌, ◌^◌, ◌%◌, ◌≤◌, get_or, drop, sym, subst, arith}
+use Rattle.std.proofs.Common.{◌≡◌, ◌+◌, ◌*◌, ◌^◌, ◌%◌, ◌≤◌, get_or, arith}
 use Rattle.std.proofs.lemmas.List.{take_rest}
 use Rattle.pb_fields.proofs.Varints.{HasRead-too_large, HasRead-last, HasRead-more, HasRead-ends, shifted, within_64}
 use Rattle.pb_fields.proofs.read.varint_at.Goals as goal

@@ -1,0 +1,95 @@
+//! Writing fields, each varint as short as can be.
+
+ghost use Rattle.std.specs.Prelude.{◌≡◌, ◌+◌, ◌*◌, ◌<◌, ◌^◌, ◌++◌, ◌∷◌, [], take, length, is_ok, OnOk, OnErr};
+ghost use Rattle.std.specs.List.{AllByRecursion};
+ghost use Rattle.pb_fields.specs.Field.{HasNumber, wire_number};
+ghost use Rattle.pb_fields.specs.Canonical.{varint, value_text, field_text, text, Extends};
+
+use crate::byte_list::ByteList;
+use crate::field::{Field, FieldList, Value, WireType};
+use crate::memory::Memory;
+use std::alloc::AllocError;
+
+/// Appends the shortest varint of a number.
+fn push_varint(out: &mut Vec<u8>, number: u64) -> Result<(), AllocError>
+    ensures ok { OnOk result (out.new.items ≡ out.old.items ++ varint number) }
+    ensures begins { Extends out.old.items out.new.items }
+{
+    let mut rest = number;
+    while rest >= 0x80 {
+        out.push(0x80 | (rest & 0x7f) as u8)?;
+        rest >>= 7;
+    }
+    out.push(rest as u8)?;
+    Ok(())
+}
+
+/// Appends the tag of a field.
+fn push_tag(out: &mut Vec<u8>, number: u32, wire: WireType) -> Result<(), AllocError>
+    requires { number < 2 ^ 29 }
+    ensures ok { OnOk result (out.new.items ≡ out.old.items ++ varint (8 * number + wire_number wire)) }
+    ensures begins { Extends out.old.items out.new.items }
+{
+    push_varint(out, u64::from(8 * number + wire.number()))
+}
+
+/// Appends a value's text.
+fn push_value(out: &mut Vec<u8>, value: &Value) -> Result<(), AllocError>
+    ensures ok { OnOk result (out.new.items ≡ out.old.items ++ value_text value.now) }
+    ensures begins { Extends out.old.items out.new.items }
+{
+    match value {
+        Value::Varint(number) => push_varint(out, *number),
+        Value::Fixed64(number) => out.extend_from_slice(&number.to_le_bytes()),
+        Value::Bytes(content) => push_bytes(out, content.as_slice()),
+        Value::Fixed32(number) => out.extend_from_slice(&number.to_le_bytes()),
+    }
+}
+
+/// Appends a length and so many bytes.
+fn push_bytes(out: &mut Vec<u8>, content: &[u8]) -> Result<(), AllocError>
+    ensures ok { OnOk result (out.new.items ≡ out.old.items ++ (varint (length content.now) ++ content.now)) }
+    ensures begins { Extends out.old.items out.new.items }
+{
+    push_varint(out, content.len() as u64)?;
+    out.extend_from_slice(content)
+}
+
+/// Appends a field's text.
+fn push_field(out: &mut Vec<u8>, field: &Field) -> Result<(), AllocError>
+    requires { HasNumber field.now }
+    ensures ok { OnOk result (out.new.items ≡ out.old.items ++ field_text field.now) }
+    ensures begins { Extends out.old.items out.new.items }
+{
+    push_tag(out, field.number, field.value.wire_type())?;
+    push_value(out, &field.value)
+}
+
+/// Takes back what was appended behind the first `before` bytes where the writing stopped for want of memory.
+fn all_or_nothing(
+    out: &mut Vec<u8>,
+    before: usize,
+    written: Result<(), AllocError>,
+) -> Result<(), Memory>
+    ensures ok { OnOk result (out.new.items ≡ out.old.items) }
+    ensures err { OnErr result (out.new.items ≡ take before out.old.items) }
+    ensures same { is_ok result ≡ is_ok written }
+{
+    if written.is_err() {
+        out.truncate(before);
+        return Err(Memory);
+    }
+    Ok(())
+}
+
+/// Appends the canonical text of a field: its varints as short as can be. Want of memory leaves the bytes as they
+/// were.
+pub fn write_field(out: &mut ByteList, field: &Field) -> Result<(), Memory>
+    requires { HasNumber field.now }
+    ensures ok { OnOk result (out.new ≡ out.old ++ field_text field.now) }
+    ensures err { OnErr result (out.new ≡ out.old) }
+{
+    let before = out.len();
+    let written = push_field(&mut out.bytes, field);
+    all_or_nothing(&mut out.bytes, before, written)
+}
