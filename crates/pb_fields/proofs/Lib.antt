@@ -3,3 +3,4 @@ pub mod Values
 pub mod Fields
 pub mod Unique
 pub mod Written
+pub mod Messages

@@ -1,5 +1,5 @@
 -- The grammar gives bytes one answer at most: no text begins another, and what has a reading has no fault.
-use Rattle.std.proofs.Common.{◌≡◌, ℕ, suc, ◌+◌, ◌*◌, ◌/◌, ◌%◌, ◌^◌, ◌<◌, ◌≤◌, List, [], ◌∷◌, ◌++◌, length, take, drop, refl, sym, ap, subst, ◌∙◌, append_assoc, arith, Result, Ok, Err}
+use Rattle.std.proofs.Common.{◌≡◌, ℕ, suc, ◌+◌, ◌*◌, ◌/◌, ◌%◌, ◌^◌, ◌<◌, ◌≤◌, List, [], ◌∷◌, ◌++◌, length, take, drop, refl, sym, ap, subst, ◌∙◌, append_assoc, arith, Result, Ok, Err, inl, inr}
 use Rattle.std.specs.Prelude.{IfOk, IfErr}
 use Rattle.std.specs.Int.{w32, w64, from_le_bytes, to_le_bytes}
 use Rattle.std.proofs.lemmas.Nat.{from_le_bytes-to_le_bytes_4, from_le_bytes-to_le_bytes_8}
@@ -281,18 +281,18 @@ fault_one bytes a b i j h k =
 
 -- ---- what a reader answers
 
-pub only : (bytes : List ℕ) (r : Result (List Field) PbFault) → IfOk r (λ fs. IsText bytes fs) → IfErr r (IsFaultOf bytes) → (fs : List Field) → IsText bytes fs → Answers r (Ok fs)
-only bytes (Ok gs) found wrong fs h = let same = text_one h found in cc
+pub only : (bytes : List ℕ) (r : Result (List Field) PbFault) → IfOk r (λ fs. IsText bytes fs) → IfErr r (IsFaultOf bytes) → (fs : List Field) → IsText bytes fs → Answers pb.Memory r (Ok fs)
+only bytes (Ok gs) found wrong fs h = inr (let same = text_one h found in cc)
 only bytes (Err (pb.Truncated at)) found wrong fs h = absurd (fault_sound bytes fs fault.Truncated at h wrong)
 only bytes (Err (pb.Varint at)) found wrong fs h = absurd (fault_sound bytes fs fault.Varint at h wrong)
 only bytes (Err (pb.WireType at)) found wrong fs h = absurd (fault_sound bytes fs fault.WireType at h wrong)
 only bytes (Err (pb.FieldZero at)) found wrong fs h = absurd (fault_sound bytes fs fault.FieldZero at h wrong)
-only bytes (Err pb.Memory) found wrong fs h = tt
+only bytes (Err pb.Memory) found wrong fs h = inl refl
 
-pub refused : (bytes : List ℕ) (r : Result (List Field) PbFault) → IfOk r (λ fs. IsText bytes fs) → IfErr r (IsFaultOf bytes) → (why : FieldFault) (at : ℕ) → HasFault bytes why at → Answers r (Err (fault_at why at))
+pub refused : (bytes : List ℕ) (r : Result (List Field) PbFault) → IfOk r (λ fs. IsText bytes fs) → IfErr r (IsFaultOf bytes) → (why : FieldFault) (at : ℕ) → HasFault bytes why at → Answers pb.Memory r (Err (fault_at why at))
 refused bytes (Ok gs) found wrong why at h = absurd (fault_sound bytes gs why at found h)
-refused bytes (Err (pb.Truncated i)) found wrong why at h = let one = fault_one bytes why fault.Truncated at i h wrong in rw (one.0, one.1) refl
-refused bytes (Err (pb.Varint i)) found wrong why at h = let one = fault_one bytes why fault.Varint at i h wrong in rw (one.0, one.1) refl
-refused bytes (Err (pb.WireType i)) found wrong why at h = let one = fault_one bytes why fault.WireType at i h wrong in rw (one.0, one.1) refl
-refused bytes (Err (pb.FieldZero i)) found wrong why at h = let one = fault_one bytes why fault.FieldZero at i h wrong in rw (one.0, one.1) refl
-refused bytes (Err pb.Memory) found wrong why at h = tt
+refused bytes (Err (pb.Truncated i)) found wrong why at h = let one = fault_one bytes why fault.Truncated at i h wrong in inr (rw (one.0, one.1) refl)
+refused bytes (Err (pb.Varint i)) found wrong why at h = let one = fault_one bytes why fault.Varint at i h wrong in inr (rw (one.0, one.1) refl)
+refused bytes (Err (pb.WireType i)) found wrong why at h = let one = fault_one bytes why fault.WireType at i h wrong in inr (rw (one.0, one.1) refl)
+refused bytes (Err (pb.FieldZero i)) found wrong why at h = let one = fault_one bytes why fault.FieldZero at i h wrong in inr (rw (one.0, one.1) refl)
+refused bytes (Err pb.Memory) found wrong why at h = inl refl

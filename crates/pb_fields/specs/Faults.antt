@@ -1,5 +1,5 @@
 -- Why bytes are no text of a list of fields: the first field without a reading, and the first thing wrong with it.
-use Rattle.std.specs.Prelude.{◌≡◌, ◌≢◌, ℕ, ◌/◌, ◌%◌, ◌<◌, ◌≤◌, ◌^◌, List, ◌∷◌, ◌++◌, length, Result, Ok, Err}
+use Rattle.std.specs.Prelude.{◌≡◌, ◌≢◌, ℕ, ◌/◌, ◌%◌, ◌<◌, ◌≤◌, ◌^◌, List, ◌∷◌, ◌++◌, length, ◌⊎◌, Result, Ok, Err}
 use Rattle.std.specs.List.{AllByRecursion}
 use Rattle.pb_fields.specs.declared.field.Field.{Field}
 use Rattle.pb_fields.specs.declared.field.WireType.{WireType}
@@ -74,8 +74,6 @@ abbrev pub ForFault : (FieldFault → Type 0) → FieldError → Type 0
 ForFault P (field_error.Fault why) = P why
 ForFault P field_error.Memory = Unit {0}
 
--- What a call answered is that answer, unless memory ran out.
-abbrev pub Answers : {X : Type 0} → Result X PbFault → Result X PbFault → Type 0
-Answers (Ok x) answer = answer ≡ Ok x
-Answers (Err pb.Memory) answer = Unit {0}
-Answers (Err e) answer = answer ≡ Err e
+-- A call gave the answer, unless memory ran out.
+abbrev pub Answers : {X E : Type 0} → E → Result X E → Result X E → Type 0
+Answers memory r answer = (r ≡ Err memory) ⊎ (r ≡ answer)

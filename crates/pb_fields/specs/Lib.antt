@@ -3,3 +3,4 @@ pub mod Field
 pub mod Text
 pub mod Faults
 pub mod Canonical
+pub mod Message

@@ -9,6 +9,7 @@ mod fault;
 mod field;
 mod laws;
 mod memory;
+pub mod message;
 mod read;
 mod write;
 

@@ -131,11 +131,11 @@ pub fn read_fields(alloc: Global, bytes: &[u8]) -> Result<FieldList, PbFault>
     // What is read is what the bytes say.
     ensures found { IfOk result (λ fields. IsText bytes.now fields) }
     // What the bytes say is read, unless memory runs out.
-    ensures only { (fields : List Field) → IsText bytes.now fields → Answers result (Ok fields) }
+    ensures only { (fields : List Field) → IsText bytes.now fields → Answers PbFault.Memory result (Ok fields) }
     // A fault is that of the first field without a reading.
     ensures fault { IfErr result (IsFaultOf bytes.now) }
     // Such a field's fault is answered, unless memory runs out.
-    ensures refused { (why : FieldFault) (at : ℕ) → HasFault bytes.now why at → Answers result (Err (fault_at why at)) }
+    ensures refused { (why : FieldFault) (at : ℕ) → HasFault bytes.now why at → Answers PbFault.Memory result (Err (fault_at why at)) }
 {
     all_fields(alloc, bytes)
 }
