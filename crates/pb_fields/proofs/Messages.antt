@@ -178,3 +178,11 @@ text_wrong rows f r (value.Bytes content) v-is is same text broken = not_text r 
 text_wrong rows f r (value.Varint n) v-is is same text broken = absurd (let e = same ∙ ap (λ (k : Form). form_type k) text in cc)
 text_wrong rows f r (value.Fixed64 n) v-is is same text broken = absurd (let e = same ∙ ap (λ (k : Form). form_type k) text in cc)
 text_wrong rows f r (value.Fixed32 n) v-is is same text broken = absurd (let e = same ∙ ap (λ (k : Form). form_type k) text in cc)
+
+pub AllByRecursion-filter : {X : Type 0} (P : X → Type 0) (test : X → Bool) (xs : List X) → AllByRecursion P xs → AllByRecursion P (filter test xs)
+AllByRecursion-filter P test [] h = tt
+AllByRecursion-filter P test (x ∷ xs) h =
+    elim (test x) as (λ b. AllByRecursion P (cond b (x ∷ filter test xs) (filter test xs))) [
+      | true ↦ (h.0, AllByRecursion-filter P test xs h.1)
+      | false ↦ AllByRecursion-filter P test xs h.1
+    ]

@@ -1,5 +1,5 @@
 -- Fields and their values.
-use Rattle.std.specs.Prelude.{ℕ, ◌<◌, ◌^◌, length}
+use Rattle.std.specs.Prelude.{ℕ, ◌<◌, ◌^◌, List, length}
 use Rattle.pb_fields.specs.declared.field.Field.{Field}
 use Rattle.pb_fields.specs.declared.field.Value.{Value}
 use Rattle.pb_fields.specs.declared.field.Value.TheVariants as value
@@ -20,9 +20,18 @@ wire_type (value.Bytes content) = wire.Bytes
 wire_type (value.Fixed32 n) = wire.Fixed32
 
 -- a field's number is 1 to 2^29 - 1
-pub record HasNumber (f : Field) : Type 0 where
-  pub above_zero : 0 < f.number
-  pub in_range : f.number < 2 ^ 29
+pub record IsFieldNumber (n : ℕ) : Type 0 where
+  pub above_zero : 0 < n
+  pub in_range : n < 2 ^ 29
+
+abbrev pub HasNumber : Field → Type 0
+HasNumber f = IsFieldNumber f.number
+
+abbrev pub varint_field : ℕ → ℕ → Field
+varint_field number n = record { number = number; value = value.Varint n }
+
+abbrev pub bytes_field : ℕ → List ℕ → Field
+bytes_field number content = record { number = number; value = value.Bytes content }
 
 -- what a value has to be so that it can be written
 abbrev pub Fits : Value → Type 0

@@ -1,6 +1,7 @@
 //! Fields: a number, and a value in one of the four wire types of the Protocol Buffers encoding that are in use.
 
-ghost use Rattle.std.specs.Prelude.{◌≡◌, ◌≢◌, ◌↔◌, ◌++◌, ◌∷◌, [], length, IsTrue, OnOk, OnErr, MatchOption};
+ghost use Rattle.std.specs.Prelude.{◌≡◌, ◌≢◌, ◌↔◌, ◌++◌, ◌∷◌, [], List, ℕ, length, IsTrue, IsUtf8, OnOk, OnErr, MatchOption};
+ghost use Rattle.pb_fields.specs.declared.field.Value.TheVariants as value;
 ghost use Rattle.pb_fields.specs.declared.field.WireType.{WireType};
 ghost use Rattle.pb_fields.specs.Field.{HasNumber, wire_number, wire_type};
 ghost use Rattle.std.specs.List.{AllByRecursion};
@@ -71,6 +72,36 @@ impl Value {
             Value::Fixed32(_) => WireType::Fixed32,
         }
     }
+
+    /// The number, where the value is a varint.
+    pub fn as_varint(&self) -> Option<u64>
+        ensures { MatchOption result ((n : ℕ) → self.now ≢ value.Varint n) (λ n. self.now ≡ value.Varint n) }
+    {
+        match self {
+            Value::Varint(number) => Some(*number),
+            _ => None,
+        }
+    }
+
+    /// The content, where the value has a length.
+    pub fn as_bytes(&self) -> Option<&[u8]>
+        ensures { MatchOption result ((b : List ℕ) → self.now ≢ value.Bytes b) (λ b. self.now ≡ value.Bytes b.now) }
+    {
+        match self {
+            Value::Bytes(content) => Some(content.as_slice()),
+            _ => None,
+        }
+    }
+
+    /// The content as a text, where it is UTF-8.
+    pub fn as_text(&self) -> Option<&str>
+        ensures { MatchOption result ((b : List ℕ) → IsUtf8 b → self.now ≢ value.Bytes b) (λ b. self.now ≡ value.Bytes b.now) }
+    {
+        match self {
+            Value::Bytes(content) => str::from_utf8(content.as_slice()).ok(),
+            _ => None,
+        }
+    }
 }
 
 /// A field of a message. Its number is 1 to 536870911, as `FieldList` keeps it and `write_field` requires it.
@@ -88,7 +119,7 @@ impl Field {
 /// Fields in order, each with a number from 1 to 536870911.
 #[derive(Debug, Drop)]
 pub struct FieldList {
-    fields: Vec<Field>,
+    pub(crate) fields: Vec<Field>,
 }
 
 impl Model for FieldList {

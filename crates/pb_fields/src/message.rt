@@ -1,13 +1,14 @@
 //! Messages over fields: a table of rows says which fields a message has, and what they hold.
 
-ghost use Rattle.std.specs.Prelude.{◌≡◌, ◌↔◌, min, List, IsTrue, IfOk, OnOk, IfErr, Ok, Err};
+ghost use Rattle.std.specs.Prelude.{◌≡◌, ◌≢◌, ◌↔◌, ℕ, min, List, Some, is_none, IsTrue, IsUtf8, MatchOption, IfOk, OnOk, IfErr, Ok, Err};
 ghost use Rattle.std.specs.Option.{option_copied, option_map_or};
 ghost use Rattle.pb_fields.specs.declared.field.Field.{Field};
+ghost use Rattle.pb_fields.specs.declared.field.Value.TheVariants as value;
 ghost use Rattle.pb_fields.specs.declared.message.Form.TheVariants as form;
 ghost use Rattle.pb_fields.specs.declared.message.MessageFault.{MessageFault};
 ghost use Rattle.pb_fields.specs.Text.{IsText};
 ghost use Rattle.pb_fields.specs.Faults.{Answers};
-ghost use Rattle.pb_fields.specs.Message.{pb_fault, form_type, row_of, HasForm, Fits, IsWrong, WrongFields, has, lowest_absent, last_value, IsMessage, WrongMessage, IsWrongOrMemory};
+ghost use Rattle.pb_fields.specs.Message.{pb_fault, form_type, row_of, HasForm, Fits, IsWrong, WrongFields, has, lowest_absent, last_value, unknown, IsMessage, WrongMessage, IsWrongOrMemory};
 
 use crate::fault::PbFault;
 use crate::field::{Field, FieldList, Value, WireType};
@@ -122,6 +123,20 @@ pub fn last_value(fields: &[Field], number: u32) -> Option<&Value>
     last
 }
 
+/// The last number of a field, where its last value is a varint.
+pub fn last_varint(fields: &[Field], number: u32) -> Option<u64>
+    ensures { MatchOption result ((n : ℕ) → last_value number fields.now ≢ Some (value.Varint n)) (λ n. last_value number fields.now ≡ Some (value.Varint n)) }
+{
+    last_value(fields, number)?.as_varint()
+}
+
+/// The last text of a field, where its last value is a text in UTF-8.
+pub fn last_text(fields: &[Field], number: u32) -> Option<&str>
+    ensures { MatchOption result ((b : List ℕ) → IsUtf8 b → last_value number fields.now ≢ Some (value.Bytes b)) (λ b. last_value number fields.now ≡ Some (value.Bytes b.now)) }
+{
+    last_value(fields, number)?.as_text()
+}
+
 /// The row of a number, where the table has one.
 fn row_of(rows: &[Row], number: u32) -> Option<&Row>
     ensures { option_copied result ≡ row_of rows.now number }
@@ -133,10 +148,7 @@ fn row_of(rows: &[Row], number: u32) -> Option<&Row>
 fn is_text(value: &Value) -> bool
     ensures { IsTrue result ↔ HasForm value.now form.Text }
 {
-    match value {
-        Value::Bytes(content) => str::from_utf8(content.as_slice()).is_ok(),
-        _ => false,
-    }
+    value.as_text().is_some()
 }
 
 /// Judges a field by its row. What an embedded message holds is not looked at.
@@ -192,4 +204,23 @@ fn message_fields(alloc: Global, rows: &[Row], bytes: &[u8]) -> Result<FieldList
     let fields = read_fields(alloc, bytes)?;
     check_fields(rows, fields.as_slice())?;
     Ok(fields)
+}
+
+/// Keeps the fields whose numbers are in no row, in their order. It takes no memory.
+pub fn keep_unknown(fields: &mut FieldList, rows: &[Row])
+    ensures { fields.new ≡ unknown rows.now fields.old }
+{
+    retain_unknown(&mut fields.fields, rows)
+}
+
+fn retain_unknown(fields: &mut Vec<Field>, rows: &[Row])
+    ensures { fields.new.items ≡ unknown rows.now fields.old.items }
+{
+    fields.retain(|field| is_unknown(rows, field));
+}
+
+fn is_unknown(rows: &[Row], field: &Field) -> bool
+    ensures { result ≡ is_none (row_of rows.now field.now.number) }
+{
+    row_of(rows, field.number).is_none()
 }

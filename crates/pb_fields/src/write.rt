@@ -2,7 +2,7 @@
 
 ghost use Rattle.std.specs.Prelude.{◌≡◌, ◌+◌, ◌*◌, ◌<◌, ◌^◌, ◌++◌, ◌∷◌, [], take, length, is_ok, OnOk, OnErr};
 ghost use Rattle.std.specs.List.{AllByRecursion};
-ghost use Rattle.pb_fields.specs.Field.{HasNumber, wire_number};
+ghost use Rattle.pb_fields.specs.Field.{IsFieldNumber, HasNumber, wire_number, varint_field, bytes_field};
 ghost use Rattle.pb_fields.specs.Canonical.{varint, value_text, field_text, text, Extends};
 
 use crate::byte_list::ByteList;
@@ -92,4 +92,65 @@ pub fn write_field(out: &mut ByteList, field: &Field) -> Result<(), Memory>
     let before = out.len();
     let written = push_field(&mut out.bytes, field);
     all_or_nothing(&mut out.bytes, before, written)
+}
+
+/// Appends the canonical text of a field whose value is a varint, as `write_field` does.
+pub fn write_varint(out: &mut ByteList, number: u32, value: u64) -> Result<(), Memory>
+    requires { IsFieldNumber number }
+    ensures ok { OnOk result (out.new ≡ out.old ++ field_text (varint_field number value)) }
+    ensures err { OnErr result (out.new ≡ out.old) }
+{
+    let before = out.len();
+    let written = push_varint_field(&mut out.bytes, number, value);
+    all_or_nothing(&mut out.bytes, before, written)
+}
+
+fn push_varint_field(out: &mut Vec<u8>, number: u32, value: u64) -> Result<(), AllocError>
+    requires { IsFieldNumber number }
+    ensures ok { OnOk result (out.new.items ≡ out.old.items ++ field_text (varint_field number value)) }
+    ensures begins { Extends out.old.items out.new.items }
+{
+    push_tag(out, number, WireType::Varint)?;
+    push_varint(out, value)
+}
+
+/// Appends the canonical text of a field whose value is a text, an embedded message or bytes, as `write_field` does.
+pub fn write_bytes(out: &mut ByteList, number: u32, content: &[u8]) -> Result<(), Memory>
+    requires { IsFieldNumber number }
+    ensures ok { OnOk result (out.new ≡ out.old ++ field_text (bytes_field number content.now)) }
+    ensures err { OnErr result (out.new ≡ out.old) }
+{
+    let before = out.len();
+    let written = push_bytes_field(&mut out.bytes, number, content);
+    all_or_nothing(&mut out.bytes, before, written)
+}
+
+fn push_bytes_field(out: &mut Vec<u8>, number: u32, content: &[u8]) -> Result<(), AllocError>
+    requires { IsFieldNumber number }
+    ensures ok { OnOk result (out.new.items ≡ out.old.items ++ field_text (bytes_field number content.now)) }
+    ensures begins { Extends out.old.items out.new.items }
+{
+    push_tag(out, number, WireType::Bytes)?;
+    push_bytes(out, content)
+}
+
+/// Appends the canonical texts of fields, as `write_field` does.
+pub fn write_fields(out: &mut ByteList, fields: &FieldList) -> Result<(), Memory>
+    ensures ok { OnOk result (out.new ≡ out.old ++ text fields.now) }
+    ensures err { OnErr result (out.new ≡ out.old) }
+{
+    let before = out.len();
+    let written = push_fields(&mut out.bytes, fields.as_slice());
+    all_or_nothing(&mut out.bytes, before, written)
+}
+
+fn push_fields(out: &mut Vec<u8>, fields: &[Field]) -> Result<(), AllocError>
+    requires { AllByRecursion HasNumber fields.now }
+    ensures ok { OnOk result (out.new.items ≡ out.old.items ++ text fields.now) }
+    ensures begins { Extends out.old.items out.new.items }
+{
+    for field in fields {
+        push_field(out, field)?;
+    }
+    Ok(())
 }

@@ -1,0 +1,9 @@
+use Rattle.std.proofs.Common.{◌≡◌, ◌++◌, take}
+use Rattle.pb_fields.specs.Canonical.{text, Extends}
+use Rattle.pb_fields.proofs.write.push_fields.Given as goal
+
+abbrev pub invariant-loop-field : goal.invariant-loop-field
+invariant-loop-field l = record {
+  so_far : l.out.items ≡ l.fn.out.items ++ text (take l.field-index l.fields);
+  begins : Extends l.fn.out.items l.out.items;
+}
