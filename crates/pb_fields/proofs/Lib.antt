@@ -4,3 +4,4 @@ pub mod Fields
 pub mod Unique
 pub mod Written
 pub mod Messages
+pub mod LastValues

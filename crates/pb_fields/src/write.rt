@@ -2,7 +2,7 @@
 
 ghost use Rattle.std.specs.Prelude.{◌≡◌, ◌+◌, ◌*◌, ◌<◌, ◌^◌, ◌++◌, ◌∷◌, [], take, length, is_ok, OnOk, OnErr};
 ghost use Rattle.std.specs.List.{AllByRecursion};
-ghost use Rattle.pb_fields.specs.Field.{IsFieldNumber, HasNumber, wire_number, varint_field, bytes_field};
+ghost use Rattle.pb_fields.specs.Field.{IsFieldNumber, HasNumber, Fits, IsField, wire_number, varint_field, bytes_field};
 ghost use Rattle.pb_fields.specs.Canonical.{varint, value_text, field_text, text, Extends};
 
 use crate::byte_list::ByteList;
@@ -36,6 +36,7 @@ fn push_tag(out: &mut Vec<u8>, number: u32, wire: WireType) -> Result<(), AllocE
 /// Appends a value's text.
 fn push_value(out: &mut Vec<u8>, value: &Value) -> Result<(), AllocError>
     ensures ok { OnOk result (out.new.items ≡ out.old.items ++ value_text value.now) }
+    ensures fits { OnOk result (Fits value.now) }
     ensures begins { Extends out.old.items out.new.items }
 {
     match value {
@@ -59,6 +60,7 @@ fn push_bytes(out: &mut Vec<u8>, content: &[u8]) -> Result<(), AllocError>
 fn push_field(out: &mut Vec<u8>, field: &Field) -> Result<(), AllocError>
     requires { HasNumber field.now }
     ensures ok { OnOk result (out.new.items ≡ out.old.items ++ field_text field.now) }
+    ensures field { OnOk result (IsField field.now) }
     ensures begins { Extends out.old.items out.new.items }
 {
     push_tag(out, field.number, field.value.wire_type())?;
@@ -87,6 +89,7 @@ fn all_or_nothing(
 pub fn write_field(out: &mut ByteList, field: &Field) -> Result<(), Memory>
     requires { HasNumber field.now }
     ensures ok { OnOk result (out.new ≡ out.old ++ field_text field.now) }
+    ensures field { OnOk result (IsField field.now) }
     ensures err { OnErr result (out.new ≡ out.old) }
 {
     let before = out.len();
@@ -137,6 +140,7 @@ fn push_bytes_field(out: &mut Vec<u8>, number: u32, content: &[u8]) -> Result<()
 /// Appends the canonical texts of fields, as `write_field` does.
 pub fn write_fields(out: &mut ByteList, fields: &FieldList) -> Result<(), Memory>
     ensures ok { OnOk result (out.new ≡ out.old ++ text fields.now) }
+    ensures fields { OnOk result (AllByRecursion IsField fields.now) }
     ensures err { OnErr result (out.new ≡ out.old) }
 {
     let before = out.len();
@@ -147,6 +151,7 @@ pub fn write_fields(out: &mut ByteList, fields: &FieldList) -> Result<(), Memory
 fn push_fields(out: &mut Vec<u8>, fields: &[Field]) -> Result<(), AllocError>
     requires { AllByRecursion HasNumber fields.now }
     ensures ok { OnOk result (out.new.items ≡ out.old.items ++ text fields.now) }
+    ensures fields { OnOk result (AllByRecursion IsField fields.now) }
     ensures begins { Extends out.old.items out.new.items }
 {
     for field in fields {

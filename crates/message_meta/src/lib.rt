@@ -1,0 +1,8 @@
+//! The metadata of a Pulsar message (MessageMetadata in PulsarApi.proto).
+#![tactic(auto)]
+
+mod meta;
+mod table;
+
+pub use meta::{Meta, TextList};
+pub use pb_fields::message::MessageFault as MetaFault;
