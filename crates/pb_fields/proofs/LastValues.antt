@@ -1,10 +1,14 @@
 -- The last value of a field of a message: it has its row's form, and a required one is there.
 use Rattle.std.proofs.Common.{◌≡◌, ◌≢◌, ℕ, min, Bool, true, false, eqb, eq-eqb, ne_eqb, List, [], ◌∷◌, Option, Some, None, inl, inr, refl, sym, ap, subst, ◌∙◌}
-use Rattle.std.specs.Prelude.{MatchOption, not, ◌&&◌}
+use Rattle.std.specs.Prelude.{MatchOption, IsUtf8, not, ◌&&◌}
+use Rattle.std.specs.Option.{option_copied, option_map}
+use Rattle.std.specs.Borrow.{Bor}
 use Rattle.std.specs.List.{AllByRecursion, reduce, last_or}
 use Rattle.std.proofs.lemmas.Bool.{cases_eq, cases_Bool}
 use Rattle.pb_fields.specs.declared.field.Field.{Field}
 use Rattle.pb_fields.specs.declared.field.Value.{Value}
+use Rattle.pb_fields.specs.declared.field.Value.TheVariants as value
+use Rattle.pb_fields.specs.declared.message.Form.TheVariants as form
 use Rattle.pb_fields.specs.declared.message.Row.{Row}
 use Rattle.pb_fields.specs.Message.{row_of, HasForm, Fits, has, absent, lowest_absent, IsMessage, values, last_value}
 
@@ -85,3 +89,27 @@ has-value (f ∷ fs) n there e =
 
 pub last_value-required : (rows : List Row) (n : ℕ) (r : Row) (fs : List Field) → row_of rows n ≡ Some r → r.required ≡ true → IsMessage rows fs → last_value n fs ≢ None
 last_value-required rows n r fs is required message = has-value fs n (has_required rows n r fs is required (nothing_reduced (absent rows fs) message.complete))
+
+-- ---- what the readers of one value answer
+
+pub varint_there : (o : Option Value) → o ≢ None → MatchOption o (Unit {0}) (λ v. HasForm v form.Varint) → ((n : ℕ) → o ≢ Some (value.Varint n)) → ⊥
+varint_there None some h none = some refl
+varint_there (Some (value.Varint n)) some h none = none n refl
+varint_there (Some v) some h none = absurd h
+
+pub text_there : (o : Option Value) → o ≢ None → MatchOption o (Unit {0}) (λ v. HasForm v form.Text) → ((b : List ℕ) → IsUtf8 b → o ≢ Some (value.Bytes b)) → ⊥
+text_there None some h none = some refl
+text_there (Some (value.Bytes b)) some h none = none b h refl
+text_there (Some v) some h none = absurd h
+
+pub optional_varint-is : (o : Option Value) (r : Option ℕ) → MatchOption o (Unit {0}) (λ v. HasForm v form.Varint) → MatchOption r ((n : ℕ) → o ≢ Some (value.Varint n)) (λ n. o ≡ Some (value.Varint n)) → o ≡ option_map value.Varint r
+optional_varint-is o (Some n) h found = found
+optional_varint-is None None h none = refl
+optional_varint-is (Some (value.Varint n)) None h none = absurd (none n refl)
+optional_varint-is (Some v) None h none = absurd h
+
+pub optional_text-is : (o : Option Value) (r : Option (Bor (List ℕ))) → MatchOption o (Unit {0}) (λ v. HasForm v form.Text) → MatchOption r ((b : List ℕ) → IsUtf8 b → o ≢ Some (value.Bytes b)) (λ b. o ≡ Some (value.Bytes b.now)) → o ≡ option_map value.Bytes (option_copied r)
+optional_text-is o (Some b) h found = found
+optional_text-is None None h none = refl
+optional_text-is (Some (value.Bytes b)) None h none = absurd (none b h refl)
+optional_text-is (Some v) None h none = absurd h

@@ -1,5 +1,5 @@
 pub mod Varints
-pub mod Values
+pub mod ValueTexts
 pub mod Fields
 pub mod Unique
 pub mod Written

@@ -22,6 +22,10 @@ use Rattle.pb_fields.specs.Faults.{HasFault, fault_at}
 abbrev pub row_of : List Row → ℕ → Option Row
 row_of rows n = find (λ r. r.number == n) rows
 
+-- the table says of a number what it holds, and whether it is required
+abbrev pub IsRow : List Row → ℕ → Form → Bool → Type 0
+IsRow rows n f required = row_of rows n ≡ Some (record { number = n; form = f; required = required })
+
 -- the type that values of a form have in the bytes
 abbrev pub form_type : Form → WireType
 form_type form.Varint = wire.Varint

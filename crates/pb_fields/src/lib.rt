@@ -11,6 +11,7 @@ mod laws;
 mod memory;
 pub mod message;
 mod read;
+mod values;
 mod write;
 
 pub use byte_list::ByteList;

@@ -10,6 +10,10 @@ ghost use Rattle.pb_fields.specs.Text.{IsText};
 ghost use Rattle.pb_fields.specs.Faults.{Answers};
 ghost use Rattle.pb_fields.specs.Message.{pb_fault, form_type, row_of, HasForm, Fits, IsWrong, WrongFields, has, lowest_absent, last_value, unknown, IsMessage, WrongMessage, IsWrongOrMemory};
 
+pub use crate::values::{
+    keep_unknown, last_text, last_value, last_varint, optional_text, optional_varint, required_text, required_varint,
+};
+
 use crate::fault::PbFault;
 use crate::field::{Field, FieldList, Value, WireType};
 use crate::read::read_fields;
@@ -110,35 +114,8 @@ fn lower(lowest: Option<u32>, number: u32) -> u32
     }
 }
 
-/// The last value of a number, the one that counts where the field is not repeated.
-pub fn last_value(fields: &[Field], number: u32) -> Option<&Value>
-    ensures { option_copied result ≡ last_value number fields.now }
-{
-    let mut last = None;
-    for field in fields {
-        if field.number == number {
-            last = Some(&field.value);
-        }
-    }
-    last
-}
-
-/// The last number of a field, where its last value is a varint.
-pub fn last_varint(fields: &[Field], number: u32) -> Option<u64>
-    ensures { MatchOption result ((n : ℕ) → last_value number fields.now ≢ Some (value.Varint n)) (λ n. last_value number fields.now ≡ Some (value.Varint n)) }
-{
-    last_value(fields, number)?.as_varint()
-}
-
-/// The last text of a field, where its last value is a text in UTF-8.
-pub fn last_text(fields: &[Field], number: u32) -> Option<&str>
-    ensures { MatchOption result ((b : List ℕ) → IsUtf8 b → last_value number fields.now ≢ Some (value.Bytes b)) (λ b. last_value number fields.now ≡ Some (value.Bytes b.now)) }
-{
-    last_value(fields, number)?.as_text()
-}
-
 /// The row of a number, where the table has one.
-fn row_of(rows: &[Row], number: u32) -> Option<&Row>
+pub(crate) fn row_of(rows: &[Row], number: u32) -> Option<&Row>
     ensures { option_copied result ≡ row_of rows.now number }
 {
     rows.iter().find(|row| row.number == number)
@@ -204,23 +181,4 @@ fn message_fields(alloc: Global, rows: &[Row], bytes: &[u8]) -> Result<FieldList
     let fields = read_fields(alloc, bytes)?;
     check_fields(rows, fields.as_slice())?;
     Ok(fields)
-}
-
-/// Keeps the fields whose numbers are in no row, in their order. It takes no memory.
-pub fn keep_unknown(fields: &mut FieldList, rows: &[Row])
-    ensures { fields.new ≡ unknown rows.now fields.old }
-{
-    retain_unknown(&mut fields.fields, rows)
-}
-
-fn retain_unknown(fields: &mut Vec<Field>, rows: &[Row])
-    ensures { fields.new.items ≡ unknown rows.now fields.old.items }
-{
-    fields.retain(|field| is_unknown(rows, field));
-}
-
-fn is_unknown(rows: &[Row], field: &Field) -> bool
-    ensures { result ≡ is_none (row_of rows.now field.now.number) }
-{
-    row_of(rows, field.number).is_none()
 }

@@ -1,5 +1,5 @@
 use Rattle.std.proofs.Common.{arith}
-use Rattle.pb_fields.proofs.Values.{fixed64_front}
+use Rattle.pb_fields.proofs.ValueTexts.{fixed64_front}
 use Rattle.pb_fields.proofs.read.fixed64_at.Goals as goal
 
 pub returns-clause-ok : goal.returns-clause-ok

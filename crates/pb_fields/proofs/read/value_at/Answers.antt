@@ -1,6 +1,6 @@
 use Rattle.std.proofs.lemmas.Result.{err_from_is_err_and}
 use Rattle.pb_fields.specs.Faults.{varint, fixed64, fixed32}
-use Rattle.pb_fields.proofs.Values.{takes_varint, takes_fixed64, takes_fixed32, takes_bytes}
+use Rattle.pb_fields.proofs.ValueTexts.{takes_varint, takes_fixed64, takes_fixed32, takes_bytes}
 use Rattle.pb_fields.proofs.read.value_at.Goals as goal
 
 pub returns-in_err-number-in-Varint-clause-err : goal.returns-in_err-number-in-Varint-clause-err

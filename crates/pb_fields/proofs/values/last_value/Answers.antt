@@ -2,8 +2,8 @@ use Rattle.std.proofs.Common.{◌≡◌, ◌+◌, ◌++◌, ◌∷◌, [], take,
 use Rattle.std.proofs.lemmas.List.{take_more}
 use Rattle.pb_fields.specs.declared.field.Field.{Field}
 use Rattle.pb_fields.proofs.Messages.{last_value-same, last_value-other}
-use Rattle.pb_fields.proofs.message.last_value.Goals as goal
-use Rattle.pb_fields.proofs.message.last_value.Goals.{then-field-number, else-field-number}
+use Rattle.pb_fields.proofs.values.last_value.Goals as goal
+use Rattle.pb_fields.proofs.values.last_value.Goals.{then-field-number, else-field-number}
 
 pub loop-field-preserved : goal.loop-field-preserved
 loop-field-preserved c =

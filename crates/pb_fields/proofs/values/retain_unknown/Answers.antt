@@ -3,7 +3,7 @@ use Rattle.std.specs.Prelude.{is_none}
 use Rattle.std.proofs.lemmas.Fn.{filter_same}
 use Rattle.pb_fields.specs.declared.field.Field.{Field}
 use Rattle.pb_fields.specs.Message.{row_of}
-use Rattle.pb_fields.proofs.message.retain_unknown.Goals as goal
+use Rattle.pb_fields.proofs.values.retain_unknown.Goals as goal
 
 pub returns : goal.returns
 returns c =

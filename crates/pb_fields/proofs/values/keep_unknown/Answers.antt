@@ -1,6 +1,6 @@
 use Rattle.pb_fields.specs.Field.{HasNumber}
 use Rattle.pb_fields.proofs.Messages.{AllByRecursion-filter}
-use Rattle.pb_fields.proofs.message.keep_unknown.Goals as goal
+use Rattle.pb_fields.proofs.values.keep_unknown.Goals as goal
 
 pub invariant_of-fields : goal.invariant_of-fields
 invariant_of-fields c = rw c.retain_unknown.ensures (AllByRecursion-filter HasNumber _ _ c.fields.invariant)
