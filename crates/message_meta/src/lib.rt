@@ -2,7 +2,9 @@
 #![tactic(auto)]
 
 mod meta;
+mod read;
 mod table;
+mod write;
 
 pub use meta::{Meta, TextList};
 pub use pb_fields::message::MessageFault as MetaFault;

@@ -11,7 +11,7 @@ use std::marker::Model;
 /// Texts in order.
 pub type TextList = Sequence<Text>;
 
-/// The metadata of a message. `rest` has the fields that no other names, in their order; they are kept and written
+/// The metadata of a message. `rest` has the fields of no other number, in their order; they are kept and written
 /// again (own).
 #[derive(Debug, Drop)]
 pub struct Meta {
@@ -33,8 +33,8 @@ pub struct Meta {
 }
 
 impl Model for Meta {
-    ghost use Rattle.std.specs.Prelude.{◌≡◌};
-    ghost use Rattle.pb_fields.specs.Message.{unknown};
+    ghost use Rattle.std.specs.List.{AllByRecursion};
+    ghost use Rattle.pb_fields.specs.Message.{IsUnknown};
     ghost use Rattle.message_meta.specs.declared.table.TheConstants.{ROWS};
     ghost use Rattle.message_meta.specs.Metadata.{Metadata};
 
@@ -51,7 +51,7 @@ impl Model for Meta {
         rest = m.rest;
     } };
 
-    ghost invariant = { λ m. unknown ROWS m.rest ≡ m.rest };
+    ghost invariant = { λ m. AllByRecursion (IsUnknown ROWS) m.rest };
 }
 
 impl Meta {

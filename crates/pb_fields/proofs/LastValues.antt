@@ -1,5 +1,5 @@
 -- The last value of a field of a message: it has its row's form, and a required one is there.
-use Rattle.std.proofs.Common.{◌≡◌, ◌≢◌, ℕ, min, Bool, true, false, eqb, eq-eqb, ne_eqb, List, [], ◌∷◌, Option, Some, None, inl, inr, refl, sym, ap, subst, ◌∙◌}
+use Rattle.std.proofs.Common.{◌≡◌, ◌≢◌, ℕ, zero, suc, ◌<◌, min, length, get_or, arith, Bool, true, false, eqb, eq-eqb, ne_eqb, List, [], ◌∷◌, Option, Some, None, inl, inr, refl, sym, ap, subst, ◌∙◌}
 use Rattle.std.specs.Prelude.{MatchOption, IsUtf8, not, ◌&&◌}
 use Rattle.std.specs.Option.{option_copied, option_map}
 use Rattle.std.specs.Borrow.{Bor}
@@ -113,3 +113,26 @@ optional_text-is o (Some b) h found = found
 optional_text-is None None h none = refl
 optional_text-is (Some (value.Bytes b)) None h none = absurd (none b h refl)
 optional_text-is (Some v) None h none = absurd h
+
+-- the value of a field of that number is among its values
+pub values-at : (P : Value → Type 0) (n i : ℕ) (fs : List Field) (f : Field) → i < length fs → f ≡ get_or fs i f → f.number ≡ n → AllByRecursion P (values n fs) → P f.value
+values-at P n i [] f lt is same all = absurd (omega arith)
+values-at P n zero (g ∷ fs) f lt is same all =
+    let here : g.number ≡ n = ap (λ (k : Field). k.number) (sym is) ∙ same in
+    let first : P g.value = (subst (λ (vs : List Value). AllByRecursion P vs) (values-same n g fs here) all).0 in
+    subst (λ (k : Field). P k.value) (sym is) first
+values-at P n (suc i) (g ∷ fs) f lt is same all =
+    elim (cases_eq g.number n) [
+      | inl here ↦ values-at P n i fs f (omega arith) is same (rest_of here).1
+      | inr other ↦ values-at P n i fs f (omega arith) is same (rest_other other)
+    ]
+  where
+  rest_of : g.number ≡ n → AllByRecursion P (g.value ∷ values n fs)
+  rest_of here = subst (λ (vs : List Value). AllByRecursion P vs) (values-same n g fs here) all
+  rest_other : (g.number ≡ n → ⊥) → AllByRecursion P (values n fs)
+  rest_other other = subst (λ (vs : List Value). AllByRecursion P vs) (values-other n g fs other) all
+
+-- a value with a text's form is a text
+pub not_text : (v : Value) → HasForm v form.Text → ((b : List ℕ) → IsUtf8 b → v ≢ value.Bytes b) → ⊥
+not_text (value.Bytes b) h none = none b h refl
+not_text v h none = absurd h

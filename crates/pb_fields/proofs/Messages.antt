@@ -1,6 +1,6 @@
 -- Messages over fields: what a loop over rows or fields keeps, and that the judgement gives one answer.
 use Rattle.std.proofs.Common.{◌≡◌, ◌≢◌, ℕ, ◌+◌, min, Bool, true, false, eqb, cond, List, [], ◌∷◌, ◌++◌, Option, Some, None, Result, Ok, Err, inl, inr, map, refl, sym, ap, subst, ◌∙◌, arith}
-use Rattle.std.specs.Prelude.{filter, not, ◌&&◌, fold, IfOk, IfErr}
+use Rattle.std.specs.Prelude.{filter, not, ◌&&◌, fold, is_none, IfOk, IfErr}
 use Rattle.std.specs.List.{AllByRecursion, reduce, last_or}
 use Rattle.std.specs.Option.{option_map_or}
 use Rattle.std.proofs.lemmas.List.{map-append, append-nil}
@@ -19,7 +19,7 @@ use Rattle.pb_fields.specs.declared.message.MessageFault.TheVariants as fault
 use Rattle.pb_fields.specs.Field.{wire_type}
 use Rattle.pb_fields.specs.Text.{IsText}
 use Rattle.pb_fields.specs.Faults.{IsFaultOf, Answers}
-use Rattle.pb_fields.specs.Message.{row_of, form_type, HasForm, Fits, has, absent, lowest_absent, IsMessage, IsWrong, type_differs, not_text, FirstWrong, here, later, WrongFields, field, missing, WrongMessage, no_fields, wrong_fields, IsWrongOrMemory, values, last_value, pb_fault}
+use Rattle.pb_fields.specs.Message.{row_of, form_type, HasForm, Fits, has, absent, lowest_absent, IsMessage, IsWrong, type_differs, not_text, FirstWrong, here, later, WrongFields, field, missing, WrongMessage, no_fields, wrong_fields, IsWrongOrMemory, values, last_value, pb_fault, IsUnknown, unknown}
 use Rattle.pb_fields.proofs.Unique.{text_one, fault_one, fault_sound}
 
 fold-push : (x n : ℕ) (xs : List ℕ) → fold min x (xs ++ n ∷ []) ≡ min (fold min x xs) n
@@ -186,3 +186,12 @@ AllByRecursion-filter P test (x ∷ xs) h =
       | true ↦ (h.0, AllByRecursion-filter P test xs h.1)
       | false ↦ AllByRecursion-filter P test xs h.1
     ]
+
+-- what is kept as unknown is unknown
+unknown-cons : (rows : List Row) (f : Field) (fs : List Field) (o : Option Row) → row_of rows f.number ≡ o → AllByRecursion (IsUnknown rows) (unknown rows fs) → AllByRecursion (IsUnknown rows) (unknown rows (f ∷ fs))
+unknown-cons rows f fs None is rest = let test : is_none (row_of rows f.number) ≡ true = rw is refl in rw test (is, rest)
+unknown-cons rows f fs (Some r) is rest = let test : is_none (row_of rows f.number) ≡ false = rw is refl in rw test rest
+
+pub unknown-all : (rows : List Row) (fs : List Field) → AllByRecursion (IsUnknown rows) (unknown rows fs)
+unknown-all rows [] = tt
+unknown-all rows (f ∷ fs) = unknown-cons rows f fs (row_of rows f.number) refl (unknown-all rows fs)

@@ -1,5 +1,5 @@
 -- The canonical text of a list of fields: the fields in their order, each varint as short as can be.
-use Rattle.std.specs.Prelude.{◌≡◌, ℕ, zero, suc, ◌+◌, ◌*◌, ◌/◌, ◌%◌, List, [], ◌∷◌, ◌++◌, length, take, nat_lt, if◌then◌else◌}
+use Rattle.std.specs.Prelude.{◌≡◌, ℕ, zero, suc, ◌+◌, ◌*◌, ◌/◌, ◌%◌, List, [], ◌∷◌, ◌++◌, Option, Some, None, length, take, nat_lt, if◌then◌else◌}
 use Rattle.std.specs.List.{flat_map}
 use Rattle.std.specs.Int.{w32, w64, to_le_bytes}
 use Rattle.pb_fields.specs.declared.field.Field.{Field}
@@ -27,6 +27,11 @@ field_text f = varint (8 * f.number + wire_number (wire_type f.value)) ++ value_
 
 abbrev pub text : List Field → List ℕ
 text fs = flat_map field_text fs
+
+-- a field that is there or not
+abbrev pub optional : {X : Type 0} → (X → Field) → Option X → List Field
+optional make None = []
+optional make (Some x) = make x ∷ []
 
 -- new begins as old
 abbrev pub Extends : List ℕ → List ℕ → Type 0

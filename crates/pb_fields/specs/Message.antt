@@ -32,6 +32,10 @@ form_type form.Varint = wire.Varint
 form_type form.Text = wire.Bytes
 form_type form.Message = wire.Bytes
 
+-- a field whose number is in no row
+abbrev pub IsUnknown : List Row → Field → Type 0
+IsUnknown rows f = row_of rows f.number ≡ None
+
 -- ---- what is right
 
 -- A text is UTF-8. What an embedded message has to be is its own table's affair.

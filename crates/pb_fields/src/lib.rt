@@ -20,7 +20,7 @@ pub use field::{Field, FieldList, Value, WireType};
 pub use laws::{canonical_text, one_reading};
 pub use memory::Memory;
 pub use read::read_fields;
-pub use write::{write_bytes, write_field, write_fields, write_varint};
+pub use write::{write_bytes, write_field, write_fields, write_optional_varint, write_varint};
 
 #[cfg(test)]
 mod tests;

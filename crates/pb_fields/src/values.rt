@@ -2,9 +2,10 @@
 
 ghost use Rattle.std.specs.Prelude.{◌≡◌, ◌≢◌, ℕ, List, Some, true, false, is_none, IsUtf8, MatchOption};
 ghost use Rattle.std.specs.Option.{option_copied, option_map};
+ghost use Rattle.std.specs.List.{AllByRecursion};
 ghost use Rattle.pb_fields.specs.declared.field.Value.TheVariants as value;
 ghost use Rattle.pb_fields.specs.declared.message.Form.TheVariants as form;
-ghost use Rattle.pb_fields.specs.Message.{row_of, IsMessage, IsRow, last_value, unknown};
+ghost use Rattle.pb_fields.specs.Message.{row_of, IsMessage, IsRow, IsUnknown, last_value, unknown};
 
 use crate::field::{Field, FieldList, Value};
 use crate::message::{Row, row_of};
@@ -80,7 +81,8 @@ pub fn optional_varint(rows: &[Row], fields: &[Field], number: u32) -> Option<u6
 
 /// Keeps the fields whose numbers are in no row, in their order. It takes no memory.
 pub fn keep_unknown(fields: &mut FieldList, rows: &[Row])
-    ensures { fields.new ≡ unknown rows.now fields.old }
+    ensures kept { fields.new ≡ unknown rows.now fields.old }
+    ensures unknown { AllByRecursion (IsUnknown rows.now) fields.new }
 {
     retain_unknown(&mut fields.fields, rows)
 }

@@ -3,7 +3,7 @@
 ghost use Rattle.std.specs.Prelude.{◌≡◌, ◌+◌, ◌*◌, ◌<◌, ◌^◌, ◌++◌, ◌∷◌, [], take, length, is_ok, OnOk, OnErr};
 ghost use Rattle.std.specs.List.{AllByRecursion};
 ghost use Rattle.pb_fields.specs.Field.{IsFieldNumber, HasNumber, Fits, IsField, wire_number, varint_field, bytes_field};
-ghost use Rattle.pb_fields.specs.Canonical.{varint, value_text, field_text, text, Extends};
+ghost use Rattle.pb_fields.specs.Canonical.{varint, value_text, field_text, text, optional, Extends};
 
 use crate::byte_list::ByteList;
 use crate::field::{Field, FieldList, Value, WireType};
@@ -101,6 +101,7 @@ pub fn write_field(out: &mut ByteList, field: &Field) -> Result<(), Memory>
 pub fn write_varint(out: &mut ByteList, number: u32, value: u64) -> Result<(), Memory>
     requires { IsFieldNumber number }
     ensures ok { OnOk result (out.new ≡ out.old ++ field_text (varint_field number value)) }
+    ensures field { OnOk result (IsField (varint_field number value)) }
     ensures err { OnErr result (out.new ≡ out.old) }
 {
     let before = out.len();
@@ -121,6 +122,7 @@ fn push_varint_field(out: &mut Vec<u8>, number: u32, value: u64) -> Result<(), A
 pub fn write_bytes(out: &mut ByteList, number: u32, content: &[u8]) -> Result<(), Memory>
     requires { IsFieldNumber number }
     ensures ok { OnOk result (out.new ≡ out.old ++ field_text (bytes_field number content.now)) }
+    ensures field { OnOk result (IsField (bytes_field number content.now)) }
     ensures err { OnErr result (out.new ≡ out.old) }
 {
     let before = out.len();
@@ -135,6 +137,19 @@ fn push_bytes_field(out: &mut Vec<u8>, number: u32, content: &[u8]) -> Result<()
 {
     push_tag(out, number, WireType::Bytes)?;
     push_bytes(out, content)
+}
+
+/// Appends the canonical text of a varint's field, where there is a value.
+pub fn write_optional_varint(out: &mut ByteList, number: u32, value: Option<u64>) -> Result<(), Memory>
+    requires { IsFieldNumber number }
+    ensures ok { OnOk result (out.new ≡ out.old ++ text (optional (varint_field number) value)) }
+    ensures fields { OnOk result (AllByRecursion IsField (optional (varint_field number) value)) }
+    ensures err { OnErr result (out.new ≡ out.old) }
+{
+    match value {
+        None => Ok(()),
+        Some(value) => write_varint(out, number, value),
+    }
 }
 
 /// Appends the canonical texts of fields, as `write_field` does.
