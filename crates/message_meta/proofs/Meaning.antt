@@ -39,8 +39,8 @@ same_texts [] (b ∷ bs) e = absurd cc
 same_texts (a ∷ as_) [] e = absurd cc
 same_texts (a ∷ as_) (b ∷ bs) e = let rest = same_texts as_ bs (tails (value.Bytes a) (value.Bytes b) (map value.Bytes as_) (map value.Bytes bs) e) in (let head : a ≡ b = cc in cc)
   where
-  tails : (x y : Value) (xs ys : List Value) → x ∷ xs ≡ y ∷ ys → xs ≡ ys
-  tails x y xs ys e = cc
+    tails : (x y : Value) (xs ys : List Value) → x ∷ xs ≡ y ∷ ys → xs ≡ ys
+    tails x y xs ys e = cc
 
 same_all : {A B C D E F : Type 0} (made : A → B → B → C → C → D → E → F → Metadata) {a a' : A} {b b' c c' : B} {d d' e e' : C} {f f' : D} {g g' : E} {h h' : F}
     → a ≡ a' → b ≡ b' → c ≡ c' → d ≡ d' → e ≡ e' → f ≡ f' → g ≡ g' → h ≡ h' → made a b c d e f g h ≡ made a' b' c' d' e' f' g' h'
@@ -49,14 +49,14 @@ same_all made p q r s t u v w = cc
 pub meta_one : (fs : List Field) (m n : Metadata) → IsMeta fs m → IsMeta fs n → m ≡ n
 meta_one fs m n h k =
     same_all (λ a b c d e f g r. record { producer = a; seq = b; publish_time = c; replicated_from = d; key = e; replicate_to = f; marker = g; rest = r })
-      (same_bytes _ _ (sym h.producer_name ∙ k.producer_name))
-      (same_varint _ _ (sym h.sequence_id ∙ k.sequence_id))
-      (same_varint _ _ (sym h.publish_time ∙ k.publish_time))
-      (same_optional_bytes _ _ (sym h.replicated_from ∙ k.replicated_from))
-      (same_optional_bytes _ _ (sym h.partition_key ∙ k.partition_key))
-      (same_texts _ _ (sym h.replicate_to ∙ k.replicate_to))
-      (same_optional_varint _ _ (sym h.marker_type ∙ k.marker_type))
-      (sym h.rest ∙ k.rest)
+    (same_bytes _ _ (sym h.producer_name ∙ k.producer_name))
+    (same_varint _ _ (sym h.sequence_id ∙ k.sequence_id))
+    (same_varint _ _ (sym h.publish_time ∙ k.publish_time))
+    (same_optional_bytes _ _ (sym h.replicated_from ∙ k.replicated_from))
+    (same_optional_bytes _ _ (sym h.partition_key ∙ k.partition_key))
+    (same_texts _ _ (sym h.replicate_to ∙ k.replicate_to))
+    (same_optional_varint _ _ (sym h.marker_type ∙ k.marker_type))
+    (sym h.rest ∙ k.rest)
 
 pub meta_text_one : (bytes : List ℕ) (m n : Metadata) → IsMetaText bytes m → IsMetaText bytes n → m ≡ n
 meta_text_one bytes m n h k = meta_one k.fields m n (subst (λ (fs : List Field). IsMeta fs m) (text_one h.text k.text) h.means) k.means

@@ -1,10 +1,12 @@
 //! The metadata of a Pulsar message (MessageMetadata in PulsarApi.proto).
 #![tactic(auto)]
 
+mod laws;
 mod meta;
 mod read;
 mod table;
 mod write;
 
+pub use laws::{canonical_metadata, one_meaning};
 pub use meta::{Meta, TextList};
 pub use pb_fields::message::MessageFault as MetaFault;

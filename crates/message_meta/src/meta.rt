@@ -41,14 +41,14 @@ impl Model for Meta {
     ghost Value = { Metadata };
 
     ghost view = { λ m. record {
-        producer = m.producer;
-        seq = m.seq;
-        publish_time = m.publish_time;
-        replicated_from = m.replicated_from;
-        key = m.key;
-        replicate_to = m.replicate_to;
-        marker = m.marker;
-        rest = m.rest;
+      producer = m.producer;
+      seq = m.seq;
+      publish_time = m.publish_time;
+      replicated_from = m.replicated_from;
+      key = m.key;
+      replicate_to = m.replicate_to;
+      marker = m.marker;
+      rest = m.rest;
     } };
 
     ghost invariant = { λ m. AllByRecursion (IsUnknown ROWS) m.rest };

@@ -12,9 +12,14 @@ ghost use Rattle.message_meta.specs.Metadata.{Metadata, IsMeta, IsMetaText};
 
 use crate::MetaFault;
 use crate::meta::{Meta, TextList};
-use crate::table::{MARKER_TYPE, PARTITION_KEY, PRODUCER_NAME, PUBLISH_TIME, REPLICATED_FROM, REPLICATE_TO, ROWS, SEQUENCE_ID};
+use crate::table::{
+    MARKER_TYPE, PARTITION_KEY, PRODUCER_NAME, PUBLISH_TIME, REPLICATE_TO, REPLICATED_FROM, ROWS,
+    SEQUENCE_ID,
+};
 use geo_base::{Memory, Text};
-use pb_fields::message::{keep_unknown, optional_text, optional_varint, read_message, required_text, required_varint};
+use pb_fields::message::{
+    keep_unknown, optional_text, optional_varint, read_message, required_text, required_varint,
+};
 use pb_fields::{Field, FieldList};
 use std::alloc::Global;
 

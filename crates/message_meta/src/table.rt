@@ -25,11 +25,39 @@ pub const MARKER_TYPE: u32 = 20;
 
 /// The numbers and types of PulsarApi.proto, but for the number of `marker_type`, which is this project's own.
 pub const ROWS: [Row; 7] = [
-    Row { number: 1, form: Form::Text, required: true },
-    Row { number: 2, form: Form::Varint, required: true },
-    Row { number: 3, form: Form::Varint, required: true },
-    Row { number: 5, form: Form::Text, required: false },
-    Row { number: 6, form: Form::Text, required: false },
-    Row { number: 7, form: Form::Text, required: false },
-    Row { number: 20, form: Form::Varint, required: false },
+    Row {
+        number: 1,
+        form: Form::Text,
+        required: true,
+    },
+    Row {
+        number: 2,
+        form: Form::Varint,
+        required: true,
+    },
+    Row {
+        number: 3,
+        form: Form::Varint,
+        required: true,
+    },
+    Row {
+        number: 5,
+        form: Form::Text,
+        required: false,
+    },
+    Row {
+        number: 6,
+        form: Form::Text,
+        required: false,
+    },
+    Row {
+        number: 7,
+        form: Form::Text,
+        required: false,
+    },
+    Row {
+        number: 20,
+        form: Form::Varint,
+        required: false,
+    },
 ];

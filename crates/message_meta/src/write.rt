@@ -8,7 +8,10 @@ ghost use Rattle.message_meta.specs.Metadata.{IsMetaText};
 ghost use Rattle.message_meta.specs.Canonical.{IsMetadata, required_fields, optional_fields, canonical_fields};
 
 use crate::meta::{Meta, TextList};
-use crate::table::{MARKER_TYPE, PARTITION_KEY, PRODUCER_NAME, PUBLISH_TIME, REPLICATED_FROM, REPLICATE_TO, SEQUENCE_ID};
+use crate::table::{
+    MARKER_TYPE, PARTITION_KEY, PRODUCER_NAME, PUBLISH_TIME, REPLICATE_TO, REPLICATED_FROM,
+    SEQUENCE_ID,
+};
 use geo_base::{Memory, Text};
 use pb_fields::{ByteList, write_bytes, write_fields, write_optional_varint, write_varint};
 use std::alloc::Global;
@@ -69,7 +72,11 @@ fn append_text(out: &mut ByteList, number: u32, content: &Text) -> Result<(), pb
     write_bytes(out, number, content.as_str().as_bytes())
 }
 
-fn append_optional_text(out: &mut ByteList, number: u32, content: &Option<Text>) -> Result<(), pb_fields::Memory>
+fn append_optional_text(
+    out: &mut ByteList,
+    number: u32,
+    content: &Option<Text>,
+) -> Result<(), pb_fields::Memory>
     requires { IsFieldNumber number }
     ensures ok { OnOk result (out.new ≡ out.old ++ text (optional (bytes_field number) content.now)) }
     ensures fields { OnOk result (AllByRecursion IsField (optional (bytes_field number) content.now)) }
@@ -81,7 +88,11 @@ fn append_optional_text(out: &mut ByteList, number: u32, content: &Option<Text>)
     }
 }
 
-fn append_texts(out: &mut ByteList, number: u32, contents: &TextList) -> Result<(), pb_fields::Memory>
+fn append_texts(
+    out: &mut ByteList,
+    number: u32,
+    contents: &TextList,
+) -> Result<(), pb_fields::Memory>
     requires { IsFieldNumber number }
     ensures ok { OnOk result (out.new ≡ out.old ++ text (map (bytes_field number) contents.now)) }
     ensures fields { OnOk result (AllByRecursion IsField (map (bytes_field number) contents.now)) }

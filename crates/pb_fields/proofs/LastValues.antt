@@ -62,18 +62,18 @@ has_required (q ∷ rows) n r fs is required complete =
       | inl same ↦ elim (cases_Bool (has fs n)) [
         | inl there ↦ there
         | inr gone ↦
-          let e = sym (row_of-same q rows n same) ∙ is in
-          let q-is : q ≡ r = cc in
-          let wanted : q.required ≡ true = ap (λ (k : Row). k.required) q-is ∙ required in
-          let test : (q.required && not (has fs q.number)) ≡ true = rw (wanted, same, gone) refl in
-          absurd (let h = absent-gone q rows fs test in cc)
+            let e = sym (row_of-same q rows n same) ∙ is in
+            let q-is : q ≡ r = cc in
+            let wanted : q.required ≡ true = ap (λ (k : Row). k.required) q-is ∙ required in
+            let test : (q.required && not (has fs q.number)) ≡ true = rw (wanted, same, gone) refl in
+            absurd (let h = absent-gone q rows fs test in cc)
       ]
       | inr other ↦ has_required rows n r fs (sym (row_of-other q rows n other) ∙ is) required (fewer (q.required && not (has fs q.number)) refl)
     ]
   where
-  fewer : (b : Bool) → (q.required && not (has fs q.number)) ≡ b → absent rows fs ≡ []
-  fewer true test = absurd (let h = absent-gone q rows fs test in cc)
-  fewer false test = sym (absent-there q rows fs test) ∙ complete
+    fewer : (b : Bool) → (q.required && not (has fs q.number)) ≡ b → absent rows fs ≡ []
+    fewer true test = absurd (let h = absent-gone q rows fs test in cc)
+    fewer false test = sym (absent-there q rows fs test) ∙ complete
 
 some_last : (vs : List Value) (v : Value) → last_or (Some v) vs ≡ None → ⊥
 some_last [] v e = cc
@@ -127,10 +127,11 @@ values-at P n (suc i) (g ∷ fs) f lt is same all =
       | inr other ↦ values-at P n i fs f (omega arith) is same (rest_other other)
     ]
   where
-  rest_of : g.number ≡ n → AllByRecursion P (g.value ∷ values n fs)
-  rest_of here = subst (λ (vs : List Value). AllByRecursion P vs) (values-same n g fs here) all
-  rest_other : (g.number ≡ n → ⊥) → AllByRecursion P (values n fs)
-  rest_other other = subst (λ (vs : List Value). AllByRecursion P vs) (values-other n g fs other) all
+    rest_of : g.number ≡ n → AllByRecursion P (g.value ∷ values n fs)
+    rest_of here = subst (λ (vs : List Value). AllByRecursion P vs) (values-same n g fs here) all
+
+    rest_other : (g.number ≡ n → ⊥) → AllByRecursion P (values n fs)
+    rest_other other = subst (λ (vs : List Value). AllByRecursion P vs) (values-other n g fs other) all
 
 -- a value with a text's form is a text
 pub not_text : (v : Value) → HasForm v form.Text → ((b : List ℕ) → IsUtf8 b → v ≢ value.Bytes b) → ⊥

@@ -5,3 +5,4 @@ pub mod Unique
 pub mod Written
 pub mod Messages
 pub mod LastValues
+pub mod Parts

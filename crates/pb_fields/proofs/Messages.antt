@@ -75,11 +75,11 @@ first_wrong rows (g ∷ front) f rest e right wrong = later right.0 (first_wrong
 fits_or_wrong : (rows : List Row) (f : Field) (e : MessageFault) → Fits rows f → IsWrong rows f e → ⊥
 fits_or_wrong rows f e fit (type_differs r is differs e-is) = differs (same_type f.value r.form (fit r is))
   where
-  same_type : (v : Value) (k : Form) → HasForm v k → wire_type v ≡ form_type k
-  same_type (value.Varint n) form.Varint h = refl
-  same_type (value.Bytes content) form.Text h = refl
-  same_type (value.Bytes content) form.Message h = refl
-  same_type v k h = absurd h
+    same_type : (v : Value) (k : Form) → HasForm v k → wire_type v ≡ form_type k
+    same_type (value.Varint n) form.Varint h = refl
+    same_type (value.Bytes content) form.Text h = refl
+    same_type (value.Bytes content) form.Message h = refl
+    same_type v k h = absurd h
 fits_or_wrong rows f e fit (not_text r content is text bytes broken e-is) =
     broken (let h = fit r is in let P : Value → Form → Type 0 = λ v k. HasForm v k in subst (λ (v : Value). P v form.Text) bytes (subst (λ (k : Form). P f.value k) text h))
 
@@ -89,8 +89,8 @@ text_type rows f r r' content is is' text bytes differs =
     let same : r ≡ r' = some_is r r' (sym is ∙ is') in
     differs (ap (λ (v : Value). wire_type v) bytes ∙ sym (ap (λ (k : Row). form_type k.form) same ∙ ap (λ (k : Form). form_type k) text))
   where
-  some_is : (x y : Row) → ◌≡◌ {A = Option Row} (Some x) (Some y) → x ≡ y
-  some_is x y e = cc
+    some_is : (x y : Row) → ◌≡◌ {A = Option Row} (Some x) (Some y) → x ≡ y
+    some_is x y e = cc
 
 wrong_one : (rows : List Row) (f : Field) (a b : MessageFault) → IsWrong rows f a → IsWrong rows f b → a ≡ b
 wrong_one rows f a b (type_differs r is differs a-is) (type_differs r' is' differs' b-is) = a-is ∙ sym b-is
@@ -115,8 +115,8 @@ fields_one rows fs a b (missing n fit is a-is) (field k) = absurd (none_wrong ro
 fields_one rows fs a b (missing m fit is a-is) (missing n fit' is' b-is) =
     a-is ∙ ap (λ (x : ℕ). fault.Missing x) (same_number m n (sym is ∙ is')) ∙ sym b-is
   where
-  same_number : (x y : ℕ) → ◌≡◌ {A = Option ℕ} (Some x) (Some y) → x ≡ y
-  same_number x y e = cc
+    same_number : (x y : ℕ) → ◌≡◌ {A = Option ℕ} (Some x) (Some y) → x ≡ y
+    same_number x y e = cc
 
 pub fields_sound : (rows : List Row) (fs : List Field) (e : MessageFault) → IsMessage rows fs → WrongFields rows fs e → ⊥
 fields_sound rows fs e right (field h) = none_wrong rows right.fit h

@@ -10,13 +10,13 @@ ghost use Rattle.pb_fields.specs.Text.{IsText};
 ghost use Rattle.pb_fields.specs.Faults.{Answers};
 ghost use Rattle.pb_fields.specs.Message.{pb_fault, form_type, row_of, HasForm, Fits, IsWrong, WrongFields, has, lowest_absent, last_value, unknown, IsMessage, WrongMessage, IsWrongOrMemory};
 
-pub use crate::values::{
-    keep_unknown, last_text, last_value, last_varint, optional_text, optional_varint, required_text, required_varint,
-};
-
 use crate::fault::PbFault;
 use crate::field::{Field, FieldList, Value, WireType};
 use crate::read::read_fields;
+pub use crate::values::{
+    keep_unknown, last_text, last_value, last_varint, optional_text, optional_varint,
+    required_text, required_varint,
+};
 use std::alloc::Global;
 use thiserror::Error;
 

@@ -140,7 +140,11 @@ fn push_bytes_field(out: &mut Vec<u8>, number: u32, content: &[u8]) -> Result<()
 }
 
 /// Appends the canonical text of a varint's field, where there is a value.
-pub fn write_optional_varint(out: &mut ByteList, number: u32, value: Option<u64>) -> Result<(), Memory>
+pub fn write_optional_varint(
+    out: &mut ByteList,
+    number: u32,
+    value: Option<u64>,
+) -> Result<(), Memory>
     requires { IsFieldNumber number }
     ensures ok { OnOk result (out.new ≡ out.old ++ text (optional (varint_field number) value)) }
     ensures fields { OnOk result (AllByRecursion IsField (optional (varint_field number) value)) }
