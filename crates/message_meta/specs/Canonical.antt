@@ -5,16 +5,16 @@ use Rattle.pb_fields.specs.declared.field.Field.{Field}
 use Rattle.pb_fields.specs.Field.{varint_field, bytes_field, IsField}
 use Rattle.pb_fields.specs.Canonical.{optional}
 use Rattle.pb_fields.specs.Message.{IsUnknown}
-use Rattle.message_meta.specs.declared.table.TheConstants.{ROWS}
+use Rattle.message_meta.specs.declared.table.TheConstants.{ROWS, PRODUCER_NAME, SEQUENCE_ID, PUBLISH_TIME, REPLICATED_FROM, PARTITION_KEY, REPLICATE_TO, MARKER_TYPE}
 use Rattle.message_meta.specs.Metadata.{Metadata}
 
 -- the fields that are always there
 abbrev pub required_fields : Metadata → List Field
-required_fields m = bytes_field 1 m.producer ∷ varint_field 2 m.seq ∷ varint_field 3 m.publish_time ∷ []
+required_fields m = bytes_field PRODUCER_NAME m.producer ∷ varint_field SEQUENCE_ID m.seq ∷ varint_field PUBLISH_TIME m.publish_time ∷ []
 
 -- the known fields that need not be there
 abbrev pub optional_fields : Metadata → List Field
-optional_fields m = optional (bytes_field 5) m.replicated_from ++ (optional (bytes_field 6) m.key ++ (map (bytes_field 7) m.replicate_to ++ optional (varint_field 20) m.marker))
+optional_fields m = optional (bytes_field REPLICATED_FROM) m.replicated_from ++ (optional (bytes_field PARTITION_KEY) m.key ++ (map (bytes_field REPLICATE_TO) m.replicate_to ++ optional (varint_field MARKER_TYPE) m.marker))
 
 -- The known fields by ascending number, a list in its order; then the unknown ones in their order (own).
 abbrev pub canonical_fields : Metadata → List Field

@@ -10,3 +10,6 @@ mod write;
 pub use laws::{canonical_metadata, one_meaning};
 pub use meta::{Meta, TextList};
 pub use pb_fields::message::MessageFault as MetaFault;
+
+#[cfg(test)]
+mod tests;

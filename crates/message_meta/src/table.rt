@@ -26,37 +26,37 @@ pub const MARKER_TYPE: u32 = 20;
 /// The numbers and types of PulsarApi.proto, but for the number of `marker_type`, which is this project's own.
 pub const ROWS: [Row; 7] = [
     Row {
-        number: 1,
+        number: PRODUCER_NAME,
         form: Form::Text,
         required: true,
     },
     Row {
-        number: 2,
+        number: SEQUENCE_ID,
         form: Form::Varint,
         required: true,
     },
     Row {
-        number: 3,
+        number: PUBLISH_TIME,
         form: Form::Varint,
         required: true,
     },
     Row {
-        number: 5,
+        number: REPLICATED_FROM,
         form: Form::Text,
         required: false,
     },
     Row {
-        number: 6,
+        number: PARTITION_KEY,
         form: Form::Text,
         required: false,
     },
     Row {
-        number: 7,
+        number: REPLICATE_TO,
         form: Form::Text,
         required: false,
     },
     Row {
-        number: 20,
+        number: MARKER_TYPE,
         form: Form::Varint,
         required: false,
     },
