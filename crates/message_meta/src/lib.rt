@@ -4,7 +4,7 @@
 mod laws;
 mod meta;
 mod read;
-mod table;
+pub mod table;
 mod write;
 
 pub use laws::{canonical_metadata, one_meaning};
