@@ -10,7 +10,7 @@ use Rattle.pb_fields.specs.declared.field.Value.{Value}
 use Rattle.pb_fields.specs.declared.field.Value.TheVariants as value
 use Rattle.pb_fields.specs.declared.message.Form.TheVariants as form
 use Rattle.pb_fields.specs.declared.message.Row.{Row}
-use Rattle.pb_fields.specs.Message.{row_of, HasForm, Fits, has, absent, lowest_absent, IsMessage, values, last_value}
+use Rattle.pb_fields.specs.Message.{row_of, HasForm, Fits, has, absent, IsMessage, values, last_value}
 
 -- ---- one field in front
 

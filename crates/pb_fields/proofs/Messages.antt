@@ -1,5 +1,5 @@
 -- Messages over fields: what a loop over rows or fields keeps, and that the judgement gives one answer.
-use Rattle.std.proofs.Common.{◌≡◌, ◌≢◌, ℕ, ◌+◌, min, Bool, true, false, eqb, cond, List, [], ◌∷◌, ◌++◌, Option, Some, None, Result, Ok, Err, inl, inr, map, refl, sym, ap, subst, ◌∙◌, arith}
+use Rattle.std.proofs.Common.{◌≡◌, ◌≢◌, ℕ, min, Bool, true, false, eqb, cond, List, [], ◌∷◌, ◌++◌, Option, Some, None, Result, Ok, Err, inl, inr, map, refl, sym, ap, subst, ◌∙◌}
 use Rattle.std.specs.Prelude.{filter, not, ◌&&◌, fold, is_none, IfOk, IfErr}
 use Rattle.std.specs.List.{AllByRecursion, reduce, last_or}
 use Rattle.std.specs.Option.{option_map_or}

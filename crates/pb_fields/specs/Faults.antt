@@ -1,5 +1,5 @@
 -- Why bytes are no text of a list of fields: the first field without a reading, and the first thing wrong with it.
-use Rattle.std.specs.Prelude.{◌≡◌, ◌≢◌, ℕ, ◌/◌, ◌%◌, ◌<◌, ◌≤◌, ◌^◌, List, ◌∷◌, ◌++◌, length, ◌⊎◌, Result, Ok, Err}
+use Rattle.std.specs.Prelude.{◌≡◌, ◌≢◌, ℕ, ◌/◌, ◌%◌, ◌<◌, ◌≤◌, ◌^◌, List, ◌∷◌, ◌++◌, length, ◌⊎◌, Result, Err}
 use Rattle.std.specs.List.{AllByRecursion}
 use Rattle.pb_fields.specs.declared.field.Field.{Field}
 use Rattle.pb_fields.specs.declared.field.WireType.{WireType}

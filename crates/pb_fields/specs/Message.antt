@@ -1,5 +1,5 @@
 -- Messages over fields: what the table of a message's fields asks, and the first thing that is wrong.
-use Rattle.std.specs.Prelude.{◌≡◌, ◌≢◌, ℕ, ◌==◌, min, Bool, ◌&&◌, not, List, [], ◌∷◌, Option, Some, None, is_none, map, filter, find, IsUtf8}
+use Rattle.std.specs.Prelude.{◌≡◌, ◌≢◌, ℕ, ◌==◌, min, Bool, ◌&&◌, not, List, ◌∷◌, Option, Some, None, is_none, map, filter, find, IsUtf8}
 use Rattle.std.specs.List.{AllByRecursion, list_any, last_or, reduce}
 use Rattle.pb_fields.specs.declared.field.Field.{Field}
 use Rattle.pb_fields.specs.declared.field.Value.{Value}

@@ -1,4 +1,4 @@
-use Rattle.std.proofs.Common.{◌≡◌, ◌≢◌, Bool, true, false, not, IsTrue, refl, sym, ◌∙◌, rules}
+use Rattle.std.proofs.Common.{◌≡◌, ◌≢◌, true, false, not, refl, sym, ◌∙◌, rules}
 use denote.Enum.Bare.{sameb, same_true}
 use Rattle.pb_fields.specs.contracts.field.WireType as wire_contract
 use Rattle.pb_fields.specs.contracts.message.Form as form_contract
@@ -6,7 +6,7 @@ use Rattle.pb_fields.specs.declared.field.WireType.{WireType}
 use Rattle.pb_fields.specs.declared.field.WireType.TheVariants as wire
 use Rattle.pb_fields.specs.declared.message.Form.TheVariants as form
 use Rattle.pb_fields.specs.Field.{wire_type}
-use Rattle.pb_fields.specs.Message.{HasForm, form_type, type_differs}
+use Rattle.pb_fields.specs.Message.{form_type, type_differs}
 use Rattle.pb_fields.proofs.Messages.{text_wrong}
 use Rattle.pb_fields.proofs.message.check_field.Goals as goal
 

@@ -1,4 +1,3 @@
-use Rattle.std.proofs.Common.{◌∙◌, sym}
 use Rattle.pb_fields.specs.Field.{HasNumber}
 use Rattle.pb_fields.proofs.Messages.{AllByRecursion-filter, unknown-all}
 use Rattle.pb_fields.proofs.values.keep_unknown.Goals as goal
