@@ -1,0 +1,105 @@
+//! Writing metadata.
+
+ghost use Rattle.std.specs.Prelude.{◌≡◌, ◌++◌, map, IsUtf8, IfOk, OnOk, IfSome};
+ghost use Rattle.std.specs.List.{AllByRecursion};
+ghost use Rattle.pb_fields.specs.Field.{IsFieldNumber, IsField, varint_field, bytes_field};
+ghost use Rattle.pb_fields.specs.Canonical.{field_text, text, optional};
+ghost use Rattle.message_meta.specs.Metadata.{IsMetaText};
+ghost use Rattle.message_meta.specs.Canonical.{IsMetadata, required_fields, optional_fields, canonical_fields};
+
+use crate::meta::{Meta, TextList};
+use crate::table::{
+    MARKER_TYPE, PARTITION_KEY, PRODUCER_NAME, PUBLISH_TIME, REPLICATE_TO, REPLICATED_FROM,
+    SEQUENCE_ID,
+};
+use geo_base::{Memory, Text};
+use pb_fields::{ByteList, write_bytes, write_fields, write_optional_varint, write_varint};
+use std::alloc::Global;
+
+impl Meta {
+    /// The canonical text: the known fields in the order of their numbers, then the others in theirs, each varint as
+    /// short as can be.
+    pub fn write(&self, alloc: Global) -> Result<ByteList, Memory>
+        ensures canonical { IfOk result (λ bytes. bytes ≡ text (canonical_fields self.now)) }
+        ensures text { IfOk result (λ bytes. IsMetaText bytes self.now) }
+    {
+        let mut out = ByteList::new(alloc);
+        match append_meta(&mut out, self) {
+            Ok(()) => Ok(out),
+            Err(_) => Err(Memory),
+        }
+    }
+}
+
+fn append_meta(out: &mut ByteList, meta: &Meta) -> Result<(), pb_fields::Memory>
+    ensures ok { OnOk result (out.new ≡ out.old ++ text (canonical_fields meta.now)) }
+    ensures fits { OnOk result (IsMetadata meta.now) }
+{
+    append_required(out, meta)?;
+    append_optional(out, meta)?;
+    write_fields(out, &meta.rest)
+}
+
+fn append_required(out: &mut ByteList, meta: &Meta) -> Result<(), pb_fields::Memory>
+    ensures ok { OnOk result (out.new ≡ out.old ++ text (required_fields meta.now)) }
+    ensures fields { OnOk result (AllByRecursion IsField (required_fields meta.now)) }
+    ensures producer { OnOk result (IsUtf8 meta.now.producer) }
+{
+    append_text(out, PRODUCER_NAME, &meta.producer)?;
+    write_varint(out, SEQUENCE_ID, meta.seq)?;
+    write_varint(out, PUBLISH_TIME, meta.publish_time)
+}
+
+fn append_optional(out: &mut ByteList, meta: &Meta) -> Result<(), pb_fields::Memory>
+    ensures ok { OnOk result (out.new ≡ out.old ++ text (optional_fields meta.now)) }
+    ensures fields { OnOk result (AllByRecursion IsField (optional_fields meta.now)) }
+    ensures replicated_from { OnOk result (IfSome meta.now.replicated_from IsUtf8) }
+    ensures key { OnOk result (IfSome meta.now.key IsUtf8) }
+    ensures replicate_to { OnOk result (AllByRecursion IsUtf8 meta.now.replicate_to) }
+{
+    append_optional_text(out, REPLICATED_FROM, &meta.replicated_from)?;
+    append_optional_text(out, PARTITION_KEY, &meta.key)?;
+    append_texts(out, REPLICATE_TO, &meta.replicate_to)?;
+    write_optional_varint(out, MARKER_TYPE, meta.marker)
+}
+
+fn append_text(out: &mut ByteList, number: u32, content: &Text) -> Result<(), pb_fields::Memory>
+    requires { IsFieldNumber number }
+    ensures ok { OnOk result (out.new ≡ out.old ++ field_text (bytes_field number content.now)) }
+    ensures field { OnOk result (IsField (bytes_field number content.now)) }
+    ensures utf8 { OnOk result (IsUtf8 content.now) }
+{
+    write_bytes(out, number, content.as_str().as_bytes())
+}
+
+fn append_optional_text(
+    out: &mut ByteList,
+    number: u32,
+    content: &Option<Text>,
+) -> Result<(), pb_fields::Memory>
+    requires { IsFieldNumber number }
+    ensures ok { OnOk result (out.new ≡ out.old ++ text (optional (bytes_field number) content.now)) }
+    ensures fields { OnOk result (AllByRecursion IsField (optional (bytes_field number) content.now)) }
+    ensures utf8 { OnOk result (IfSome content.now IsUtf8) }
+{
+    match content {
+        None => Ok(()),
+        Some(content) => append_text(out, number, content),
+    }
+}
+
+fn append_texts(
+    out: &mut ByteList,
+    number: u32,
+    contents: &TextList,
+) -> Result<(), pb_fields::Memory>
+    requires { IsFieldNumber number }
+    ensures ok { OnOk result (out.new ≡ out.old ++ text (map (bytes_field number) contents.now)) }
+    ensures fields { OnOk result (AllByRecursion IsField (map (bytes_field number) contents.now)) }
+    ensures utf8 { OnOk result (AllByRecursion IsUtf8 contents.now) }
+{
+    for content in contents.as_slice() {
+        append_text(out, number, content)?;
+    }
+    Ok(())
+}

@@ -1,0 +1,8 @@
+use Rattle.std.proofs.Common.{refl}
+use Rattle.pb_fields.proofs.LastValues.{last_value-form, last_value-required, varint_there}
+use Rattle.pb_fields.proofs.values.required_varint.Goals as goal
+
+pub unreachable-requires : goal.unreachable-requires
+unreachable-requires c =
+    let form = last_value-form c.args.rows.now c.args.number _ c.args.fields.now c.requires.row c.requires.message.fit in
+    varint_there _ (last_value-required c.args.rows.now c.args.number _ c.args.fields.now c.requires.row refl c.requires.message) form c.in-None.ensures

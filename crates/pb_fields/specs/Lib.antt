@@ -1,0 +1,6 @@
+pub mod Varint
+pub mod Field
+pub mod Text
+pub mod Faults
+pub mod Canonical
+pub mod Message

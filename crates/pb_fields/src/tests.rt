@@ -1,0 +1,161 @@
+use super::*;
+use std::alloc::{AllocError, Global};
+use std::test::Fail;
+
+/// The fields that are read, one after another, or the fault.
+fn described(alloc: Global, bytes: &[u8]) -> Result<String, AllocError> {
+    let fields = match read_fields(alloc, bytes) {
+        Ok(fields) => fields,
+        Err(fault) => return format!(in alloc; "{fault}"),
+    };
+    let mut text = String::new(alloc);
+    for field in fields.as_slice() {
+        let number = field.number;
+        match &field.value {
+            Value::Varint(value) => write!(&mut text, "{number} varint {value};")?,
+            Value::Fixed64(value) => write!(&mut text, "{number} fixed64 {value};")?,
+            Value::Bytes(content) => {
+                let content = content.as_slice();
+                write!(&mut text, "{number} bytes {content:?};")?;
+            }
+            Value::Fixed32(value) => write!(&mut text, "{number} fixed32 {value};")?,
+        }
+    }
+    Ok(text)
+}
+
+/// What stands in the Protocol Buffers encoding, at its bounds. A row is bytes, and what they say.
+const TABLE: [(&[u8], &str); 33] = [
+    (&[], ""),
+    // the guide's two examples
+    (&[0x08, 0x96, 0x01], "1 varint 150;"),
+    (
+        &[0x12, 0x07, 0x74, 0x65, 0x73, 0x74, 0x69, 0x6e, 0x67],
+        "2 bytes [116, 101, 115, 116, 105, 110, 103];",
+    ),
+    // varints of one, two, five, nine and ten bytes
+    (&[0x08, 0x7f], "1 varint 127;"),
+    (&[0x08, 0x80, 0x01], "1 varint 128;"),
+    (
+        &[0x08, 0xff, 0xff, 0xff, 0xff, 0x0f],
+        "1 varint 4294967295;",
+    ),
+    (
+        &[0x08, 0xff, 0xff, 0xff, 0xff, 0xff, 0xff, 0xff, 0xff, 0x7f],
+        "1 varint 9223372036854775807;",
+    ),
+    (
+        &[
+            0x08, 0xff, 0xff, 0xff, 0xff, 0xff, 0xff, 0xff, 0xff, 0xff, 0x01,
+        ],
+        "1 varint 18446744073709551615;",
+    ),
+    // needless groups of zero
+    (&[0x88, 0x80, 0x00, 0x81, 0x00], "1 varint 1;"),
+    (
+        &[
+            0x08, 0x80, 0x80, 0x80, 0x80, 0x80, 0x80, 0x80, 0x80, 0x80, 0x00,
+        ],
+        "1 varint 0;",
+    ),
+    // a tenth byte above 1, and an eleventh byte
+    (
+        &[
+            0x08, 0xff, 0xff, 0xff, 0xff, 0xff, 0xff, 0xff, 0xff, 0xff, 0x02,
+        ],
+        "Varint(2, 0)",
+    ),
+    (
+        &[
+            0x08, 0x80, 0x80, 0x80, 0x80, 0x80, 0x80, 0x80, 0x80, 0x80, 0x80, 0x00,
+        ],
+        "Varint(2, 0)",
+    ),
+    (
+        &[0x08, 0xff, 0xff, 0xff, 0xff, 0xff, 0xff, 0xff, 0xff, 0xff],
+        "Truncated(1, 0)",
+    ),
+    // the greatest tag, and one above 2^32 - 1
+    (&[0xf8, 0xff, 0xff, 0xff, 0x0f, 0x01], "536870911 varint 1;"),
+    (&[0x80, 0x80, 0x80, 0x80, 0x10, 0x01], "Varint(2, 0)"),
+    // tags: the type before the number, the number before the value
+    (&[0x08], "Truncated(1, 0)"),
+    (&[0x88], "Truncated(1, 0)"),
+    (&[0x0b], "WireType(3, 0)"),
+    (&[0x0c], "WireType(3, 0)"),
+    (&[0x0e], "WireType(3, 0)"),
+    (&[0x07], "WireType(3, 0)"),
+    (&[0x02, 0x00], "FieldZero(4, 0)"),
+    (&[0x00], "FieldZero(4, 0)"),
+    // lengths at the end of the bytes
+    (&[0x0a, 0x00], "1 bytes [];"),
+    (&[0x0a, 0x02, 0x01, 0x02], "1 bytes [1, 2];"),
+    (&[0x0a, 0x03, 0x01, 0x02], "Truncated(1, 0)"),
+    (&[0x0a], "Truncated(1, 0)"),
+    (
+        &[
+            0x0a, 0xff, 0xff, 0xff, 0xff, 0xff, 0xff, 0xff, 0xff, 0xff, 0x01,
+        ],
+        "Truncated(1, 0)",
+    ),
+    (
+        &[
+            0x0a, 0xff, 0xff, 0xff, 0xff, 0xff, 0xff, 0xff, 0xff, 0xff, 0x02,
+        ],
+        "Varint(2, 0)",
+    ),
+    // fixed widths, the least byte first
+    (
+        &[
+            0x0d, 0x01, 0x02, 0x03, 0x04, 0x09, 0x01, 0x02, 0x03, 0x04, 0x05, 0x06, 0x07, 0x08,
+        ],
+        "1 fixed32 67305985;1 fixed64 578437695752307201;",
+    ),
+    (&[0x0d, 0x01, 0x02, 0x03], "Truncated(1, 0)"),
+    (
+        &[0x09, 0x01, 0x02, 0x03, 0x04, 0x05, 0x06, 0x07],
+        "Truncated(1, 0)",
+    ),
+    // the fault of the first field without a reading
+    (
+        &[0x08, 0x01, 0x12, 0x01, 0x41, 0x0b, 0x02, 0x00],
+        "WireType(3, 5)",
+    ),
+];
+
+#[test]
+fn bytes_say_their_fields(rt: HostRuntime) -> Result<(), Fail> {
+    for (bytes, wanted) in TABLE.iter() {
+        let said = described(rt.alloc(), bytes)?;
+        assert_eq!(rt; said.as_str(), *wanted, "at {bytes:?}");
+    }
+    Ok(())
+}
+
+#[test]
+fn fields_are_written_shortest(rt: HostRuntime) -> Result<(), Fail> {
+    let alloc = rt.alloc();
+    let bytes = [
+        0x88, 0x80, 0x00, 0x96, 0x81, 0x80, 0x00, 0x12, 0x82, 0x00, 0x41, 0x42, 0x0d, 1, 2, 3, 4,
+        0x19, 1, 2, 3, 4, 5, 6, 7, 8,
+    ];
+    let fields = read_fields(alloc, &bytes)?;
+    let mut out = ByteList::new(alloc);
+    for field in fields.as_slice() {
+        assert!(rt; field.number > 0 && field.number <= Field::MAX_NUMBER);
+        write_field(&mut out, field)?;
+    }
+    let shortest = [
+        0x08, 0x96, 0x01, 0x12, 0x02, 0x41, 0x42, 0x0d, 1, 2, 3, 4, 0x19, 1, 2, 3, 4, 5, 6, 7, 8,
+    ];
+    assert_eq!(rt; out.as_slice(), shortest.as_slice());
+    let copy = ByteList::from_slice(alloc, out.as_slice())?;
+    assert_eq!(rt; copy.len(), out.len());
+    let mut list = FieldList::new(alloc);
+    list.push(Field {
+        number: 1,
+        value: Value::Bytes(ByteList::from_vec(copy.into_vec())),
+    })?;
+    assert_eq!(rt; list.len(), 1);
+    Ok(())
+}

@@ -1,0 +1,25 @@
+//! Answers codec vectors: reads lines `KIND HEX`, a kind of message and its bytes in hexadecimal, `-` for none, and
+//! writes a line for each: `ok HEX` with the canonical bytes of what was read, or the fault. A line that has another
+//! form or an unknown kind is answered by `bad line`.
+#![tactic(auto)]
+
+mod answer;
+mod vector;
+
+use anyhow::Result;
+use std::io::{self, BufRead, BufReader, BufWriter, Write};
+
+fn run<R: Input + Print + AllocGlobal>(rt: &R) -> Result<()> {
+    let alloc = rt.alloc();
+    let mut out = BufWriter::new(alloc, io::writer(rt))?;
+    for line in BufReader::new(alloc, rt.reader())?.split(alloc, b'\n') {
+        let answer = vector::answer_line(alloc, line?.as_slice())?;
+        writeln!(out, "{answer}")?;
+    }
+    out.flush()?;
+    Ok(())
+}
+
+fn main(rt: HostRuntime) -> Result<()> {
+    run(&rt)
+}

@@ -1,0 +1,44 @@
+//! A line of a file of vectors.
+
+use crate::answer::{Answer, Kind, answer_of};
+use hex::FromHexError;
+use pb_fields::Memory;
+use std::alloc::Global;
+
+/// The answer for a line.
+pub fn answer_line(alloc: Global, line: &[u8]) -> Result<Answer, Memory> {
+    let Some((kind, digits)) = words_of(line) else {
+        return Ok(Answer::BadLine);
+    };
+    match bytes_of(alloc, digits)? {
+        Some(bytes) => answer_of(alloc, kind, bytes.as_slice()),
+        None => Ok(Answer::BadLine),
+    }
+}
+
+/// The kind and the digits of a line.
+fn words_of(line: &[u8]) -> Option<(Kind, &str)> {
+    let text = str::from_utf8(line).ok()?;
+    let (kind, digits) = text.split_once(' ')?;
+    let kind = match kind {
+        "fields" => Kind::Fields,
+        "meta" => Kind::Meta,
+        _ => return None,
+    };
+    Some((kind, digits))
+}
+
+/// The bytes that hexadecimal digits stand for, two digits each; `-` stands for none.
+fn bytes_of(alloc: Global, digits: &str) -> Result<Option<Vec<u8>>, Memory> {
+    if digits == "-" {
+        return Ok(Some(Vec::new(alloc)));
+    }
+    if digits.is_empty() {
+        return Ok(None);
+    }
+    match hex::decode(alloc, digits) {
+        Ok(bytes) => Ok(Some(bytes)),
+        Err(FromHexError::OutOfMemory) => Err(Memory),
+        Err(_) => Ok(None),
+    }
+}
