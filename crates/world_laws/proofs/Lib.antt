@@ -13,3 +13,6 @@ pub mod Fresh
 pub mod Once
 pub mod Members
 pub mod Prefixes
+pub mod Cursors
+pub mod Packets
+pub mod PairFacts
