@@ -16,3 +16,4 @@ pub mod Prefixes
 pub mod Cursors
 pub mod Packets
 pub mod PairFacts
+pub mod SessionFacts
