@@ -17,3 +17,4 @@ pub mod Cursors
 pub mod Packets
 pub mod PairFacts
 pub mod SessionFacts
+pub mod Effects
