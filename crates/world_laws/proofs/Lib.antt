@@ -18,3 +18,5 @@ pub mod Packets
 pub mod PairFacts
 pub mod SessionFacts
 pub mod Effects
+pub mod InARow
+pub mod SenderSide
