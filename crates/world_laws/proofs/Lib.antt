@@ -20,3 +20,4 @@ pub mod SessionFacts
 pub mod Effects
 pub mod InARow
 pub mod SenderSide
+pub mod SenderEvents

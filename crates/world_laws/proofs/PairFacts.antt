@@ -54,13 +54,14 @@ pub record InSession (x y : ℕ) (near : List Entry) (sent : List Packet) (s : S
   pub read_within : s.read_index ≤ length near
   pub pending : (a : ℕ) (d : Pending) → slice_get s.pending a ≡ Some d → IsPending near sent s.session d
 
--- where a session is open at y, the entries of all its SENDs that were taken stand there
+-- no more is taken than was sent, and where a session is open at y, the entries of all its SENDs that were taken stand there
 pub record Receiving (session : Option ℕ) (far : List Entry) (sent : List Packet) (taken : ℕ) : Type 0 where
+  pub within : taken ≤ length sent
   pub stands : (m : ℕ) → session ≡ Some m → (q k : ℕ) (e : Entry) → q < taken → IsSend sent q m k e → Stands far e
 
 -- no session is open
-pub none_open : (far : List Entry) (sent : List Packet) (taken : ℕ) → Receiving None far sent taken
-none_open far sent taken = record { stands = λ m is. absurd (none-some m is) }
+pub none_open : (far : List Entry) (sent : List Packet) (taken : ℕ) → taken ≤ length sent → Receiving None far sent taken
+none_open far sent taken within = record { within = within; stands = λ m is. absurd (none-some m is) }
 
 -- a list with more behind it
 pub record Grows (es es' : List Entry) : Type 0 where
