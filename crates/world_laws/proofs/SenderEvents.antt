@@ -4,7 +4,7 @@ use Rattle.std.specs.Prelude.{Option, Some, None, if◌then◌else◌, ◌&&◌,
 use Rattle.std.proofs.lemmas.Bool.{eqb-true, eq-eqb, false≢true, ltb-true}
 use Rattle.std.proofs.lemmas.Bool.Decides.{nat_tests}
 use Rattle.std.proofs.lemmas.Option.{none-some, same_Some, slice_get_within}
-use Rattle.world_laws.proofs.Types.{Change, Entry, Frame, Packet, Pending, Place, SenderState, Write}
+use Rattle.world_laws.proofs.Types.{Change, Entry, Frame, Packet, Pending, Place, Position, SenderState, Write}
 use Rattle.world_laws.proofs.Types.change
 use Rattle.world_laws.proofs.Types.frame
 use Rattle.world_laws.proofs.Types.sender_state
@@ -224,3 +224,91 @@ handled_done x y per h a b f back i e ws cs lt next other ok leaves facts =
             carried = k.carried;
             session = session_read x y near f.sent s (i + 1) (omega (arith, n.within, grows_length a.entries near written.grew.entries)) covered k.session;
           })
+
+-- receipt: what is pending under its number has its entry at y
+received_may : (x y : ℕ) (a : Broker) (far : List Entry) (sent back : List Packet) (p : Packet) (id n i : ℕ) (position : Option Position)
+    → Sending x y a.entries (sender_at a y) far sent back → Stands back p → InLink a y p → p.frame ≡ frame.SendReceipt id n position
+    → pending_index (sender_at a y).pending n ≡ Some i → MayAck x y a.entries far i
+received_may x y a far sent back p id n i position h came at is pending =
+    let m = (sender_at a y).session in
+    let r : IsReceipt back came.place m n = record { packet = p; at = came.is; receives = record { session = eqb-true p.session m at; id = id; position = position; is = is } } in
+    let answered = h.carried.receipts came.place m n r in
+    let waits = pending_is (sender_at a y).pending n i pending in
+    let d = h.session.pending waits.place (record { number = n; index = i }) waits.is in
+    let same : d.entry ≡ answered.entry = h.session.unique d.place answered.place m n d.entry answered.entry d.send answered.send in
+    record {
+      within = slice_get_within a.entries i d.entry d.at;
+      stands = λ e at out.
+        let is_e : answered.entry ≡ e = sym same ∙ same_Some _ _ (sym d.at ∙ at) in
+        let P : Entry → Type 0 = λ g. Stands far g in subst P is_e answered.stands;
+    }
+
+pub answered_ok : (x y : ℕ) (a : Broker) (far : List Entry) (sent back : List Packet) (p : Packet) (q : Plan) → Sending x y a.entries (sender_at a y) far sent back
+    → Stands back p → Answered a y p q → Each (OkWrite x y a.entries far) q.writes
+answered_ok x y a far sent back p q h came (Answered.Received id n i position at is pending) =
+    ((λ _. received_may x y a far sent back p id n i position h came at is pending), tt)
+answered_ok x y a far sent back p q h came (Answered.Stale other) = tt
+answered_ok x y a far sent back p q h came (Answered.Other at other) = tt
+answered_ok x y a far sent back p q h came (Answered.Opened request name at is state) = tt
+answered_ok x y a far sent back p q h came (Answered.OpenBefore request name at is state) = tt
+answered_ok x y a far sent back p q h came (Answered.ClosedBefore request name at is state) = tt
+answered_ok x y a far sent back p q h came (Answered.ReceivedBefore id n position at is pending) = tt
+
+-- what a receipt changes in the sender's memory
+answered_turns : (x y : ℕ) (a : Broker) (far : List Entry) (sent back : List Packet) (p : Packet) (q : Plan) → Answered a y p q
+    → Sending x y (after_writes a.entries q.writes) (sender_after y (sender_at a y) q.writes) far sent back
+    → Sending x y (after_writes a.entries q.writes) (sender_then y (sender_after y (sender_at a y) q.writes) q.changes) far sent back
+answered_turns x y a far sent back p q (Answered.Stale other) h = h
+answered_turns x y a far sent back p q (Answered.Other at other) h = h
+answered_turns x y a far sent back p q (Answered.Opened request name at is state) h =
+    let s = sender_at a y in
+    let P : Sender → Type 0 = λ t. Sending x y a.entries t far sent back in
+    subst P (sym (chosen y (record s { state = sender_state.Open }) s))
+      (record { carried = h.carried; session = session_opened x y a.entries sent s (λ e. opening_live (sym state ∙ e)) h.session })
+answered_turns x y a far sent back p q (Answered.OpenBefore request name at is state) h = h
+answered_turns x y a far sent back p q (Answered.ClosedBefore request name at is state) h = h
+answered_turns x y a far sent back p q (Answered.Received id n i position at is pending) h =
+    let s = sender_written y (sender_at a y) (write.SenderAck y i) in
+    let P : Sender → Type 0 = λ t. Sending x y a.entries t far sent back in
+    subst P (sym (chosen y (record s { pending = without_number s.pending n }) s))
+      (record { carried = h.carried; session = session_received x y a.entries sent s n h.session })
+answered_turns x y a far sent back p q (Answered.ReceivedBefore id n position at is pending) h = h
+
+answered_once : (x y per : ℕ) (a b : Broker) (f : Link) (back : List Packet) (p : Packet) (q : Plan) → y < length a.senders → Stands back p → Answered a y p q
+    → Facts x y a b f back → Facts x y (done per a q) b f back
+answered_once x y per a b f back p q lt came t facts =
+    facts_done x y per a b f back q lt (answered_ok x y a b.entries f.sent back p q (sending_of x y a b f back facts) came t)
+      (answered_turns x y a b.entries f.sent back p q t) facts
+
+-- a receipt with its fate
+pub answered_done : (x y per : ℕ) (a b : Broker) (f : Link) (back : List Packet) (p : Packet) (q : Plan) → y < length a.senders → Stands back p
+    → Fated per a (λ c. Answered c y p) (quiet_plan []) q → Facts x y a b f back → Facts x y (done per a q) b f back
+answered_done x y per a b f back p q lt came (Fated.Once r t) facts = answered_once x y per a b f back p r lt came t facts
+answered_done x y per a b f back p q lt came Fated.Lost facts = facts_aside x y per a b f back (quiet_plan []) lt tt tt facts
+answered_done x y per a b f back p q lt came (Fated.Twice r r' t t') facts =
+    let P : Broker → Type 0 = λ c. Facts x y c b f back in
+    subst P (sym (answered_in_a_row per a (done per a r) y p r r' t t' a))
+      (answered_once x y per (done per a r) b f back p r' (omega (arith, lt, (done_size per a r).senders)) came t'
+        (answered_once x y per a b f back p r lt came t facts))
+
+-- receipts append nothing
+answered_entries : (b : Broker) (y : ℕ) (p : Packet) (q : Plan) (es : List Entry) → Answered b y p q → after_writes es q.writes ≡ es
+answered_entries b y p q es (Answered.Stale other) = refl
+answered_entries b y p q es (Answered.Other at other) = refl
+answered_entries b y p q es (Answered.Opened request name at is state) = refl
+answered_entries b y p q es (Answered.OpenBefore request name at is state) = refl
+answered_entries b y p q es (Answered.ClosedBefore request name at is state) = refl
+answered_entries b y p q es (Answered.Received id n i position at is pending) = refl
+answered_entries b y p q es (Answered.ReceivedBefore id n position at is pending) = refl
+
+-- so all of its writes may be done, also the second time
+pub fated_ok : (x y per : ℕ) (a b : Broker) (f : Link) (back : List Packet) (p : Packet) (q : Plan) → y < length a.senders → Stands back p
+    → Fated per a (λ c. Answered c y p) (quiet_plan []) q → Facts x y a b f back → Each (OkWrite x y a.entries b.entries) q.writes
+fated_ok x y per a b f back p q lt came (Fated.Once r t) facts = answered_ok x y a b.entries f.sent back p r (sending_of x y a b f back facts) came t
+fated_ok x y per a b f back p q lt came Fated.Lost facts = tt
+fated_ok x y per a b f back p q lt came (Fated.Twice r r' t t') facts =
+    let P : List Entry → Type 0 = λ es. Each (OkWrite x y es b.entries) r'.writes in
+    let next = answered_once x y per a b f back p r lt came t facts in
+    each_both (OkWrite x y a.entries b.entries) r.writes r'.writes (answered_ok x y a b.entries f.sent back p r (sending_of x y a b f back facts) came t)
+      (subst P (done_entries per a r ∙ answered_entries a y p r a.entries t)
+        (answered_ok x y (done per a r) b.entries f.sent back p r' (sending_of x y (done per a r) b f back next) came t'))
