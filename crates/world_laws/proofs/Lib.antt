@@ -21,3 +21,5 @@ pub mod Effects
 pub mod InARow
 pub mod SenderSide
 pub mod SenderEvents
+pub mod ReceiverSide
+pub mod TakeEvents

@@ -104,7 +104,7 @@ cut_at x y near far i e begins at out =
       whole = w;
     }
 
-of_out : (x y : ℕ) (e : Entry) → is_out x y e ≡ true → is_of x e ≡ true
+pub of_out : (x y : ℕ) (e : Entry) → is_out x y e ≡ true → is_of x e ≡ true
 of_out x y e out = left (is_of x e) (goes_to y e.to) out
 
 -- one more at far, where the beginning ends before it
