@@ -4,7 +4,7 @@ use Rattle.std.specs.Prelude.{Option, Some, None, if◌then◌else◌, ◌&&◌,
 use Rattle.std.specs.Str.{bytes_eq}
 use Rattle.std.proofs.lemmas.Bool.{eqb-true, eq-eqb, false≢true}
 use Rattle.std.proofs.lemmas.Bool.Decides.{nat_tests}
-use Rattle.std.proofs.lemmas.Option.{none-some, same_Some}
+use Rattle.std.proofs.lemmas.Option.{none-some, same_Some, slice_get_within}
 use Rattle.world_laws.proofs.Types.{Change, Entry, Frame, Out, Packet, Place, Position, Write}
 use Rattle.world_laws.proofs.Types.change
 use Rattle.world_laws.proofs.Types.frame
@@ -181,3 +181,127 @@ taken_once x y near cursor h b sent back c q p plan once opened at within le ge 
       receiving = stands_on b.entries b.entries (receiver_at b x) sent c q p id seq source e at is within le ge (λ f s. s) here receiving;
       answers = (receipt_ok b.entries sent q p seq e (record { to = peer.Back x; session = p.session; frame = frame.SendReceipt p.session seq (Some nowhere) }) (Some nowhere) send here refl refl, tt);
     }
+
+-- a packet at its place, with what was taken so far
+record Coming (x y : ℕ) (near : List Entry) (cursor : List ℕ) (b : Broker) (sent back : List Packet) (c q : ℕ) (p : Packet) : Type 0 where
+  once : OnceIn near
+  opened : (v w m k : ℕ) (e : Entry) → IsOpener sent v m → IsSend sent w m k e → v < w
+  at : slice_get sent q ≡ Some p
+  within : q < length sent
+  low : q ≤ c
+  high : c ≤ q + 1
+  carried : Carried x y near cursor b.entries sent back
+  receiving : Receiving (receiver_at b x) b.entries sent c
+
+taken_one : (x y : ℕ) (near : List Entry) (cursor : List ℕ) (h : Site) (b : Broker) (sent back : List Packet) (c q : ℕ) (p : Packet) (plan : Plan)
+    → x < length b.receivers → Coming x y near cursor b sent back c q p → Taken h b x p plan
+    → HasTaken x y near cursor (done h.per_ledger b plan).entries (receiver_at (done h.per_ledger b plan) x) sent back (q + 1) plan.sent
+taken_one x y near cursor h b sent back c q p plan lt k t =
+    let b' = done h.per_ledger b plan in
+    let P : List Entry → Option ℕ → Type 0 = λ es r. HasTaken x y near cursor es r sent back (q + 1) plan.sent in
+    subst (λ (es : List Entry). P es (receiver_at b' x)) (sym (done_entries h.per_ledger b plan))
+      (subst (P (after_writes b.entries plan.writes)) (sym (done_session h.per_ledger b x plan lt))
+        (taken_once x y near cursor h b sent back c q p plan k.once k.opened k.at k.within k.low k.high t k.carried k.receiving))
+
+-- what goes out goes on standing
+outs_later : (per : ℕ) (b : Broker) (q : Plan) (sent : List Packet) (outs : List Out) → Each (OkOut b.entries sent) outs → Each (OkOut (done per b q).entries sent) outs
+outs_later per b q sent outs h =
+    let P : List Entry → Entry → Type 0 = λ es e. Stands es e in
+    each_map (OkOut b.entries sent) (OkOut (done per b q).entries sent)
+      (λ o ok stamp m k r.
+        let n = ok stamp m k r in
+        record {
+          place = n.place;
+          entry = n.entry;
+          send = n.send;
+          stands = subst (λ (es : List Entry). P es n.entry) (sym (done_entries per b q)) (stands_after b.entries q.writes n.entry n.stands);
+        })
+      outs h
+
+coming_first : (x y : ℕ) (a b : Broker) (f : Link) (back : List Packet) (p : Packet) → OnceIn a.entries → slice_get f.sent f.taken ≡ Some p → Facts x y a b f back
+    → Coming x y a.entries (sender_at a y).cursor b f.sent back f.taken f.taken p
+coming_first x y a b f back p once at h = record {
+  once = once;
+  opened = h.session.opened;
+  at = at;
+  within = slice_get_within f.sent f.taken p at;
+  low = omega arith;
+  high = omega arith;
+  carried = h.carried;
+  receiving = h.receiving;
+}
+
+coming_again : (x y : ℕ) (near : List Entry) (cursor : List ℕ) (b b' : Broker) (sent back : List Packet) (c q : ℕ) (p : Packet) (outs : List Out)
+    → Coming x y near cursor b sent back c q p → HasTaken x y near cursor b'.entries (receiver_at b' x) sent back (q + 1) outs
+    → Coming x y near cursor b' sent back (q + 1) q p
+coming_again x y near cursor b b' sent back c q p outs k h = record {
+  once = k.once;
+  opened = k.opened;
+  at = k.at;
+  within = k.within;
+  low = omega arith;
+  high = omega arith;
+  carried = h.carried;
+  receiving = h.receiving;
+}
+
+-- a packet with its fate
+pub taken_done : (x y : ℕ) (h : Site) (a b : Broker) (f : Link) (back : List Packet) (p : Packet) (plan : Plan) → OnceIn a.entries → x < length b.receivers
+    → slice_get f.sent f.taken ≡ Some p → Fated h.per_ledger b (λ c. Taken h c x p) (closes x) plan → Facts x y a b f back
+    → HasTaken x y a.entries (sender_at a y).cursor (done h.per_ledger b plan).entries (receiver_at (done h.per_ledger b plan) x) f.sent back (f.taken + 1) plan.sent
+taken_done x y h a b f back p plan once lt at (Fated.Once q t) facts =
+    taken_one x y a.entries (sender_at a y).cursor h b f.sent back f.taken f.taken p q lt (coming_first x y a b f back p once at facts) t
+taken_done x y h a b f back p plan once lt at Fated.Lost facts =
+    let R : Option ℕ → Type 0 = λ o. Receiving o b.entries f.sent (f.taken + 1) in
+    let w = slice_get_within f.sent f.taken p at in
+    record {
+      carried = facts.carried;
+      receiving =
+        subst R (sym (done_session h.per_ledger b x (closes x) lt)) (closed_session x (receiver_at b x) b.entries f.sent (f.taken + 1) (omega (arith, w)));
+      answers = tt;
+    }
+taken_done x y h a b f back p plan once lt at (Fated.Twice q q' t t') facts =
+    let near = a.entries in let cursor = (sender_at a y).cursor in
+    let b' = done h.per_ledger b q in
+    let first = coming_first x y a b f back p once at facts in
+    let one = taken_one x y near cursor h b f.sent back f.taken f.taken p q lt first t in
+    let two = taken_one x y near cursor h b' f.sent back (f.taken + 1) f.taken p q' (omega (arith, lt, (done_size h.per_ledger b q).receivers))
+      (coming_again x y near cursor b b' f.sent back f.taken f.taken p q.sent first one) t' in
+    let P : Broker → Type 0 = λ d. HasTaken x y near cursor d.entries (receiver_at d x) f.sent back (f.taken + 1) (q.sent ++ q'.sent) in
+    subst P (sym (taken_in_a_row h.per_ledger h b b' x p q q' t t' b))
+      (record {
+        carried = two.carried;
+        receiving = two.receiving;
+        answers = each_both (OkOut (done h.per_ledger b' q').entries f.sent) q.sent q'.sent (outs_later h.per_ledger b' q' f.sent q.sent one.answers) two.answers;
+      })
+
+-- each append of it leaves a beginning, also where a stop comes behind it
+taken_extends : (x y : ℕ) (near : List Entry) (h : Site) (b : Broker) (p : Packet) (plan : Plan) → Taken h b x p plan
+    → Begins x y near (after_writes b.entries plan.writes) → Extends x y near b.entries plan.writes
+taken_extends x y near h b p plan (Taken.Stores id seq source e is live may new) begins = (begins, tt)
+taken_extends x y near h b p plan (Taken.Unreadable is) begins = tt
+taken_extends x y near h b p plan (Taken.Opens topic id request name is opening) begins = tt
+taken_extends x y near h b p plan (Taken.Discards other shut) begins = tt
+taken_extends x y near h b p plan (Taken.Refuses other live may) begins = tt
+taken_extends x y near h b p plan (Taken.Repeats id seq source e is live may old) begins = tt
+
+one_extends : (x y : ℕ) (near : List Entry) (cursor : List ℕ) (h : Site) (b : Broker) (sent back : List Packet) (c q : ℕ) (p : Packet) (plan : Plan)
+    → Coming x y near cursor b sent back c q p → Taken h b x p plan → Extends x y near b.entries plan.writes
+one_extends x y near cursor h b sent back c q p plan k t =
+    taken_extends x y near h b p plan t (taken_once x y near cursor h b sent back c q p plan k.once k.opened k.at k.within k.low k.high t k.carried k.receiving).carried.begins
+
+pub fated_extends : (x y : ℕ) (h : Site) (a b : Broker) (f : Link) (back : List Packet) (p : Packet) (plan : Plan) → OnceIn a.entries → x < length b.receivers
+    → slice_get f.sent f.taken ≡ Some p → Fated h.per_ledger b (λ c. Taken h c x p) (closes x) plan → Facts x y a b f back
+    → Extends x y a.entries b.entries plan.writes
+fated_extends x y h a b f back p plan once lt at (Fated.Once q t) facts =
+    one_extends x y a.entries (sender_at a y).cursor h b f.sent back f.taken f.taken p q (coming_first x y a b f back p once at facts) t
+fated_extends x y h a b f back p plan once lt at Fated.Lost facts = tt
+fated_extends x y h a b f back p plan once lt at (Fated.Twice q q' t t') facts =
+    let near = a.entries in let cursor = (sender_at a y).cursor in
+    let b' = done h.per_ledger b q in
+    let first = coming_first x y a b f back p once at facts in
+    let one = taken_one x y near cursor h b f.sent back f.taken f.taken p q lt first t in
+    let E : List Entry → Type 0 = λ es. Extends x y near es q'.writes in
+    extends_both x y near b.entries q.writes q'.writes (one_extends x y near cursor h b f.sent back f.taken f.taken p q first t)
+      (subst E (done_entries h.per_ledger b q)
+        (one_extends x y near cursor h b' f.sent back (f.taken + 1) f.taken p q' (coming_again x y near cursor b b' f.sent back f.taken f.taken p q.sent first one) t'))
