@@ -23,3 +23,4 @@ pub mod SenderSide
 pub mod SenderEvents
 pub mod ReceiverSide
 pub mod TakeEvents
+pub mod Reach
