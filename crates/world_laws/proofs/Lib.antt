@@ -24,3 +24,4 @@ pub mod SenderEvents
 pub mod ReceiverSide
 pub mod TakeEvents
 pub mod Reach
+pub mod LinkFrames
