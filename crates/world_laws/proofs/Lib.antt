@@ -25,3 +25,4 @@ pub mod ReceiverSide
 pub mod TakeEvents
 pub mod Reach
 pub mod LinkFrames
+pub mod PairRoles

@@ -21,7 +21,7 @@ same_node s t t' x x' lt lt' is =
     (same, omega (arith, is'))
 
 -- the packets that a broker sends to y, on its forward link
-abbrev pushed_one : ℕ → ℕ → Out → Link → Peer → Link
+abbrev pub pushed_one : ℕ → ℕ → Out → Link → Peer → Link
 pushed_one y stamp o f (peer.Forward v) = if v == y then sent_on f (stamped stamp o) else f
 pushed_one y stamp o f (peer.Broker v) = if v == y then sent_on f (stamped stamp o) else f
 pushed_one y stamp o f (peer.Back v) = f
@@ -56,29 +56,19 @@ cell_in_row m i v y l h =
     same_row = ap (λ (b : Bool). if b then slice_set (slice_index_or m i []) v l else slice_index_or m i []) (eq-eqb i i refl)
 
 -- what the broker at x sends
+one_more : (m : List (List Link)) (i v y : ℕ) (p : Packet) → HasCell m i y
+    → cell (with_cell m i v (sent_on (cell m i v) p)) i y ≡ (if v == y then sent_on (cell m i y) p else cell m i y)
+one_more m i v y p h = cell_in_row m i v y (sent_on (cell m i v) p) h ∙ by (v == y) refl
+  where
+    by : (b : Bool) → (v == y) ≡ b → (if b then sent_on (cell m i v) p else cell m i y) ≡ (if b then sent_on (cell m i y) p else cell m i y)
+    by true e = ap (λ (k : ℕ). sent_on (cell m i k) p) (eqb-true v y e)
+    by false e = refl
+
 forward_one : (s : Setup) (t x y stamp : ℕ) (o : Out) (to : Peer) (ls : Links) → HasCell ls.forward (node s t x) y
     → link_at (with_link ls (from_broker s t x to) (sent_on (link_at ls (from_broker s t x to)) (stamped stamp o))) (Forward (node s t x) y)
       ≡ pushed_one y stamp o (link_at ls (Forward (node s t x) y)) to
-forward_one s t x y stamp o (peer.Forward v) ls h = cell_in_row ls.forward (node s t x) v y _ h ∙ same_cell
-  where
-    same_cell : (if v == y then sent_on (cell ls.forward (node s t x) v) (stamped stamp o) else cell ls.forward (node s t x) y)
-        ≡ (if v == y then sent_on (cell ls.forward (node s t x) y) (stamped stamp o) else cell ls.forward (node s t x) y)
-    same_cell = by (v == y) refl
-      where
-        by : (b : Bool) → (v == y) ≡ b → (if b then sent_on (cell ls.forward (node s t x) v) (stamped stamp o) else cell ls.forward (node s t x) y)
-            ≡ (if b then sent_on (cell ls.forward (node s t x) y) (stamped stamp o) else cell ls.forward (node s t x) y)
-        by true e = ap (λ (k : ℕ). sent_on (cell ls.forward (node s t x) k) (stamped stamp o)) (eqb-true v y e)
-        by false e = refl
-forward_one s t x y stamp o (peer.Broker v) ls h = cell_in_row ls.forward (node s t x) v y _ h ∙ same_cell
-  where
-    same_cell : (if v == y then sent_on (cell ls.forward (node s t x) v) (stamped stamp o) else cell ls.forward (node s t x) y)
-        ≡ (if v == y then sent_on (cell ls.forward (node s t x) y) (stamped stamp o) else cell ls.forward (node s t x) y)
-    same_cell = by (v == y) refl
-      where
-        by : (b : Bool) → (v == y) ≡ b → (if b then sent_on (cell ls.forward (node s t x) v) (stamped stamp o) else cell ls.forward (node s t x) y)
-            ≡ (if b then sent_on (cell ls.forward (node s t x) y) (stamped stamp o) else cell ls.forward (node s t x) y)
-        by true e = ap (λ (k : ℕ). sent_on (cell ls.forward (node s t x) k) (stamped stamp o)) (eqb-true v y e)
-        by false e = refl
+forward_one s t x y stamp o (peer.Forward v) ls h = one_more ls.forward (node s t x) v y (stamped stamp o) h
+forward_one s t x y stamp o (peer.Broker v) ls h = one_more ls.forward (node s t x) v y (stamped stamp o) h
 forward_one s t x y stamp o (peer.Back v) ls h = refl
 forward_one s t x y stamp o (peer.Client c) ls h = refl
 
@@ -140,11 +130,11 @@ back_sent s t x i y stamp P (o ∷ os) ls may p =
       (back_one s t x i y stamp P o o.to ls may.0 p)
 
 -- what a client sends leaves both
-client_one : (c i y : ℕ) (to : Peer) (l : Link) (ls : Links) → (with_link ls (from_client c to) l).forward ≡ ls.forward
-client_one c i y (peer.Broker x) l ls = refl
-client_one c i y (peer.Forward x) l ls = refl
-client_one c i y (peer.Back x) l ls = refl
-client_one c i y (peer.Client x) l ls = refl
+client_one : (c : ℕ) (to : Peer) (l : Link) (ls : Links) → (with_link ls (from_client c to) l).forward ≡ ls.forward
+client_one c (peer.Broker x) l ls = refl
+client_one c (peer.Forward x) l ls = refl
+client_one c (peer.Back x) l ls = refl
+client_one c (peer.Client x) l ls = refl
 
 client_one_back : (c : ℕ) (to : Peer) (l : Link) (ls : Links) → (with_link ls (from_client c to) l).back ≡ ls.back
 client_one_back c (peer.Broker x) l ls = refl
@@ -154,7 +144,7 @@ client_one_back c (peer.Client x) l ls = refl
 
 pub client_forward : (c stamp : ℕ) (os : List Out) (ls : Links) → (delivered (from_client c) stamp os ls).forward ≡ ls.forward
 client_forward c stamp [] ls = refl
-client_forward c stamp (o ∷ os) ls = client_forward c stamp os _ ∙ client_one c 0 0 o.to (sent_on (link_at ls (from_client c o.to)) (stamped stamp o)) ls
+client_forward c stamp (o ∷ os) ls = client_forward c stamp os _ ∙ client_one c o.to (sent_on (link_at ls (from_client c o.to)) (stamped stamp o)) ls
 
 pub client_back : (c stamp : ℕ) (os : List Out) (ls : Links) → (delivered (from_client c) stamp os ls).back ≡ ls.back
 client_back c stamp [] ls = refl

@@ -29,7 +29,7 @@ OutgoingChange z (change.Unpend v n) = v ≡ z
 OutgoingChange z change.Forget = ⊥
 OutgoingChange z c = Unit {0}
 
-abbrev OutgoingPeer : ℕ → Peer → Type 0
+abbrev pub OutgoingPeer : ℕ → Peer → Type 0
 OutgoingPeer z (peer.Forward v) = v ≡ z
 OutgoingPeer z (peer.Back v) = ⊥
 OutgoingPeer z (peer.Client c) = Unit {0}
@@ -60,7 +60,7 @@ IncomingChange z (change.Unpend v n) = ⊥
 IncomingChange z change.Forget = ⊥
 IncomingChange z c = Unit {0}
 
-abbrev IncomingPeer : ℕ → Peer → Type 0
+abbrev pub IncomingPeer : ℕ → Peer → Type 0
 IncomingPeer z (peer.Forward v) = ⊥
 IncomingPeer z (peer.Back v) = v ≡ z
 IncomingPeer z (peer.Client c) = Unit {0}
