@@ -26,3 +26,4 @@ pub mod TakeEvents
 pub mod Reach
 pub mod LinkFrames
 pub mod PairRoles
+pub mod PairEvents

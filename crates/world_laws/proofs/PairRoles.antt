@@ -153,13 +153,13 @@ in_change y z change.Forget h = h
 in_change y z c h = tt
 
 -- what reaches another sender
-source_aside : (x y per : ℕ) (a b : Broker) (f : Link) (back : List Packet) (p : Plan) → y < length a.senders → Each (OkWrite x y a.entries b.entries) p.writes
+pub source_aside : (x y per : ℕ) (a b : Broker) (f : Link) (back : List Packet) (p : Plan) → y < length a.senders → Each (OkWrite x y a.entries b.entries) p.writes
     → Each (LeavesSender y) p.changes → Each (λ (o : Out). ElsePeer y o.to) p.sent → Facts x y a b f back → AtSource x y per a b f back p
 source_aside x y per a b f back p lt ok leaves sent facts =
     let P : Link → Type 0 = λ l. Facts x y (done per a p) b l back in
     AtSource.Works ok (λ stamp. subst P (sym (pushed_else y stamp f p.sent sent)) (facts_aside x y per a b f back p lt ok leaves facts))
 
-source_out : (x y own z per : ℕ) (a b : Broker) (f : Link) (back : List Packet) (p : Plan) → y < length a.senders → (z ≡ y → ⊥) → Outgoing own z p
+pub source_out : (x y own z per : ℕ) (a b : Broker) (f : Link) (back : List Packet) (p : Plan) → y < length a.senders → (z ≡ y → ⊥) → Outgoing own z p
     → Facts x y a b f back → AtSource x y per a b f back p
 source_out x y own z per a b f back p lt other o facts =
     source_aside x y per a b f back p lt
@@ -168,7 +168,7 @@ source_out x y own z per a b f back p lt other o facts =
       (each_map (OutgoingOut z) (λ (o : Out). ElsePeer y o.to) (λ o h. out_peer y z other o.to h) p.sent o.sent) facts
 
 -- what reaches a receiving side
-source_in : (x y z per : ℕ) (a b : Broker) (f : Link) (back : List Packet) (p : Plan) → y < length a.senders → Incoming z p
+pub source_in : (x y z per : ℕ) (a b : Broker) (f : Link) (back : List Packet) (p : Plan) → y < length a.senders → Incoming z p
     → Facts x y a b f back → AtSource x y per a b f back p
 source_in x y z per a b f back p lt i facts =
     source_aside x y per a b f back p lt
@@ -176,15 +176,15 @@ source_in x y z per a b f back p lt i facts =
       (each_map (IncomingChange z) (LeavesSender y) (in_change y z) p.changes i.changes)
       (each_map (IncomingOut z) (λ (o : Out). ElsePeer y o.to) (λ o h. in_peer y z o.to h) p.sent i.sent) facts
 
-source_again : (x y per : ℕ) (a b : Broker) (f : Link) (back : List Packet) → y < length a.senders → Facts x y a b f back → AtSource x y per a b f back restart
+pub source_again : (x y per : ℕ) (a b : Broker) (f : Link) (back : List Packet) → y < length a.senders → Facts x y a b f back → AtSource x y per a b f back restart
 unfolding restart
 source_again x y per a b f back lt facts = AtSource.Works (tt, tt) (λ stamp. facts_halted x y per 0 a b f back idle_plan lt tt facts)
 
-source_idle : (x y per : ℕ) (a b : Broker) (f : Link) (back : List Packet) → Facts x y a b f back → AtSource x y per a b f back idle_plan
+pub source_idle : (x y per : ℕ) (a b : Broker) (f : Link) (back : List Packet) → Facts x y a b f back → AtSource x y per a b f back idle_plan
 source_idle x y per a b f back facts = AtSource.Works tt (λ stamp. facts)
 
 -- the sender to y reads
-source_handled : (y per : ℕ) (h : Site) (a b : Broker) (f : Link) (back : List Packet) (i : ℕ) (e : Entry) (ws : List Write) (cs : List Change) → y < length a.senders
+pub source_handled : (y per : ℕ) (h : Site) (a b : Broker) (f : Link) (back : List Packet) (i : ℕ) (e : Entry) (ws : List Write) (cs : List Change) → y < length a.senders
     → ReadsNext h a y i e → is_outbound h y e ≡ false → Each (OkWrite h.own y a.entries b.entries) ws → Each (LeavesSender y) cs
     → Facts h.own y a b f back → AtSource h.own y per a b f back (handled y i ws cs)
 source_handled y per h a b f back i e ws cs lt next other ok leaves facts =
@@ -195,7 +195,7 @@ updates_ok : (x y : ℕ) (h : Site) (a : Broker) (far : List Entry) (v : Subscri
 updates_ok x y h a far v ws Updates.NoUpdate = tt
 updates_ok x y h a far v ws (Updates.Update cut replicated passed) = (tt, tt)
 
-source_reads : (y per : ℕ) (h : Site) (a b : Broker) (f : Link) (back : List Packet) (p : Plan) → y < length a.senders → Reads h a y p → Facts h.own y a b f back
+pub source_reads : (y per : ℕ) (h : Site) (a b : Broker) (f : Link) (back : List Packet) (p : Plan) → y < length a.senders → Reads h a y p → Facts h.own y a b f back
     → AtSource h.own y per a b f back p
 source_reads y per h a b f back p lt Reads.NothingToRead facts = source_idle h.own y per a b f back facts
 source_reads y per h a b f back p lt (Reads.Forwards i e next out) facts =
@@ -223,7 +223,7 @@ source_reads y per h a b f back p lt (Reads.PassesOver i j e n remote v ws next 
       (tt, updates_ok h.own y h a b.entries _ ws after) (tt, tt) facts
 
 -- the sender to y takes a receipt
-source_answered : (x y per : ℕ) (a b : Broker) (f : Link) (back : List Packet) (q : Packet) (p : Plan) → y < length a.senders → Stands back q
+pub source_answered : (x y per : ℕ) (a b : Broker) (f : Link) (back : List Packet) (q : Packet) (p : Plan) → y < length a.senders → Stands back q
     → Fated per a (λ c. Answered c y q) (quiet_plan []) p → Facts x y a b f back → AtSource x y per a b f back p
 source_answered x y per a b f back q p lt came t facts =
     let P : List Out → Type 0 = λ os. (stamp : ℕ) → Facts x y (done per a p) b (pushed y stamp f os) back in
