@@ -17,13 +17,13 @@ use Rattle.geo_base.specs.Setup.{Setup, declared_at, sub_name}
 use Rattle.geo_base.specs.World.{Back, Forward, LinkName, World, link_at, node, site, topic_at}
 use Rattle.world_laws.proofs.Effects.{Each, each_map}
 use Rattle.world_laws.proofs.EventWalk.{of_node, of_pair, of_target}
-use Rattle.world_laws.proofs.LinkFrames.{pushed}
+use Rattle.world_laws.proofs.LinkFrames.{TakesElse, pushed, same_node}
 use Rattle.world_laws.proofs.Members.{Stands}
 use Rattle.world_laws.proofs.Once.{OnceIn}
 use Rattle.world_laws.proofs.Packets.{Asks}
 use Rattle.world_laws.proofs.PairRoles.{AtSource, PairIn, source_again, source_answered, source_idle, source_in, source_out, source_reads}
 use Rattle.world_laws.proofs.Prefixes.{Begins, is_of}
-use Rattle.world_laws.proofs.Reach.{Incoming, IncomingChange, IncomingOut, IncomingWrite, Outgoing, OutgoingChange, OutgoingOut, OutgoingWrite, fated_in, fated_out, offers_out, reads_out, resets_out, seeks_out, served_out, snaps_out}
+use Rattle.world_laws.proofs.Reach.{Incoming, IncomingChange, IncomingOut, IncomingPeer, IncomingWrite, Outgoing, OutgoingChange, OutgoingOut, OutgoingPeer, OutgoingWrite, fated_in, fated_out, offers_out, reads_out, resets_out, seeks_out, served_out, snaps_out}
 use Rattle.world_laws.proofs.ReceiverSide.{Extends, LeavesSession, OfOther, others_extend}
 use Rattle.world_laws.proofs.SenderEvents.{reset_done, reset_halted}
 use Rattle.world_laws.proofs.SenderSide.{Facts, LeavesSender, OkWrite, facts_halted}
@@ -108,11 +108,21 @@ source_halts x y per k a b f back p lt (AtSource.Works ok does) facts = facts_ha
 source_halts x y per k a b f back p lt (AtSource.Resets h is) facts =
     let P : Plan → Type 0 = λ p. Facts x y (halted per a k p) b f back in subst P (sym is) (reset_halted x y per k h a b f back lt facts)
 
--- at the target: it stores of others alone and leaves the session, or it takes the next packet of the pair, or starts again
-pub data AtTarget (x : ℕ) (h : Site) (b : Broker) (f : Link) (p : Plan) : Type 0 where
-  Aside : Each (OfOther x) p.writes → Each (LeavesSession x) p.changes → AtTarget x h b f p
-  Takes : (q : Packet) → next_packet f ≡ Some q → Fated h.per_ledger b (λ c. Taken h c x q) (closes x) p → AtTarget x h b f p
-  Again : p ≡ restart → AtTarget x h b f p
+-- a packet that goes back on another link
+abbrev pub ElseBack : Setup → ℕ → ℕ → Peer → Type 0
+ElseBack s t i (peer.Back v) = node s t v ≡ i → ⊥
+ElseBack s t i to = Unit {0}
+
+-- at the target of a pair: it stores of others alone and leaves the session and both links, or it takes the next packet of the
+-- pair, or it starts again, or nothing happens
+pub data AtTarget (s : Setup) (w : World) (p : Planned) (x : ℕ) : Type 0 where
+  Aside : Each (OfOther x) p.plan.writes → Each (LeavesSession x) p.plan.changes → TakesElse (node s p.topic x) p.cluster p.takes
+    → Each (λ (o : Out). ElseBack s p.topic (node s p.topic x) o.to) p.plan.sent → AtTarget s w p x
+  Takes : (q : Packet) → next_packet (link_at w.links (Forward (node s p.topic x) p.cluster)) ≡ Some q
+    → Fated s.per_ledger (topic_at s w p.topic p.cluster) (λ b. Taken (site s p.topic p.cluster) b x q) (closes x) p.plan
+    → p.takes ≡ Some (Forward (node s p.topic x) p.cluster) → AtTarget s w p x
+  Again : p.plan ≡ restart → p.takes ≡ None → AtTarget s w p x
+  Nothing : p.plan ≡ idle_plan → AtTarget s w p x
 
 other_origin : (x z : ℕ) (e : Entry) → (z ≡ x → ⊥) → e.ident.origin ≡ z → is_of x e ≡ false
 other_origin x z e other is = by (e.ident.origin == x) refl
@@ -139,48 +149,68 @@ from_change x z other (change.Receiver v r) h = λ is. other (sym h ∙ is)
 from_change x z other change.Forget h = h
 from_change x z other c h = tt
 
-target_out : (x own z : ℕ) (h : Site) (b : Broker) (f : Link) (p : Plan) → (own ≡ x → ⊥) → Outgoing own z p → AtTarget x h b f p
-target_out x own z h b f p other o =
-    AtTarget.Aside (each_map (OutgoingWrite own z) (OfOther x) (own_write x own z other) p.writes o.writes)
-      (each_map (OutgoingChange z) (LeavesSession x) (own_change x z) p.changes o.changes)
+own_peer : (s : Setup) (t i z : ℕ) (to : Peer) → OutgoingPeer z to → ElseBack s t i to
+own_peer s t i z (peer.Back v) h = absurd h
+own_peer s t i z (peer.Forward v) h = tt
+own_peer s t i z (peer.Client c) h = tt
+own_peer s t i z (peer.Broker v) h = tt
 
-target_in : (x z : ℕ) (h : Site) (b : Broker) (f : Link) (p : Plan) → (z ≡ x → ⊥) → Incoming z p → AtTarget x h b f p
-target_in x z h b f p other i =
-    AtTarget.Aside (each_map (IncomingWrite z) (OfOther x) (from_write x z other) p.writes i.writes)
-      (each_map (IncomingChange z) (LeavesSession x) (from_change x z other) p.changes i.changes)
+from_peer : (s : Setup) (t i z : ℕ) → (node s t z ≡ i → ⊥) → (to : Peer) → IncomingPeer z to → ElseBack s t i to
+from_peer s t i z other (peer.Back v) h = λ is. other (ap (node s t) (sym h) ∙ is)
+from_peer s t i z other (peer.Forward v) h = tt
+from_peer s t i z other (peer.Client c) h = tt
+from_peer s t i z other (peer.Broker v) h = tt
 
-abbrev pub TargetOf : Setup → World → Planned → ℕ → Type 0
-TargetOf s w p x = AtTarget x (site s p.topic p.cluster) (topic_at s w p.topic p.cluster) (link_at w.links (Forward (node s p.topic x) p.cluster)) p.plan
+target_out : (s : Setup) (w : World) (p : Planned) (x z : ℕ) → (p.cluster ≡ x → ⊥) → Outgoing p.cluster z p.plan → TakesElse (node s p.topic x) p.cluster p.takes
+    → AtTarget s w p x
+target_out s w p x z other o takes =
+    AtTarget.Aside (each_map (OutgoingWrite p.cluster z) (OfOther x) (own_write x p.cluster z other) p.plan.writes o.writes)
+      (each_map (OutgoingChange z) (LeavesSession x) (own_change x z) p.plan.changes o.changes) takes
+      (each_map (OutgoingOut z) (λ (o : Out). ElseBack s p.topic (node s p.topic x) o.to) (λ o h. own_peer s p.topic (node s p.topic x) z o.to h) p.plan.sent o.sent)
 
-take_target : (s : Setup) (w : World) (t x y z : ℕ) (k : Option LinkName) (q : Packet) (plan : Plan) → (b : Bool) → (z == x) ≡ b
+take_target : (s : Setup) (w : World) (t x y z : ℕ) (q : Packet) (plan : Plan) → x < length s.clusters → z < length s.clusters → (b : Bool) → (z == x) ≡ b
     → next_packet (link_at w.links (Forward (node s t z) y)) ≡ Some q → Fated s.per_ledger (topic_at s w t y) (λ b. Taken (site s t y) b z q) (closes z) plan
-    → TargetOf s w (record { topic = t; cluster = y; takes = k; plan = plan }) x
-take_target s w t x y z k q plan true e next taken =
-    let Q : ℕ → Type 0 = λ n. TargetOf s w (record { topic = t; cluster = y; takes = k; plan = plan }) n in
-    subst Q (eqb-true z x e) (AtTarget.Takes q next taken)
-take_target s w t x y z k q plan false e next taken =
-    target_in x z (site s t y) _ _ plan (eqb-false z x e) (fated_in s.per_ledger (site s t y) (topic_at s w t y) z q plan taken)
+    → AtTarget s w (record { topic = t; cluster = y; takes = Some (Forward (node s t z) y); plan = plan }) x
+take_target s w t x y z q plan lt lt' true e next taken =
+    let p : Planned = record { topic = t; cluster = y; takes = Some (Forward (node s t z) y); plan = plan } in
+    let Q : ℕ → Type 0 = λ n. p.takes ≡ Some (Forward (node s t n) y) → AtTarget s w p n in
+    subst Q (eqb-true z x e) (λ is. AtTarget.Takes q next taken is) (ap (λ (n : ℕ). Some (Forward (node s t n) y)) (eqb-true z x e))
+take_target s w t x y z q plan lt lt' false e next taken =
+    let i = fated_in s.per_ledger (site s t y) (topic_at s w t y) z q plan taken in
+    let other : z ≡ x → ⊥ = eqb-false z x e in
+    let apart : node s t z ≡ node s t x → ⊥ = λ is. other (same_node s t t z x lt' lt is).1 in
+    AtTarget.Aside (each_map (IncomingWrite z) (OfOther x) (from_write x z other) plan.writes i.writes)
+      (each_map (IncomingChange z) (LeavesSession x) (from_change x z other) plan.changes i.changes) (λ is _. apart is)
+      (each_map (IncomingOut z) (λ (o : Out). ElseBack s t (node s t x) o.to) (λ o h. from_peer s t (node s t x) z apart o.to h) plan.sent i.sent)
 
-pub target_role : (s : Setup) (w : World) (p : Planned) → Shape s w p → (x : ℕ) → (p.cluster ≡ x → ⊥) → TargetOf s w p x
-target_role s w p (Shape.Idle t y within) x other = AtTarget.Aside tt tt
-target_role s w p (Shape.Empty t y k within next) x other = AtTarget.Aside tt tt
-target_role s w p (Shape.Serve y c q plan within next served) x other =
-    target_out x y y _ _ _ plan other (served_out (site s (declared_at s c).topic y) _ c q y plan served)
-target_role s w p (Shape.Drop y c v within at) x other = AtTarget.Aside tt (tt, (tt, tt))
-target_role s w p (Shape.Reset t y z within remote) x other = target_out x y z _ _ _ _ other (resets_out (site s t y) y z _)
-target_role s w p (Shape.Read t y z plan within reads) x other = target_out x y z _ _ _ plan other (reads_out (site s t y) _ z plan reads)
-target_role s w p (Shape.Take t z y q plan within next taken) x other = take_target s w t x y z (Some (Forward (node s t z) y)) q plan (z == x) refl next taken
-target_role s w p (Shape.Receipt t y z q plan within next answered) x other = target_out x y z _ _ _ plan other (fated_out s.per_ledger _ y z q plan answered)
-target_role s w p (Shape.Snap t y plan within snaps) x other = target_out x y y _ _ _ plan other (snaps_out (site s t y) _ y plan snaps)
-target_role s w p (Shape.Offer t y n plan within offers) x other = target_out x y y _ _ _ plan other (offers_out (site s t y) _ _ y plan offers)
-target_role s w p (Shape.Seek t y n to plan within seeks) x other = target_out x y y _ _ _ plan other (seeks_out (site s t y) _ _ to y plan seeks)
-target_role s w p (Shape.Restart t y within) x other = AtTarget.Again refl
+pub target_role : (s : Setup) (w : World) (p : Planned) → Shape s w p → (x : ℕ) → x < length s.clusters → (p.cluster ≡ x → ⊥) → AtTarget s w p x
+target_role s w p (Shape.Idle t y within) x lt other = AtTarget.Nothing refl
+target_role s w p (Shape.Empty t y k within next) x lt other = AtTarget.Nothing refl
+target_role s w p (Shape.Serve y c q plan within next served) x lt other =
+    target_out s w _ x y other (served_out (site s (declared_at s c).topic y) _ c q y plan served) tt
+target_role s w p (Shape.Drop y c v within at) x lt other = AtTarget.Aside tt (tt, (tt, tt)) tt tt
+target_role s w p (Shape.Reset t y z within remote) x lt other = target_out s w _ x z other (resets_out (site s t y) y z _) tt
+target_role s w p (Shape.Read t y z plan within reads) x lt other = target_out s w _ x z other (reads_out (site s t y) _ z plan reads) tt
+target_role s w p (Shape.Take t z y q plan within next taken) x lt other =
+    take_target s w t x y z q plan lt (ltb-true _ _ (of_node s t z (of_pair s t z y within))) (z == x) refl next taken
+target_role s w p (Shape.Receipt t y z q plan within next answered) x lt other =
+    target_out s w _ x z other (fated_out s.per_ledger _ y z q plan answered) tt
+target_role s w p (Shape.Snap t y plan within snaps) x lt other = target_out s w _ x y other (snaps_out (site s t y) _ y plan snaps) tt
+target_role s w p (Shape.Offer t y n plan within offers) x lt other = target_out s w _ x y other (offers_out (site s t y) _ _ y plan offers) tt
+target_role s w p (Shape.Seek t y n to plan within seeks) x lt other = target_out s w _ x y other (seeks_out (site s t y) _ _ to y plan seeks) tt
+target_role s w p (Shape.Restart t y within) x lt other = AtTarget.Again refl refl
 
 -- all that an event at the target appends leaves a beginning
-pub target_extends : (x y : ℕ) (h : Site) (a b : Broker) (f : Link) (back : List Packet) (p : Plan) → OnceIn a.entries → x < length b.receivers → AtTarget x h b f p
-    → Facts x y a b f back → Extends x y a.entries b.entries p.writes
+pub target_extends : (s : Setup) (w : World) (p : Planned) (x : ℕ) (a : Broker) (back : List Packet) → OnceIn a.entries
+    → x < length (topic_at s w p.topic p.cluster).receivers → AtTarget s w p x
+    → Facts x p.cluster a (topic_at s w p.topic p.cluster) (link_at w.links (Forward (node s p.topic x) p.cluster)) back
+    → Extends x p.cluster a.entries (topic_at s w p.topic p.cluster).entries p.plan.writes
 unfolding restart
-target_extends x y h a b f back p once lt (AtTarget.Aside others leaves) facts = others_extend x y a.entries b.entries p.writes others facts.carried.begins
-target_extends x y h a b f back p once lt (AtTarget.Takes q next taken) facts = fated_extends x y h a b f back q p once lt next taken facts
-target_extends x y h a b f back p once lt (AtTarget.Again is) facts =
-    let P : Plan → Type 0 = λ p. Extends x y a.entries b.entries p.writes in subst P (sym is) tt
+target_extends s w p x a back once lt (AtTarget.Aside others leaves takes sent) facts =
+    others_extend x p.cluster a.entries (topic_at s w p.topic p.cluster).entries p.plan.writes others facts.carried.begins
+target_extends s w p x a back once lt (AtTarget.Takes q next taken takes) facts =
+    fated_extends x p.cluster (site s p.topic p.cluster) a (topic_at s w p.topic p.cluster) (link_at w.links (Forward (node s p.topic x) p.cluster)) back q p.plan once lt next taken facts
+target_extends s w p x a back once lt (AtTarget.Again is takes) facts =
+    let P : Plan → Type 0 = λ q. Extends x p.cluster a.entries (topic_at s w p.topic p.cluster).entries q.writes in subst P (sym is) tt
+target_extends s w p x a back once lt (AtTarget.Nothing is) facts =
+    let P : Plan → Type 0 = λ q. Extends x p.cluster a.entries (topic_at s w p.topic p.cluster).entries q.writes in subst P (sym is) tt

@@ -13,7 +13,7 @@ use Rattle.world_laws.proofs.Types.write
 use Rattle.geo_base.specs.Broker.{Broker, Site, receiver_at, sender_at}
 use Rattle.geo_base.specs.Builder.{current_id}
 use Rattle.geo_base.specs.Forwarding.{closes, resets}
-use Rattle.geo_base.specs.Link.{Link, sent_on}
+use Rattle.geo_base.specs.Link.{Link, next_packet, sent_on}
 use Rattle.geo_base.specs.Markers.{request_marker, response_marker, snapshot_marker}
 use Rattle.geo_base.specs.Plan.{Plan, done, halted, idle_plan, quiet_plan}
 use Rattle.geo_base.specs.Planned.{Planned, has_pair}
@@ -44,15 +44,20 @@ abbrev pub NotForward : Option LinkName → Type 0
 NotForward (Some (Forward n y)) = ⊥
 NotForward k = Unit {0}
 
-pub data Reaches (s : Setup) (p : Planned) : Type 0 where
-  Outward : (z : ℕ) → Outgoing p.cluster z p.plan → NotForward p.takes → Reaches s p
-  Inward : (z : ℕ) → z < length s.clusters → Incoming z p.plan → p.takes ≡ Some (Forward (node s p.topic z) p.cluster) → Reaches s p
-  Empties : (k : Option LinkName) → p.plan ≡ idle_plan → Reaches s p
-  Again : p.plan ≡ restart → p.takes ≡ None → Reaches s p
+-- nothing comes from a link
+abbrev pub IsEmpty : World → Option LinkName → Type 0
+IsEmpty w None = Unit {0}
+IsEmpty w (Some k) = next_packet (link_at w.links k) ≡ None
 
-pub shape_reaches : (s : Setup) (w : World) (p : Planned) → Shape s w p → Reaches s p
-shape_reaches s w p (Shape.Idle t x within) = Reaches.Empties None refl
-shape_reaches s w p (Shape.Empty t x k within next) = Reaches.Empties (Some k) refl
+pub data Reaches (s : Setup) (w : World) (p : Planned) : Type 0 where
+  Outward : (z : ℕ) → Outgoing p.cluster z p.plan → NotForward p.takes → Reaches s w p
+  Inward : (z : ℕ) → z < length s.clusters → Incoming z p.plan → p.takes ≡ Some (Forward (node s p.topic z) p.cluster) → Reaches s w p
+  Empties : p.plan ≡ idle_plan → IsEmpty w p.takes → Reaches s w p
+  Again : p.plan ≡ restart → p.takes ≡ None → Reaches s w p
+
+pub shape_reaches : (s : Setup) (w : World) (p : Planned) → Shape s w p → Reaches s w p
+shape_reaches s w p (Shape.Idle t x within) = Reaches.Empties refl tt
+shape_reaches s w p (Shape.Empty t x k within next) = Reaches.Empties refl next
 shape_reaches s w p (Shape.Serve x c q plan within next served) = Reaches.Outward x (served_out (site s (declared_at s c).topic x) _ c q x plan served) tt
 shape_reaches s w p (Shape.Drop x c v within at) = Reaches.Outward x (record { writes = tt; changes = (tt, (tt, tt)); sent = tt }) tt
 shape_reaches s w p (Shape.Reset t x y within remote) = Reaches.Outward y (resets_out (site s t x) x y _) tt
