@@ -27,3 +27,4 @@ pub mod Reach
 pub mod LinkFrames
 pub mod PairRoles
 pub mod PairEvents
+pub mod Sizes
