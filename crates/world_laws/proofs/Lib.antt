@@ -28,3 +28,4 @@ pub mod LinkFrames
 pub mod PairRoles
 pub mod PairEvents
 pub mod Sizes
+pub mod Replication
