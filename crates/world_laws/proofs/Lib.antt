@@ -28,4 +28,5 @@ pub mod LinkFrames
 pub mod PairRoles
 pub mod PairEvents
 pub mod Sizes
+pub mod PairWorlds
 pub mod Replication

@@ -123,7 +123,7 @@ opening_once : (s : Setup) → AllOnce (opening_world s)
 opening_once s z =
     at_copies IsOnce (length s.topics * length s.clusters) z (new_broker (length s.clusters) (length s.clients)) no_broker empty_once empty_once
 
-once_kept : (s : Setup) → IsKept s AllOnce
+pub once_kept : (s : Setup) → IsKept s AllOnce
 once_kept s = record {
   opening = opening_once s;
   idle = λ w n once. once;
