@@ -1,6 +1,6 @@
 -- A sender's cursor: what it has after one more index, and what the next index to read tells.
 use Rattle.std.proofs.Common.{◌≡◌, ℕ, zero, suc, ◌+◌, ◌<◌, ◌≤◌, Bool, true, false, List, [], ◌∷◌, refl, sym, ap, ◌∙◌, ◌==◌, arith, inl, inr, ◌⊎◌}
-use Rattle.std.specs.Prelude.{Option, Some, None, if◌then◌else◌, ◌||◌, nat_lt}
+use Rattle.std.specs.Prelude.{Some, if◌then◌else◌, ◌||◌, nat_lt}
 use Rattle.std.proofs.lemmas.Bool.{eqb-true, eq-eqb, false≢true}
 use Rattle.std.proofs.lemmas.Bool.Decides.{nat_tests}
 use Rattle.std.proofs.lemmas.Option.{none-some, same_Some}
@@ -24,18 +24,18 @@ pub has_more : (set : List ℕ) (i j : ℕ) → has set j ≡ true → has (with
 has_more [] i j h = absurd (false≢true h)
 has_more (x ∷ xs) i j h =
     on_if (λ (l : List ℕ). has l j ≡ true) (nat_lt i x) (i ∷ x ∷ xs) _ (or_right (i == j) _ h)
-      (on_if (λ (l : List ℕ). has l j ≡ true) (x == i) (x ∷ xs) (x ∷ with_index xs i) h
-        (elim (either (x == j) (has xs j) h) [
-          | inl e ↦ or_left (x == j) _ e
-          | inr k ↦ or_right (x == j) _ (has_more xs i j k)
-        ]))
+    (on_if (λ (l : List ℕ). has l j ≡ true) (x == i) (x ∷ xs) (x ∷ with_index xs i) h
+    (elim (either (x == j) (has xs j) h) [
+      | inl e ↦ or_left (x == j) _ e
+      | inr k ↦ or_right (x == j) _ (has_more xs i j k)
+    ]))
 
 -- it is there
 pub has_it : (set : List ℕ) (i : ℕ) → has (with_index set i) i ≡ true
 has_it [] i = or_left (i == i) false (eq-eqb i i refl)
 has_it (x ∷ xs) i =
     on_if (λ (l : List ℕ). has l i ≡ true) (nat_lt i x) (i ∷ x ∷ xs) _ (or_left (i == i) _ (eq-eqb i i refl))
-      (on_test (λ (l : List ℕ). has l i ≡ true) (x == i) (x ∷ xs) (x ∷ with_index xs i) (λ e. or_left (x == i) _ e) (λ _. or_right (x == i) _ (has_it xs i)))
+    (on_test (λ (l : List ℕ). has l i ≡ true) (x == i) (x ∷ xs) (x ∷ with_index xs i) (λ e. or_left (x == i) _ e) (λ _. or_right (x == i) _ (has_it xs i)))
 
 -- and nothing else is new
 less_behind : (x i j : ℕ) (xs : List ℕ) → (has (with_index xs i) j ≡ true → (i ≡ j) ⊎ (has xs j ≡ true)) → has (x ∷ with_index xs i) j ≡ true

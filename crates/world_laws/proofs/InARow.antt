@@ -1,11 +1,11 @@
 -- Two plans in a row are done as one: the writes of the second do not look at what the changes of the first touch.
 use Rattle.std.proofs.Common.{◌≡◌, ℕ, zero, suc, List, [], ◌∷◌, ◌++◌, refl, sym, ap, subst, ◌∙◌}
-use Rattle.std.specs.Prelude.{Option, slice_set, slice_index_or}
-use Rattle.world_laws.proofs.Types.{Change, Entry, Packet, Write}
+use Rattle.std.specs.Prelude.{slice_set, slice_index_or}
+use Rattle.world_laws.proofs.Types.{Change, Packet, Write}
 use Rattle.world_laws.proofs.Types.change
 use Rattle.world_laws.proofs.Types.sender_state
 use Rattle.world_laws.proofs.Types.write
-use Rattle.geo_base.specs.Broker.{Broker, Site, at_sender, changed, sender_at, written}
+use Rattle.geo_base.specs.Broker.{Broker, Site, at_sender, changed, written}
 use Rattle.geo_base.specs.Cursor.{with_index}
 use Rattle.geo_base.specs.Plan.{Plan, all_changed, all_written, done}
 use Rattle.geo_base.specs.Sender.{Sender, new_sender, without_number}
@@ -80,7 +80,7 @@ taken_in_a_row per h b c x p q q' t t' d =
 -- receipt: the cursor of a sender, and its memory
 at_twice : (f g : Sender → Sender) → ((s : Sender) → f (g s) ≡ g (f s)) → (ss : List Sender) (z : ℕ)
     → slice_set (slice_set ss z (g (slice_index_or ss z new_sender))) z (f (slice_index_or (slice_set ss z (g (slice_index_or ss z new_sender))) z new_sender))
-      ≡ slice_set (slice_set ss z (f (slice_index_or ss z new_sender))) z (g (slice_index_or (slice_set ss z (f (slice_index_or ss z new_sender))) z new_sender))
+    ≡ slice_set (slice_set ss z (f (slice_index_or ss z new_sender))) z (g (slice_index_or (slice_set ss z (f (slice_index_or ss z new_sender))) z new_sender))
 at_twice f g h [] z = refl
 at_twice f g h (s ∷ ss) zero = ap (λ (t : Sender). t ∷ ss) (h s)
 at_twice f g h (s ∷ ss) (suc z) = ap (λ (l : List Sender). s ∷ l) (at_twice f g h ss z)

@@ -29,4 +29,5 @@ pub mod PairRoles
 pub mod PairEvents
 pub mod Sizes
 pub mod PairWorlds
-pub mod Replication
+pub mod PairMoments
+pub mod Pairs

@@ -1,7 +1,7 @@
 -- What sending and taking leave of the two links of a pair: the forward link from topic t at x to y, and its back link.
-use Rattle.std.proofs.Common.{◌≡◌, ℕ, zero, suc, ◌+◌, ◌*◌, ◌/◌, ◌<◌, ◌≤◌, Bool, true, false, List, [], ◌∷◌, ◌++◌, length, refl, sym, ap, subst, ◌∙◌, ◌==◌, arith}
-use Rattle.std.specs.Prelude.{Option, Some, None, if◌then◌else◌, min, nat_lt, slice_get, slice_set, slice_index_or}
-use Rattle.std.proofs.lemmas.Bool.{eqb-true, eq-eqb, ltb-true}
+use Rattle.std.proofs.Common.{◌≡◌, ℕ, ◌/◌, ◌<◌, Bool, true, false, List, [], ◌∷◌, length, refl, sym, ap, subst, ◌∙◌, ◌==◌, arith}
+use Rattle.std.specs.Prelude.{Option, Some, None, if◌then◌else◌, slice_set, slice_index_or}
+use Rattle.std.proofs.lemmas.Bool.{eqb-true, eq-eqb}
 use Rattle.std.proofs.lemmas.List.{length-set}
 use Rattle.std.proofs.lemmas.Nat.{div-mul-add}
 use Rattle.world_laws.proofs.Types.{Out, Packet, Peer}
@@ -41,7 +41,7 @@ pub with_cell_has : (m : List (List Link)) (i j : ℕ) (l : Link) (x y : ℕ) �
 with_cell_has m i j l x y h = record {
   row = let e = length-set m i (slice_set (slice_index_or m i []) j l) in omega (arith, e, h.row);
   column =
-    at_set (λ (r : List Link). y < length r) m i x (slice_set (slice_index_or m i []) j l) []
+      at_set (λ (r : List Link). y < length r) m i x (slice_set (slice_index_or m i []) j l) []
       (λ is. let e = length-set (slice_index_or m i []) j l in let P : ℕ → Type 0 = λ n. y < length (slice_index_or m n []) in let c = subst P (sym is) h.column in omega (arith, e, c))
       h.column;
 }
@@ -66,7 +66,7 @@ one_more m i v y p h = cell_in_row m i v y (sent_on (cell m i v) p) h ∙ by (v 
 
 forward_one : (s : Setup) (t x y stamp : ℕ) (o : Out) (to : Peer) (ls : Links) → HasCell ls.forward (node s t x) y
     → link_at (with_link ls (from_broker s t x to) (sent_on (link_at ls (from_broker s t x to)) (stamped stamp o))) (Forward (node s t x) y)
-      ≡ pushed_one y stamp o (link_at ls (Forward (node s t x) y)) to
+    ≡ pushed_one y stamp o (link_at ls (Forward (node s t x) y)) to
 forward_one s t x y stamp o (peer.Forward v) ls h = one_more ls.forward (node s t x) v y (stamped stamp o) h
 forward_one s t x y stamp o (peer.Broker v) ls h = one_more ls.forward (node s t x) v y (stamped stamp o) h
 forward_one s t x y stamp o (peer.Back v) ls h = refl
@@ -120,14 +120,14 @@ back_one s t x i y stamp P o (peer.Client c) ls may p = p
 back_one s t x i y stamp P o (peer.Back v) ls may p =
     let C : ℕ → ℕ → Type 0 = λ a b. P (cell ls.back a b) in
     cell_set P ls.back (node s t v) x (sent_on (cell ls.back (node s t v) x) (stamped stamp o)) i y
-      (λ h k. may h k (cell ls.back (node s t v) x) (subst (λ (a : ℕ). C a x) (sym h) (subst (C i) (sym k) p))) p
+    (λ h k. may h k (cell ls.back (node s t v) x) (subst (λ (a : ℕ). C a x) (sym h) (subst (C i) (sym k) p))) p
 
 pub back_sent : (s : Setup) (t x i y stamp : ℕ) (P : Link → Type 0) (os : List Out) (ls : Links) → Each (λ (o : Out). MayBack s t x i y P stamp o o.to) os
     → P (link_at ls (Back i y)) → P (link_at (delivered (from_broker s t x) stamp os ls) (Back i y))
 back_sent s t x i y stamp P [] ls may p = p
 back_sent s t x i y stamp P (o ∷ os) ls may p =
     back_sent s t x i y stamp P os (with_link ls (from_broker s t x o.to) (sent_on (link_at ls (from_broker s t x o.to)) (stamped stamp o))) may.1
-      (back_one s t x i y stamp P o o.to ls may.0 p)
+    (back_one s t x i y stamp P o o.to ls may.0 p)
 
 -- what a client sends leaves both
 client_one : (c : ℕ) (to : Peer) (l : Link) (ls : Links) → (with_link ls (from_client c to) l).forward ≡ ls.forward

@@ -1,11 +1,11 @@
 -- The packets of a link between clusters: which of them carry an entry, open a session, or are receipts.
-use Rattle.std.proofs.Common.{◌≡◌, ℕ, zero, suc, ◌+◌, ◌<◌, Bool, true, false, List, [], ◌∷◌, ◌++◌, length, refl, sym, ap, subst, ◌∙◌, arith, inl, inr, ◌⊎◌}
-use Rattle.std.specs.Prelude.{Option, Some, None, slice_get}
+use Rattle.std.proofs.Common.{◌≡◌, ℕ, zero, ◌<◌, Bool, true, false, List, [], ◌∷◌, ◌++◌, length, sym, ap, subst, ◌∙◌, inl, inr, ◌⊎◌}
+use Rattle.std.specs.Prelude.{Option, Some, slice_get}
 use Rattle.std.proofs.lemmas.Bool.{false≢true}
 use Rattle.std.proofs.lemmas.Option.{same_Some}
 use Rattle.world_laws.proofs.Types.{Entry, Frame, Packet, Place, Position}
 use Rattle.world_laws.proofs.Types.frame
-use Rattle.world_laws.proofs.Members.{get_last, get_left}
+use Rattle.world_laws.proofs.Members.{get_left}
 use Rattle.world_laws.proofs.Once.{get_push}
 
 -- a packet carries an entry, in session m under number k
@@ -92,7 +92,6 @@ sent_left sent more m e s = record { place = s.place; number = s.number; send = 
 
 pub before_left : (sent more : List Packet) (q m : ℕ) (e : Entry) → WasSentBefore sent q m e → WasSentBefore (sent ++ more) q m e
 before_left sent more q m e s = record { place = s.place; number = s.number; before = s.before; send = send_left sent more s.place m s.number e s.send }
-
 
 -- what stands on a link with one more packet stood there, or is that packet
 pub last_send : (sent : List Packet) (p : Packet) (q m k : ℕ) (e : Entry) → IsSend (sent ++ p ∷ []) q m k e

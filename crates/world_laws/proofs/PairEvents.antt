@@ -1,32 +1,32 @@
 -- The parts that an event has at the source and at the target of a pair of its topic.
-use Rattle.std.proofs.Common.{◌≡◌, ℕ, zero, suc, ◌+◌, ◌*◌, ◌<◌, ◌≤◌, Bool, true, false, List, [], ◌∷◌, ◌++◌, length, refl, sym, ap, subst, ◌∙◌, ◌==◌, arith, inl, inr, ◌⊎◌}
-use Rattle.std.specs.Prelude.{Option, Some, None, if◌then◌else◌, slice_get}
-use Rattle.std.proofs.lemmas.Bool.{eqb-true, eq-eqb, eqb-false, false≢true, ltb-true}
+use Rattle.std.proofs.Common.{◌≡◌, ℕ, ◌+◌, ◌<◌, Bool, true, false, List, [], length, refl, sym, ap, subst, ◌∙◌, ◌==◌}
+use Rattle.std.specs.Prelude.{Option, Some, None, if◌then◌else◌}
+use Rattle.std.proofs.lemmas.Bool.{eqb-true, eq-eqb, eqb-false, ltb-true}
 use Rattle.world_laws.proofs.Types.{Change, Entry, Out, Packet, Peer, Write}
 use Rattle.world_laws.proofs.Types.change
 use Rattle.world_laws.proofs.Types.frame
 use Rattle.world_laws.proofs.Types.peer
 use Rattle.world_laws.proofs.Types.write
-use Rattle.geo_base.specs.Broker.{Broker, Site, receiver_at, sender_at}
+use Rattle.geo_base.specs.Broker.{Broker, sender_at}
 use Rattle.geo_base.specs.Forwarding.{closes, link_producer, resets}
 use Rattle.geo_base.specs.Link.{Link, next_packet, sent_on}
 use Rattle.geo_base.specs.Plan.{Plan, done, halted, idle_plan, quiet_plan}
-use Rattle.geo_base.specs.Planned.{Planned, has_pair}
+use Rattle.geo_base.specs.Planned.{Planned}
 use Rattle.geo_base.specs.Seeking.{restart}
-use Rattle.geo_base.specs.Setup.{Setup, declared_at, sub_name}
+use Rattle.geo_base.specs.Setup.{Setup, declared_at}
 use Rattle.geo_base.specs.World.{Back, Forward, LinkName, World, link_at, node, site, topic_at}
 use Rattle.world_laws.proofs.Effects.{Each, each_map}
-use Rattle.world_laws.proofs.EventWalk.{of_node, of_pair, of_target}
+use Rattle.world_laws.proofs.EventWalk.{of_node, of_pair}
 use Rattle.world_laws.proofs.LinkFrames.{TakesElse, pushed, same_node}
 use Rattle.world_laws.proofs.Members.{Stands}
 use Rattle.world_laws.proofs.Once.{OnceIn}
 use Rattle.world_laws.proofs.Packets.{Asks}
 use Rattle.world_laws.proofs.PairRoles.{AtSource, PairIn, source_again, source_answered, source_idle, source_in, source_out, source_reads}
-use Rattle.world_laws.proofs.Prefixes.{Begins, is_of}
-use Rattle.world_laws.proofs.Reach.{Incoming, IncomingChange, IncomingOut, IncomingPeer, IncomingWrite, Outgoing, OutgoingChange, OutgoingOut, OutgoingPeer, OutgoingWrite, fated_in, fated_out, offers_out, reads_out, resets_out, seeks_out, served_out, snaps_out}
+use Rattle.world_laws.proofs.Prefixes.{is_of}
+use Rattle.world_laws.proofs.Reach.{IncomingChange, IncomingOut, IncomingPeer, IncomingWrite, Outgoing, OutgoingChange, OutgoingOut, OutgoingPeer, OutgoingWrite, fated_in, fated_out, offers_out, reads_out, resets_out, seeks_out, served_out, snaps_out}
 use Rattle.world_laws.proofs.ReceiverSide.{Extends, LeavesSession, OfOther, others_extend}
 use Rattle.world_laws.proofs.SenderEvents.{reset_done, reset_halted}
-use Rattle.world_laws.proofs.SenderSide.{Facts, LeavesSender, OkWrite, facts_halted}
+use Rattle.world_laws.proofs.SenderSide.{Facts, facts_halted}
 use Rattle.world_laws.proofs.Shapes.{Answered, Fated, Reads, Shape, Taken}
 use Rattle.world_laws.proofs.TakeEvents.{fated_extends}
 
@@ -34,7 +34,7 @@ use Rattle.world_laws.proofs.TakeEvents.{fated_extends}
 abbrev pub SourceOf : Setup → World → Planned → ℕ → Type 0
 SourceOf s w p y =
     AtSource p.cluster y s.per_ledger (topic_at s w p.topic p.cluster) (topic_at s w p.topic y) (link_at w.links (Forward (node s p.topic p.cluster) y))
-      (link_at w.links (Back (node s p.topic p.cluster) y)).sent p.plan
+    (link_at w.links (Back (node s p.topic p.cluster) y)).sent p.plan
 
 abbrev HasSender : Setup → World → Planned → ℕ → Type 0
 HasSender s w p y = y < length (topic_at s w p.topic p.cluster).senders
@@ -46,7 +46,7 @@ reset_source s w t x y z k true e lt facts =
     AtSource.Resets (site s t x) (ap (λ (n : ℕ). resets (site s t x) n ((sender_at (topic_at s w t x) n).session + 1)) (eqb-true z y e))
 reset_source s w t x y z k false e lt facts =
     source_out x y x z s.per_ledger (topic_at s w t x) (topic_at s w t y) (link_at w.links (Forward (node s t x) y)) (link_at w.links (Back (node s t x) y)).sent _ lt
-      (eqb-false z y e) (resets_out (site s t x) x z _) facts
+    (eqb-false z y e) (resets_out (site s t x) x z _) facts
 
 read_source : (s : Setup) (w : World) (t x y z : ℕ) (plan : Plan) → (b : Bool) → (z == y) ≡ b → Reads (site s t x) (topic_at s w t x) z plan
     → y < length (topic_at s w t x).senders → PairIn s w t x y → SourceOf s w (record { topic = t; cluster = x; takes = None; plan = plan }) y
@@ -55,7 +55,7 @@ read_source s w t x y z plan true e reads =
     subst Q (eqb-true z y e) (λ lt facts. source_reads z s.per_ledger (site s t x) _ _ _ _ plan lt reads facts)
 read_source s w t x y z plan false e reads = λ lt facts.
     source_out x y x z s.per_ledger (topic_at s w t x) (topic_at s w t y) (link_at w.links (Forward (node s t x) y)) (link_at w.links (Back (node s t x) y)).sent plan lt
-      (eqb-false z y e) (reads_out (site s t x) (topic_at s w t x) z plan reads) facts
+    (eqb-false z y e) (reads_out (site s t x) (topic_at s w t x) z plan reads) facts
 
 receipt_source : (s : Setup) (w : World) (t x y z : ℕ) (k : Option LinkName) (q : Packet) (plan : Plan) → (b : Bool) → (z == y) ≡ b
     → next_packet (link_at w.links (Back (node s t x) z)) ≡ Some q → Fated s.per_ledger (topic_at s w t x) (λ b. Answered b z q) (quiet_plan []) plan
@@ -67,7 +67,7 @@ receipt_source s w t x y z k q plan true e next answered =
     subst Q (eqb-true z y e) (λ lt facts. source_answered x z s.per_ledger _ _ _ _ q plan lt came answered facts)
 receipt_source s w t x y z k q plan false e next answered = λ lt facts.
     source_out x y x z s.per_ledger (topic_at s w t x) (topic_at s w t y) (link_at w.links (Forward (node s t x) y)) (link_at w.links (Back (node s t x) y)).sent plan lt
-      (eqb-false z y e) (fated_out s.per_ledger (topic_at s w t x) x z q plan answered) facts
+    (eqb-false z y e) (fated_out s.per_ledger (topic_at s w t x) x z q plan answered) facts
 
 pub source_role : (s : Setup) (w : World) (p : Planned) → Shape s w p → (y : ℕ) → (p.cluster ≡ y → ⊥) → HasSender s w p y → PairIn s w p.topic p.cluster y
     → SourceOf s w p y
@@ -117,10 +117,10 @@ ElseBack s t i to = Unit {0}
 -- pair, or it starts again, or nothing happens
 pub data AtTarget (s : Setup) (w : World) (p : Planned) (x : ℕ) : Type 0 where
   Aside : Each (OfOther x) p.plan.writes → Each (LeavesSession x) p.plan.changes → TakesElse (node s p.topic x) p.cluster p.takes
-    → Each (λ (o : Out). ElseBack s p.topic (node s p.topic x) o.to) p.plan.sent → AtTarget s w p x
+      → Each (λ (o : Out). ElseBack s p.topic (node s p.topic x) o.to) p.plan.sent → AtTarget s w p x
   Takes : (q : Packet) → next_packet (link_at w.links (Forward (node s p.topic x) p.cluster)) ≡ Some q
-    → Fated s.per_ledger (topic_at s w p.topic p.cluster) (λ b. Taken (site s p.topic p.cluster) b x q) (closes x) p.plan
-    → p.takes ≡ Some (Forward (node s p.topic x) p.cluster) → AtTarget s w p x
+      → Fated s.per_ledger (topic_at s w p.topic p.cluster) (λ b. Taken (site s p.topic p.cluster) b x q) (closes x) p.plan
+      → p.takes ≡ Some (Forward (node s p.topic x) p.cluster) → AtTarget s w p x
   Again : p.plan ≡ restart → p.takes ≡ None → AtTarget s w p x
   Nothing : p.plan ≡ idle_plan → AtTarget s w p x
 
@@ -165,8 +165,8 @@ target_out : (s : Setup) (w : World) (p : Planned) (x z : ℕ) → (p.cluster �
     → AtTarget s w p x
 target_out s w p x z other o takes =
     AtTarget.Aside (each_map (OutgoingWrite p.cluster z) (OfOther x) (own_write x p.cluster z other) p.plan.writes o.writes)
-      (each_map (OutgoingChange z) (LeavesSession x) (own_change x z) p.plan.changes o.changes) takes
-      (each_map (OutgoingOut z) (λ (o : Out). ElseBack s p.topic (node s p.topic x) o.to) (λ o h. own_peer s p.topic (node s p.topic x) z o.to h) p.plan.sent o.sent)
+    (each_map (OutgoingChange z) (LeavesSession x) (own_change x z) p.plan.changes o.changes) takes
+    (each_map (OutgoingOut z) (λ (o : Out). ElseBack s p.topic (node s p.topic x) o.to) (λ o h. own_peer s p.topic (node s p.topic x) z o.to h) p.plan.sent o.sent)
 
 take_target : (s : Setup) (w : World) (t x y z : ℕ) (q : Packet) (plan : Plan) → x < length s.clusters → z < length s.clusters → (b : Bool) → (z == x) ≡ b
     → next_packet (link_at w.links (Forward (node s t z) y)) ≡ Some q → Fated s.per_ledger (topic_at s w t y) (λ b. Taken (site s t y) b z q) (closes z) plan
@@ -180,8 +180,8 @@ take_target s w t x y z q plan lt lt' false e next taken =
     let other : z ≡ x → ⊥ = eqb-false z x e in
     let apart : node s t z ≡ node s t x → ⊥ = λ is. other (same_node s t t z x lt' lt is).1 in
     AtTarget.Aside (each_map (IncomingWrite z) (OfOther x) (from_write x z other) plan.writes i.writes)
-      (each_map (IncomingChange z) (LeavesSession x) (from_change x z other) plan.changes i.changes) (λ is _. apart is)
-      (each_map (IncomingOut z) (λ (o : Out). ElseBack s t (node s t x) o.to) (λ o h. from_peer s t (node s t x) z apart o.to h) plan.sent i.sent)
+    (each_map (IncomingChange z) (LeavesSession x) (from_change x z other) plan.changes i.changes) (λ is _. apart is)
+    (each_map (IncomingOut z) (λ (o : Out). ElseBack s t (node s t x) o.to) (λ o h. from_peer s t (node s t x) z apart o.to h) plan.sent i.sent)
 
 pub target_role : (s : Setup) (w : World) (p : Planned) → Shape s w p → (x : ℕ) → x < length s.clusters → (p.cluster ≡ x → ⊥) → AtTarget s w p x
 target_role s w p (Shape.Idle t y within) x lt other = AtTarget.Nothing refl

@@ -1,16 +1,16 @@
 -- The facts of a pair of clusters, over six values: near is the topic at x and far the one at y; the sender at x and its
 -- cursor; the session that is open at y; the packets sent on the forward link with how many were taken, and those on the
 -- back link. Each record of facts says what every event keeps of it.
-use Rattle.std.proofs.Common.{◌≡◌, ℕ, zero, suc, ◌+◌, ◌<◌, ◌≤◌, ◌≢◌, Bool, true, false, List, [], ◌∷◌, ◌++◌, length, refl, sym, ap, subst, ◌∙◌, arith, inl, inr, ◌⊎◌, length-append}
+use Rattle.std.proofs.Common.{◌≡◌, ℕ, ◌<◌, ◌≤◌, true, List, [], ◌∷◌, ◌++◌, length, sym, ap, subst, ◌∙◌, arith, inl, inr, ◌⊎◌, length-append}
 use Rattle.std.proofs.lemmas.List.{append-nil}
 use Rattle.std.specs.Prelude.{Option, Some, None, slice_get}
 use Rattle.std.proofs.lemmas.Option.{none-some, slice_get_within}
-use Rattle.world_laws.proofs.Types.{Entry, Packet, Pending, SenderState}
+use Rattle.world_laws.proofs.Types.{Entry, Packet, Pending}
 use Rattle.world_laws.proofs.Types.sender_state
 use Rattle.geo_base.specs.Cursor.{has}
 use Rattle.geo_base.specs.Sender.{Sender}
 use Rattle.world_laws.proofs.Members.{Stands, get_left, get_within}
-use Rattle.world_laws.proofs.Packets.{Carries, IsOpener, IsReceipt, IsSend, Receives, WasSent, WasSentBefore, before_left, last_receipt, last_send, send_left, sent_left}
+use Rattle.world_laws.proofs.Packets.{Carries, IsOpener, IsReceipt, IsSend, Receives, WasSent, WasSentBefore, before_left, last_receipt, last_send, send_left}
 use Rattle.world_laws.proofs.Prefixes.{Begins, is_out, near_grows}
 
 -- where a SEND's entry stands at x, and that all before it which is for y is in the cursor or was sent before in its session
@@ -105,10 +105,10 @@ placed_grew x y near far cursor near' cursor' sent q m e g p = record {
   at = grows_get near near' g.entries p.index e p.at;
   out = p.out;
   before = λ j f lt at out.
-    elim (p.before j f lt (grows_within near near' g.entries j f (omega (arith, lt, slice_get_within near p.index e p.at)) at) out) [
-      | inl h ↦ inl (g.keeps j h)
-      | inr s ↦ inr s
-    ];
+      elim (p.before j f lt (grows_within near near' g.entries j f (omega (arith, lt, slice_get_within near p.index e p.at)) at) out) [
+        | inl h ↦ inl (g.keeps j h)
+        | inr s ↦ inr s
+      ];
 }
 
 pub carried_grew : (x y : ℕ) (near far : List Entry) (cursor : List ℕ) (near' : List Entry) (cursor' : List ℕ) (sent back : List Packet)
@@ -116,15 +116,15 @@ pub carried_grew : (x y : ℕ) (near far : List Entry) (cursor : List ℕ) (near
 carried_grew x y near far cursor near' cursor' sent back g c = record {
   begins = grows_begins x y near near' far g.entries c.begins;
   received = λ i e h at out.
-    elim (g.gains i h) [
-      | inl k ↦ c.received i e k (grows_within near near' g.entries i e (c.within i k) at) out
-      | inr may ↦ may.stands e (grows_within near near' g.entries i e may.within at) out
-    ];
+      elim (g.gains i h) [
+        | inl k ↦ c.received i e k (grows_within near near' g.entries i e (c.within i k) at) out
+        | inr may ↦ may.stands e (grows_within near near' g.entries i e may.within at) out
+      ];
   within = λ i h.
-    elim (g.gains i h) [
-      | inl k ↦ omega (arith, c.within i k, grows_length near near' g.entries)
-      | inr may ↦ omega (arith, may.within, grows_length near near' g.entries)
-    ];
+      elim (g.gains i h) [
+        | inl k ↦ omega (arith, c.within i k, grows_length near near' g.entries)
+        | inr may ↦ omega (arith, may.within, grows_length near near' g.entries)
+      ];
   sends = λ q m k e s. placed_grew x y near far cursor near' cursor' sent q m e g (c.sends q m k e s);
   receipts = c.receipts;
 }
@@ -160,18 +160,18 @@ carried_sent x y near cursor far sent back p may c = record {
   received = c.received;
   within = c.within;
   sends = λ q m k e s.
-    elim (last_send sent p q m k e s) [
-      | inl h ↦
-        let n = c.sends q m k e h in
-        record {
-          index = n.index;
-          at = n.at;
-          out = n.out;
-          before = λ j f lt at out. elim (n.before j f lt at out) [ inl i ↦ inl i | inr w ↦ inr (before_left sent (p ∷ []) q m f w) ];
-        }
-      | inr h ↦
-        let P : ℕ → Type 0 = λ n. IsPlaced x y near cursor (sent ++ p ∷ []) n m e in subst P (sym h.0) (may m k e h.1)
-    ];
+      elim (last_send sent p q m k e s) [
+        | inl h ↦
+            let n = c.sends q m k e h in
+            record {
+              index = n.index;
+              at = n.at;
+              out = n.out;
+              before = λ j f lt at out. elim (n.before j f lt at out) [ inl i ↦ inl i | inr w ↦ inr (before_left sent (p ∷ []) q m f w) ];
+            }
+        | inr h ↦
+            let P : ℕ → Type 0 = λ n. IsPlaced x y near cursor (sent ++ p ∷ []) n m e in subst P (sym h.0) (may m k e h.1)
+      ];
   receipts = λ a m k r.
-    let n = c.receipts a m k r in record { place = n.place; entry = n.entry; send = send_left sent (p ∷ []) n.place m k n.entry n.send; stands = n.stands };
+      let n = c.receipts a m k r in record { place = n.place; entry = n.entry; send = send_left sent (p ∷ []) n.place m k n.entry n.send; stands = n.stands };
 }

@@ -1,8 +1,8 @@
 -- The part that an event has in a pair, by its shape: at the source it may write and turn the sender, at the target it may store
 -- and turn the session, and most events of either do neither.
-use Rattle.std.proofs.Common.{◌≡◌, ℕ, zero, suc, ◌+◌, ◌*◌, ◌<◌, ◌≤◌, Bool, true, false, List, [], ◌∷◌, ◌++◌, length, refl, sym, ap, subst, ◌∙◌, ◌==◌, arith, inl, inr, ◌⊎◌}
-use Rattle.std.specs.Prelude.{Option, Some, None, if◌then◌else◌, ◌&&◌, nat_lt, slice_get}
-use Rattle.std.proofs.lemmas.Bool.{eqb-true, eq-eqb, false≢true, ltb-true}
+use Rattle.std.proofs.Common.{◌≡◌, ℕ, ◌+◌, ◌<◌, Bool, true, false, List, [], ◌∷◌, length, refl, sym, ap, subst, ◌∙◌, ◌==◌}
+use Rattle.std.specs.Prelude.{Option, Some, None, if◌then◌else◌}
+use Rattle.std.proofs.lemmas.Bool.{eqb-true, eq-eqb, ltb-true}
 use Rattle.world_laws.proofs.Types.{Change, Entry, Out, Packet, Peer, Write}
 use Rattle.world_laws.proofs.Types.change
 use Rattle.world_laws.proofs.Types.frame
@@ -10,29 +10,27 @@ use Rattle.world_laws.proofs.Types.peer
 use Rattle.world_laws.proofs.Types.place
 use Rattle.world_laws.proofs.Types.sub_kind
 use Rattle.world_laws.proofs.Types.write
-use Rattle.geo_base.specs.Broker.{Broker, Site, receiver_at, sender_at}
+use Rattle.geo_base.specs.Broker.{Broker, Site, sender_at}
 use Rattle.geo_base.specs.Builder.{current_id}
-use Rattle.geo_base.specs.Forwarding.{closes, resets}
+use Rattle.geo_base.specs.Forwarding.{resets}
 use Rattle.geo_base.specs.Link.{Link, next_packet, sent_on}
 use Rattle.geo_base.specs.Markers.{request_marker, response_marker, snapshot_marker}
-use Rattle.geo_base.specs.Plan.{Plan, done, halted, idle_plan, quiet_plan}
-use Rattle.geo_base.specs.Planned.{Planned, has_pair}
+use Rattle.geo_base.specs.Plan.{Plan, done, idle_plan, quiet_plan}
+use Rattle.geo_base.specs.Planned.{Planned}
 use Rattle.geo_base.specs.Reading.{forwards}
 use Rattle.geo_base.specs.Seeking.{restart}
-use Rattle.geo_base.specs.Setup.{Setup, declared_at, sub_name}
+use Rattle.geo_base.specs.Setup.{Setup, declared_at}
 use Rattle.geo_base.specs.Subscription.{Subscription}
 use Rattle.geo_base.specs.Updating.{handled, passed_over}
-use Rattle.geo_base.specs.World.{Back, Forward, LinkName, ToBroker, ToClient, World, link_at, node, site, stamped, topic_at}
+use Rattle.geo_base.specs.World.{Back, Forward, LinkName, World, link_at, node, site, stamped, topic_at}
 use Rattle.world_laws.proofs.Effects.{Each, each_map}
 use Rattle.world_laws.proofs.EventWalk.{of_node, of_pair, of_target}
 use Rattle.world_laws.proofs.LinkFrames.{pushed, pushed_one}
 use Rattle.world_laws.proofs.Members.{Stands}
-use Rattle.world_laws.proofs.Prefixes.{is_of, is_out}
 use Rattle.world_laws.proofs.Reach.{Incoming, IncomingChange, IncomingOut, IncomingPeer, OutgoingPeer, IncomingWrite, Outgoing, OutgoingChange, OutgoingOut, OutgoingWrite, fated_in, fated_out, fated_quiet, offers_out, reads_out, resets_out, seeks_out, served_out, snaps_out}
-use Rattle.world_laws.proofs.ReceiverSide.{LeavesSession, OfOther}
 use Rattle.world_laws.proofs.SenderEvents.{answered_done, fated_ok, forwards_done, handled_done, handled_ok}
 use Rattle.world_laws.proofs.SenderSide.{Facts, LeavesSender, OkWrite, facts_aside, facts_halted}
-use Rattle.world_laws.proofs.Shapes.{Answered, Fated, Reads, ReadsNext, Shape, Taken, Updates, is_outbound}
+use Rattle.world_laws.proofs.Shapes.{Answered, Fated, Reads, ReadsNext, Shape, Updates, is_outbound}
 
 -- the facts of a pair in a world
 abbrev pub PairIn : Setup → World → ℕ → ℕ → ℕ → Type 0
@@ -168,18 +166,18 @@ pub source_out : (x y own z per : ℕ) (a b : Broker) (f : Link) (back : List Pa
     → Facts x y a b f back → AtSource x y per a b f back p
 source_out x y own z per a b f back p lt other o facts =
     source_aside x y per a b f back p lt
-      (each_map (OutgoingWrite own z) (OkWrite x y a.entries b.entries) (out_write x y own z a.entries b.entries other) p.writes o.writes)
-      (each_map (OutgoingChange z) (LeavesSender y) (out_change y z other) p.changes o.changes)
-      (each_map (OutgoingOut z) (λ (o : Out). ElsePeer y o.to) (λ o h. out_peer y z other o.to h) p.sent o.sent) facts
+    (each_map (OutgoingWrite own z) (OkWrite x y a.entries b.entries) (out_write x y own z a.entries b.entries other) p.writes o.writes)
+    (each_map (OutgoingChange z) (LeavesSender y) (out_change y z other) p.changes o.changes)
+    (each_map (OutgoingOut z) (λ (o : Out). ElsePeer y o.to) (λ o h. out_peer y z other o.to h) p.sent o.sent) facts
 
 -- what reaches a receiving side
 pub source_in : (x y z per : ℕ) (a b : Broker) (f : Link) (back : List Packet) (p : Plan) → y < length a.senders → Incoming z p
     → Facts x y a b f back → AtSource x y per a b f back p
 source_in x y z per a b f back p lt i facts =
     source_aside x y per a b f back p lt
-      (each_map (IncomingWrite z) (OkWrite x y a.entries b.entries) (in_write x y z a.entries b.entries) p.writes i.writes)
-      (each_map (IncomingChange z) (LeavesSender y) (in_change y z) p.changes i.changes)
-      (each_map (IncomingOut z) (λ (o : Out). ElsePeer y o.to) (λ o h. in_peer y z o.to h) p.sent i.sent) facts
+    (each_map (IncomingWrite z) (OkWrite x y a.entries b.entries) (in_write x y z a.entries b.entries) p.writes i.writes)
+    (each_map (IncomingChange z) (LeavesSender y) (in_change y z) p.changes i.changes)
+    (each_map (IncomingOut z) (λ (o : Out). ElsePeer y o.to) (λ o h. in_peer y z o.to h) p.sent i.sent) facts
 
 pub source_again : (x y per : ℕ) (a b : Broker) (f : Link) (back : List Packet) → y < length a.senders → Facts x y a b f back → AtSource x y per a b f back restart
 unfolding restart
@@ -194,7 +192,7 @@ pub source_handled : (y per : ℕ) (h : Site) (a b : Broker) (f : Link) (back : 
     → Facts h.own y a b f back → AtSource h.own y per a b f back (handled y i ws cs)
 source_handled y per h a b f back i e ws cs lt next other ok leaves facts =
     AtSource.Works (handled_ok h.own y h a b.entries i e ws cs next other ok)
-      (λ stamp. handled_done h.own y per h a b f back i e ws cs lt next other ok leaves facts)
+    (λ stamp. handled_done h.own y per h a b f back i e ws cs lt next other ok leaves facts)
 
 updates_ok : (x y : ℕ) (h : Site) (a : Broker) (far : List Entry) (v : Subscription) (ws : List Write) → Updates h a v ws → Each (OkWrite x y a.entries far) ws
 updates_ok x y h a far v ws Updates.NoUpdate = tt
@@ -207,10 +205,10 @@ source_reads y per h a b f back p lt (Reads.Forwards i e next out) facts =
     let s = sender_at a y in
     let P : Link → Type 0 = λ l. Facts h.own y (done per a (forwards h y s i e)) b l back in
     AtSource.Works tt
-      (λ stamp.
-        let q : Packet = record { session = s.session; stamp = stamp; frame = frame.Send s.session s.next (Some (place.Known h.own)) e } in
-        subst P (sym (ap (λ (t : Bool). if t then sent_on f q else f) (eq-eqb y y refl)))
-          (forwards_done h.own y per h a b f back i e q lt next out (record { session = refl; id = s.session; source = Some (place.Known h.own); is = refl }) facts))
+    (λ stamp.
+    let q : Packet = record { session = s.session; stamp = stamp; frame = frame.Send s.session s.next (Some (place.Known h.own)) e } in
+    subst P (sym (ap (λ (t : Bool). if t then sent_on f q else f) (eq-eqb y y refl)))
+    (forwards_done h.own y per h a b f back i e q lt next out (record { session = refl; id = s.session; source = Some (place.Known h.own); is = refl }) facts))
 source_reads y per h a b f back p lt (Reads.Skips i e next other) facts = source_handled y per h a b f back i e [] [] lt next other tt tt facts
 source_reads y per h a b f back p lt (Reads.Responds i e id source next of is) facts =
     source_handled y per h a b f back i e (write.Append (response_marker h a y id) ∷ []) [] lt next of.0 (tt, tt) tt facts
@@ -222,10 +220,10 @@ source_reads y per h a b f back p lt (Reads.Completes i e id answer u u' next is
     source_handled y per h a b f back i e (write.Append (snapshot_marker h a u') ∷ []) (change.Building None ∷ []) lt next is.0.0 (tt, tt) (tt, tt) facts
 source_reads y per h a b f back p lt (Reads.CreatesAt i j e n remote next is named) facts =
     source_handled y per h a b f back i e (write.Create n sub_kind.Exclusive true false ∷ write.Acks n (passed_over y 0 (j + 1) a.entries) ∷ [])
-      (change.Acked n ∷ []) lt next is.0.0 (tt, (tt, tt)) (tt, tt) facts
+    (change.Acked n ∷ []) lt next is.0.0 (tt, (tt, tt)) (tt, tt) facts
 source_reads y per h a b f back p lt (Reads.PassesOver i j e n remote v ws next is named after) facts =
     source_handled y per h a b f back i e (write.Acks n (passed_over y 0 (j + 1) a.entries) ∷ ws) (change.Acked n ∷ []) lt next is.0.0
-      (tt, updates_ok h.own y h a b.entries _ ws after) (tt, tt) facts
+    (tt, updates_ok h.own y h a b.entries _ ws after) (tt, tt) facts
 
 -- the sender to y takes a receipt
 pub source_answered : (x y per : ℕ) (a b : Broker) (f : Link) (back : List Packet) (q : Packet) (p : Plan) → y < length a.senders → Stands back q
@@ -233,4 +231,4 @@ pub source_answered : (x y per : ℕ) (a b : Broker) (f : Link) (back : List Pac
 source_answered x y per a b f back q p lt came t facts =
     let P : List Out → Type 0 = λ os. (stamp : ℕ) → Facts x y (done per a p) b (pushed y stamp f os) back in
     AtSource.Works (fated_ok x y per a b f back q p lt came t facts)
-      (subst P (sym (fated_quiet per a y q p t)) (λ stamp. answered_done x y per a b f back q p lt came t facts))
+    (subst P (sym (fated_quiet per a y q p t)) (λ stamp. answered_done x y per a b f back q p lt came t facts))

@@ -1,33 +1,33 @@
 -- What an event of a broker does to the facts of each pair of a world: the pair is tied to the world here, once.
-use Rattle.std.proofs.Common.{◌≡◌, ℕ, zero, suc, ◌+◌, ◌*◌, ◌<◌, ◌≤◌, ◌≢◌, Bool, true, false, List, [], ◌∷◌, ◌++◌, length, map, refl, sym, ap, subst, ◌∙◌, ◌==◌, arith, inl, inr, ◌⊎◌}
-use Rattle.std.specs.Prelude.{Option, Some, None, min, replicate, slice_get, slice_set, slice_index_or}
-use Rattle.std.proofs.lemmas.Bool.{eqb-true, eqb-false, eq-eqb, false≢true}
-use Rattle.std.proofs.lemmas.List.{get_or-replicate, get_or-set_other, get_or-set_same}
+use Rattle.std.proofs.Common.{◌≡◌, ℕ, zero, suc, ◌+◌, ◌<◌, ◌≤◌, Bool, true, false, List, [], ◌∷◌, length, refl, sym, ap, subst, ◌∙◌, ◌==◌, arith}
+use Rattle.std.specs.Prelude.{Option, Some, None, slice_get, slice_set, slice_index_or}
+use Rattle.std.proofs.lemmas.Bool.{eqb-true, eqb-false, false≢true}
+use Rattle.std.proofs.lemmas.List.{get_or-set_other, get_or-set_same}
 use Rattle.std.proofs.lemmas.Option.{none-some, slice_get_within}
 use Rattle.std.proofs.Math.Nat.{min-eq_left, min-eq_right}
 use Rattle.world_laws.proofs.Types.{Entry, Out, Packet, Peer}
 use Rattle.world_laws.proofs.Types.peer
 use Rattle.geo_base.specs.Broker.{Broker, no_broker, receiver_at, sender_at}
-use Rattle.geo_base.specs.Happening.{broker_does, broker_halts, client_does, next_stamp, stops}
+use Rattle.geo_base.specs.Happening.{broker_does, broker_halts}
 use Rattle.geo_base.specs.Laws.{ArePair}
 use Rattle.geo_base.specs.Link.{Link, next_packet, took}
 use Rattle.geo_base.specs.Plan.{Plan, done, halted, idle_plan}
 use Rattle.geo_base.specs.Planned.{Planned}
 use Rattle.geo_base.specs.Seeking.{restart}
 use Rattle.geo_base.specs.Setup.{Setup}
-use Rattle.geo_base.specs.World.{Back, Forward, LinkName, Links, ToBroker, ToClient, World, broker_at, cell, delivered, from_broker, link_at, node, site, stamped, taken_from, topic_at}
+use Rattle.geo_base.specs.World.{Back, Forward, LinkName, Links, ToBroker, ToClient, World, cell, delivered, from_broker, link_at, node, site, stamped, taken_from, topic_at}
 use Rattle.world_laws.proofs.Effects.{Each, each_map}
 use Rattle.world_laws.proofs.Frames.{cell_set}
 use Rattle.world_laws.proofs.LinkFrames.{HasCell, MayBack, TakesElse, back_sent, forward_else, forward_sent, pushed, same_node, sent_cells, taken_back, taken_else, taken_here}
 use Rattle.world_laws.proofs.Once.{AllOnce}
 use Rattle.world_laws.proofs.PairEvents.{AtTarget, ElseBack, source_does, source_halts, source_role, target_extends, target_role}
 use Rattle.world_laws.proofs.PairFacts.{Carried, Receiving, carried_back}
-use Rattle.world_laws.proofs.PairRoles.{AtSource, IsEmpty, NotForward, PairIn, Reaches, shape_reaches, shape_within}
+use Rattle.world_laws.proofs.PairRoles.{IsEmpty, NotForward, PairIn, Reaches, shape_reaches, shape_within}
 use Rattle.world_laws.proofs.Reach.{IncomingOut, IncomingPeer, OutgoingOut, OutgoingPeer}
-use Rattle.world_laws.proofs.ReceiverSide.{Extends, there_aside, there_halted}
+use Rattle.world_laws.proofs.ReceiverSide.{there_aside, there_halted}
 use Rattle.world_laws.proofs.SenderSide.{Facts}
 use Rattle.world_laws.proofs.Shapes.{Shape}
-use Rattle.world_laws.proofs.Sizes.{IsThere, IsWide, Sized, node_there}
+use Rattle.world_laws.proofs.Sizes.{IsThere, Sized, node_there}
 use Rattle.world_laws.proofs.TakeEvents.{HasTaken, OkOut, taken_done}
 use Rattle.world_laws.proofs.Walk.{on_test}
 
@@ -35,7 +35,7 @@ use Rattle.world_laws.proofs.Walk.{on_test}
 abbrev pub PairAt : Setup → List Broker → Links → ℕ → ℕ → ℕ → Type 0
 PairAt s bs ls t x y =
     Facts x y (slice_index_or bs (node s t x) no_broker) (slice_index_or bs (node s t y) no_broker) (link_at ls (Forward (node s t x) y))
-      (link_at ls (Back (node s t x) y)).sent
+    (link_at ls (Back (node s t x) y)).sent
 
 -- the same values by other names
 pub moved : (x y : ℕ) (a a' b b' : Broker) (f f' : Link) (k k' : List Packet) → a' ≡ a → b' ≡ b → f' ≡ f → k' ≡ k → Facts x y a b f k → Facts x y a' b' f' k'
@@ -73,7 +73,7 @@ taken_none : (k : LinkName) (ls : Links) (i y : ℕ) → next_packet (link_at ls
 taken_none (Forward a b) ls i y none le =
     let C : ℕ → ℕ → Type 0 = λ u v. next_packet (cell ls.forward u v) ≡ None → took (cell ls.forward u v) ≡ cell ls.forward i y in
     cell_set (λ (l : Link). l ≡ cell ls.forward i y) ls.forward a b (took (cell ls.forward a b)) i y
-      (λ h k. subst (λ (u : ℕ). C u b) (sym h) (subst (C i) (sym k) (λ none. took_none (cell ls.forward i y) none le)) none) refl
+    (λ h k. subst (λ (u : ℕ). C u b) (sym h) (subst (C i) (sym k) (λ none. took_none (cell ls.forward i y) none le)) none) refl
 taken_none (Back a b) ls i y none le = refl
 taken_none (ToBroker a b) ls i y none le = refl
 taken_none (ToClient a b) ls i y none le = refl
@@ -103,7 +103,7 @@ taken_of None ls i y le = (refl, le)
 taken_of (Some (Forward a b)) ls i y le =
     let C : ℕ → ℕ → Type 0 = λ u v. IsOf (took (cell ls.forward u v)) (cell ls.forward i y) in
     cell_set (λ (l : Link). IsOf l (cell ls.forward i y)) ls.forward a b (took (cell ls.forward a b)) i y
-      (λ h k. subst (λ (u : ℕ). C u b) (sym h) (subst (C i) (sym k) (refl, omega arith))) (refl, le)
+    (λ h k. subst (λ (u : ℕ). C u b) (sym h) (subst (C i) (sym k) (refl, omega arith))) (refl, le)
 taken_of (Some (Back a b)) ls i y le = (refl, le)
 taken_of (Some (ToBroker a b)) ls i y le = (refl, le)
 taken_of (Some (ToClient a b)) ls i y le = (refl, le)
@@ -138,12 +138,12 @@ halted_source s w k p y shape z there ly other facts =
     let a = topic_at s w p.topic p.cluster in
     let wide : y < length a.senders = omega (arith, ly, (z.wide p.topic p.cluster there).senders) in
     moved p.cluster y (halted s.per_ledger a k p.plan) _ (topic_at s w p.topic y) _ (link_at w.links (Forward n y)) _ (link_at w.links (Back n y)).sent _
-      (get_or-set_same w.brokers n _ no_broker (node_there s w p.topic p.cluster z there))
-      (get_or-set_other w.brokers n (node s p.topic y) _ no_broker (λ is. apart s p.topic p.cluster y there.1 ly other (sym is)))
-      (taken_kept s w p n y (shape_reaches s w p shape) (λ v lt is e. other e) facts.receiving.within)
-      (taken_back p.takes w.links n y)
-      (source_halts p.cluster y s.per_ledger k a (topic_at s w p.topic y) (link_at w.links (Forward n y)) (link_at w.links (Back n y)).sent p.plan wide
-        (source_role s w p shape y other wide facts) facts)
+    (get_or-set_same w.brokers n _ no_broker (node_there s w p.topic p.cluster z there))
+    (get_or-set_other w.brokers n (node s p.topic y) _ no_broker (λ is. apart s p.topic p.cluster y there.1 ly other (sym is)))
+    (taken_kept s w p n y (shape_reaches s w p shape) (λ v lt is e. other e) facts.receiving.within)
+    (taken_back p.takes w.links n y)
+    (source_halts p.cluster y s.per_ledger k a (topic_at s w p.topic y) (link_at w.links (Forward n y)) (link_at w.links (Back n y)).sent p.plan wide
+    (source_role s w p shape y other wide facts) facts)
 
 halted_target : (s : Setup) (w : World) (k : ℕ) (p : Planned) (x : ℕ) → Shape s w p → AllOnce w → Sized s w → IsThere s p.topic p.cluster → x < length s.clusters
     → (p.cluster ≡ x → ⊥) → PairIn s w p.topic x p.cluster → HaltedAt s w k p p.topic x p.cluster
@@ -155,9 +155,9 @@ halted_target s w k p x shape once z there lx other facts =
     let back = (link_at w.links (Back i y)).sent in
     let extends = target_extends s w p x a back (once i) wide (target_role s w p shape x lx other) facts in
     moved x y a _ (halted s.per_ledger b k p.plan) _ (link_at (taken_from p.takes w.links) (Forward i y)) _ back _
-      (get_or-set_other w.brokers n i _ no_broker (λ is. apart s p.topic p.cluster x there.1 lx other (sym is)))
-      (get_or-set_same w.brokers n _ no_broker (node_there s w p.topic p.cluster z there)) refl (taken_back p.takes w.links i y)
-      (there_halted x y s.per_ledger k a b (link_at w.links (Forward i y)) (link_at (taken_from p.takes w.links) (Forward i y)) back p.plan extends of.0 of.1 facts)
+    (get_or-set_other w.brokers n i _ no_broker (λ is. apart s p.topic p.cluster x there.1 lx other (sym is)))
+    (get_or-set_same w.brokers n _ no_broker (node_there s w p.topic p.cluster z there)) refl (taken_back p.takes w.links i y)
+    (there_halted x y s.per_ledger k a b (link_at w.links (Forward i y)) (link_at (taken_from p.takes w.links) (Forward i y)) back p.plan extends of.0 of.1 facts)
 
 -- the links of the pair are none of the event's
 is_else : (s : Setup) (p : Planned) (t x y : ℕ) → x < length s.clusters → (node s p.topic p.cluster ≡ node s t y → ⊥) → IsElse s p (node s t x) y
@@ -170,8 +170,8 @@ halted_else : (s : Setup) (w : World) (k : ℕ) (p : Planned) (t x y : ℕ) → 
 halted_else s w k p t x y shape lx other other' facts =
     let n = node s p.topic p.cluster in
     moved x y (topic_at s w t x) _ (topic_at s w t y) _ (link_at w.links (Forward (node s t x) y)) _ (link_at w.links (Back (node s t x) y)).sent _
-      (get_or-set_other w.brokers n (node s t x) _ no_broker (λ is. other (sym is))) (get_or-set_other w.brokers n (node s t y) _ no_broker (λ is. other' (sym is)))
-      (taken_kept s w p (node s t x) y (shape_reaches s w p shape) (is_else s p t x y lx other') facts.receiving.within) (taken_back p.takes w.links (node s t x) y) facts
+    (get_or-set_other w.brokers n (node s t x) _ no_broker (λ is. other (sym is))) (get_or-set_other w.brokers n (node s t y) _ no_broker (λ is. other' (sym is)))
+    (taken_kept s w p (node s t x) y (shape_reaches s w p shape) (is_else s p t x y lx other') facts.receiving.within) (taken_back p.takes w.links (node s t x) y) facts
 
 pub pair_halts : (s : Setup) (w : World) (k : ℕ) (p : Planned) (t x y : ℕ) → Shape s w p → AllOnce w → Sized s w → t < length s.topics → ArePair s x y → PairIn s w t x y
     → PairIn s (broker_halts s w k p) t x y
@@ -180,6 +180,7 @@ pair_halts s w k p t x y shape once z lt pair = by (role_of s p t x y (shape_wit
   where
     within : p.cluster < length s.clusters
     within = shape_within s w p shape
+
     by : Role s p t x y → PairIn s w t x y → HaltedAt s w k p t x y
     by (Role.Source e f) =
         let G : ℕ → ℕ → Type 0 = λ t x. t < length s.topics → (x ≡ y → ⊥) → PairIn s w t x y → HaltedAt s w k p t x y in
@@ -228,7 +229,7 @@ acts_back s w p i y stamp P (Reaches.Outward z o not) other =
     each_map (OutgoingOut z) (λ (o : Out). MayBack s p.topic p.cluster i y P stamp o o.to) (λ o h. outward_back s p.topic p.cluster i y stamp z P o o.to h) p.plan.sent o.sent
 acts_back s w p i y stamp P (Reaches.Inward z lt o is) other =
     each_map (IncomingOut z) (λ (o : Out). MayBack s p.topic p.cluster i y P stamp o o.to)
-      (λ o h. inward_back s p.topic p.cluster i y stamp z P o o.to (other z lt) h) p.plan.sent o.sent
+    (λ o h. inward_back s p.topic p.cluster i y stamp z P o o.to (other z lt) h) p.plan.sent o.sent
 acts_back s w p i y stamp P (Reaches.Again is no_take) other =
     let Q : Plan → Type 0 = λ q. Each (λ (o : Out). MayBack s p.topic p.cluster i y P stamp o o.to) q.sent in subst Q (sym is) tt
 acts_back s w p i y stamp P (Reaches.Empties is empty) other =
@@ -250,22 +251,22 @@ done_source s w p stamp y shape acts z there ly other facts =
     let wide : y < length a.senders = omega (arith, ly, (z.wide p.topic p.cluster there).senders) in
     let r = shape_reaches s w p shape in
     moved p.cluster y (done s.per_ledger a p.plan) _ (topic_at s w p.topic y) _ (pushed y stamp f p.plan.sent) _ (link_at w.links (Back n y)).sent _
-      (get_or-set_same w.brokers n _ no_broker (node_there s w p.topic p.cluster z there))
-      (get_or-set_other w.brokers n (node s p.topic y) _ no_broker (λ is. apart s p.topic p.cluster y there.1 ly other (sym is)))
-      (taken_else p.takes (delivered (from_broker s p.topic p.cluster) stamp p.plan.sent w.links) n y (acts_takes s w p n y r acts (λ v lt is e. other e))
-        ∙ forward_sent s p.topic p.cluster y stamp p.plan.sent w.links (z.cells p.topic p.cluster y there ly))
-      (back_kept s w p n y stamp r (λ v lt is e. other e))
-      (source_does p.cluster y s.per_ledger a (topic_at s w p.topic y) f (link_at w.links (Back n y)).sent p.plan stamp wide (source_role s w p shape y other wide facts) facts)
+    (get_or-set_same w.brokers n _ no_broker (node_there s w p.topic p.cluster z there))
+    (get_or-set_other w.brokers n (node s p.topic y) _ no_broker (λ is. apart s p.topic p.cluster y there.1 ly other (sym is)))
+    (taken_else p.takes (delivered (from_broker s p.topic p.cluster) stamp p.plan.sent w.links) n y (acts_takes s w p n y r acts (λ v lt is e. other e))
+    ∙ forward_sent s p.topic p.cluster y stamp p.plan.sent w.links (z.cells p.topic p.cluster y there ly))
+    (back_kept s w p n y stamp r (λ v lt is e. other e))
+    (source_does p.cluster y s.per_ledger a (topic_at s w p.topic y) f (link_at w.links (Back n y)).sent p.plan stamp wide (source_role s w p shape y other wide facts) facts)
 
 done_else : (s : Setup) (w : World) (p : Planned) (stamp t x y : ℕ) → Shape s w p → p.plan.idle ≡ false → x < length s.clusters
     → (node s p.topic p.cluster ≡ node s t x → ⊥) → (node s p.topic p.cluster ≡ node s t y → ⊥) → PairIn s w t x y → DoneAt s w p stamp t x y
 done_else s w p stamp t x y shape acts lx other other' facts =
     let n = node s p.topic p.cluster in let r = shape_reaches s w p shape in let else_ = is_else s p t x y lx other' in
     moved x y (topic_at s w t x) _ (topic_at s w t y) _ (link_at w.links (Forward (node s t x) y)) _ (link_at w.links (Back (node s t x) y)).sent _
-      (get_or-set_other w.brokers n (node s t x) _ no_broker (λ is. other (sym is))) (get_or-set_other w.brokers n (node s t y) _ no_broker (λ is. other' (sym is)))
-      (taken_else p.takes (delivered (from_broker s p.topic p.cluster) stamp p.plan.sent w.links) (node s t x) y (acts_takes s w p (node s t x) y r acts else_)
-        ∙ forward_else s p.topic p.cluster (node s t x) y stamp p.plan.sent w.links other)
-      (back_kept s w p (node s t x) y stamp r else_) facts
+    (get_or-set_other w.brokers n (node s t x) _ no_broker (λ is. other (sym is))) (get_or-set_other w.brokers n (node s t y) _ no_broker (λ is. other' (sym is)))
+    (taken_else p.takes (delivered (from_broker s p.topic p.cluster) stamp p.plan.sent w.links) (node s t x) y (acts_takes s w p (node s t x) y r acts else_)
+    ∙ forward_else s p.topic p.cluster (node s t x) y stamp p.plan.sent w.links other)
+    (back_kept s w p (node s t x) y stamp r else_) facts
 
 -- an answer that goes back on the link of the pair
 answer_back : (s : Setup) (t x i y stamp : ℕ) (near : List Entry) (cursor : List ℕ) (far : List Entry) (sent : List Packet) (u v : ℕ) (o : Out) (to : Peer) → OkOut far sent o
@@ -292,23 +293,23 @@ done_target s w p stamp x (AtTarget.Aside others leaves takes sent) acts once z 
     let not_i : n ≡ i → ⊥ = apart s p.topic p.cluster x there.1 lx other in
     let P : Link → Type 0 = λ l. l.sent ≡ (link_at w.links (Back i y)).sent in
     let may = each_map (λ (o : Out). ElseBack s p.topic i o.to) (λ (o : Out). MayBack s p.topic y i y P stamp o o.to)
-      (λ o h. not_back s p.topic y i y stamp P o o.to h) p.plan.sent sent in
+    (λ o h. not_back s p.topic y i y stamp P o o.to h) p.plan.sent sent in
     moved x y a _ (done s.per_ledger b p.plan) _ f _ (link_at w.links (Back i y)).sent _
-      (get_or-set_other w.brokers n i _ no_broker (λ is. not_i (sym is))) (get_or-set_same w.brokers n _ no_broker (node_there s w p.topic p.cluster z there))
-      (taken_else p.takes ls i y takes ∙ forward_else s p.topic p.cluster i y stamp p.plan.sent w.links not_i)
-      (taken_back p.takes ls i y ∙ back_sent s p.topic p.cluster i y stamp P p.plan.sent w.links may refl)
-      (there_aside x y s.per_ledger a b f (link_at w.links (Back i y)).sent p.plan wide others leaves facts)
+    (get_or-set_other w.brokers n i _ no_broker (λ is. not_i (sym is))) (get_or-set_same w.brokers n _ no_broker (node_there s w p.topic p.cluster z there))
+    (taken_else p.takes ls i y takes ∙ forward_else s p.topic p.cluster i y stamp p.plan.sent w.links not_i)
+    (taken_back p.takes ls i y ∙ back_sent s p.topic p.cluster i y stamp P p.plan.sent w.links may refl)
+    (there_aside x y s.per_ledger a b f (link_at w.links (Back i y)).sent p.plan wide others leaves facts)
 done_target s w p stamp x (AtTarget.Nothing is) acts once z there lx other facts = absurd (false≢true (sym acts ∙ ap (λ (q : Plan). q.idle) is))
 done_target s w p stamp x (AtTarget.Again is takes) acts once z there lx other facts =
     let n = node s p.topic p.cluster in let i = node s p.topic x in let y = p.cluster in
     let b = topic_at s w p.topic p.cluster in let a = topic_at s w p.topic x in let f = link_at w.links (Forward i y) in
     let not_i : n ≡ i → ⊥ = apart s p.topic p.cluster x there.1 lx other in
     let Q : Option LinkName → Plan → Type 0 = λ k q.
-      PairAt s (slice_set w.brokers n (done s.per_ledger b q)) (taken_from k (delivered (from_broker s p.topic p.cluster) stamp q.sent w.links)) p.topic x y in
+    PairAt s (slice_set w.brokers n (done s.per_ledger b q)) (taken_from k (delivered (from_broker s p.topic p.cluster) stamp q.sent w.links)) p.topic x y in
     let h : Q None restart =
-      moved x y a _ (halted s.per_ledger b 0 idle_plan) _ f _ (link_at w.links (Back i y)).sent _
-        (get_or-set_other w.brokers n i _ no_broker (λ e. not_i (sym e))) (get_or-set_same w.brokers n _ no_broker (node_there s w p.topic p.cluster z there)) refl refl
-        (there_halted x y s.per_ledger 0 a b f f (link_at w.links (Back i y)).sent idle_plan tt refl facts.receiving.within facts) in
+    moved x y a _ (halted s.per_ledger b 0 idle_plan) _ f _ (link_at w.links (Back i y)).sent _
+    (get_or-set_other w.brokers n i _ no_broker (λ e. not_i (sym e))) (get_or-set_same w.brokers n _ no_broker (node_there s w p.topic p.cluster z there)) refl refl
+    (there_halted x y s.per_ledger 0 a b f f (link_at w.links (Back i y)).sent idle_plan tt refl facts.receiving.within facts) in
     subst (λ (k : Option LinkName). Q k p.plan) (sym takes) (subst (Q None) (sym is) h)
 done_target s w p stamp x (AtTarget.Takes q next taken takes) acts once z there lx other facts =
     let n = node s p.topic p.cluster in let i = node s p.topic x in let y = p.cluster in
@@ -319,21 +320,21 @@ done_target s w p stamp x (AtTarget.Takes q next taken takes) acts once z there 
     let not_i : n ≡ i → ⊥ = apart s p.topic p.cluster x there.1 lx other in
     let back = (link_at w.links (Back i y)).sent in
     let got : HasTaken x y a.entries cursor b'.entries (receiver_at b' x) f.sent back (f.taken + 1) p.plan.sent =
-      taken_done x y (site s p.topic y) a b f back q p.plan (once i) wide next taken facts in
+    taken_done x y (site s p.topic y) a b f back q p.plan (once i) wide next taken facts in
     let P : Link → Type 0 = λ l. Carried x y a.entries cursor b'.entries f.sent l.sent in
     let may = each_map (OkOut b'.entries f.sent) (λ (o : Out). MayBack s p.topic y i y P stamp o o.to)
-      (λ o ok. answer_back s p.topic y i y stamp a.entries cursor b'.entries f.sent x y o o.to ok) p.plan.sent got.answers in
+    (λ o ok. answer_back s p.topic y i y stamp a.entries cursor b'.entries f.sent x y o o.to ok) p.plan.sent got.answers in
     let carried = back_sent s p.topic y i y stamp P p.plan.sent w.links may got.carried in
     let R : ℕ → Type 0 = λ m. Receiving (receiver_at b' x) b'.entries f.sent m in
     let in_sent = slice_get_within f.sent f.taken q next in
     let T : Option LinkName → Type 0 = λ k. link_at (taken_from k ls) (Forward i y) ≡ took f in
     let there_cell : HasCell ls.forward i y =
-      sent_cells s p.topic p.cluster stamp p.plan.sent w.links i y (z.cells p.topic x y (there.0, lx) there.1) in
+    sent_cells s p.topic p.cluster stamp p.plan.sent w.links i y (z.cells p.topic x y (there.0, lx) there.1) in
     moved x y a _ b' _ (took f) _ (link_at ls (Back i y)).sent _
-      (get_or-set_other w.brokers n i _ no_broker (λ is. not_i (sym is))) (get_or-set_same w.brokers n _ no_broker (node_there s w p.topic p.cluster z there))
-      (subst T (sym takes) (taken_here ls i y there_cell ∙ ap took (forward_else s p.topic p.cluster i y stamp p.plan.sent w.links not_i)))
-      (taken_back p.takes ls i y)
-      (record { carried = carried; session = facts.session; receiving = subst R (sym (min-eq_left (omega (arith, in_sent)))) got.receiving })
+    (get_or-set_other w.brokers n i _ no_broker (λ is. not_i (sym is))) (get_or-set_same w.brokers n _ no_broker (node_there s w p.topic p.cluster z there))
+    (subst T (sym takes) (taken_here ls i y there_cell ∙ ap took (forward_else s p.topic p.cluster i y stamp p.plan.sent w.links not_i)))
+    (taken_back p.takes ls i y)
+    (record { carried = carried; session = facts.session; receiving = subst R (sym (min-eq_left (omega (arith, in_sent)))) got.receiving })
 
 pub pair_does : (s : Setup) (w : World) (p : Planned) (t x y : ℕ) → Shape s w p → AllOnce w → Sized s w → t < length s.topics → ArePair s x y → PairIn s w t x y
     → PairIn s (broker_does s w p) t x y
@@ -343,6 +344,7 @@ pair_does s w p t x y shape once z lt pair facts =
   where
     within : p.cluster < length s.clusters
     within = shape_within s w p shape
+
     by : (stamp : ℕ) → p.plan.idle ≡ false → Role s p t x y → DoneAt s w p stamp t x y
     by stamp acts (Role.Source e f) =
         let G : ℕ → ℕ → Type 0 = λ t x. t < length s.topics → (x ≡ y → ⊥) → PairIn s w t x y → DoneAt s w p stamp t x y in
@@ -351,6 +353,6 @@ pair_does s w p t x y shape once z lt pair facts =
     by stamp acts (Role.Target e f) =
         let G : ℕ → ℕ → Type 0 = λ t y. t < length s.topics → (x ≡ y → ⊥) → PairIn s w t x y → DoneAt s w p stamp t x y in
         let h : G p.topic p.cluster = λ lt other facts.
-          done_target s w p stamp x (target_role s w p shape x pair.0 (λ is. other (sym is))) acts once z (lt, within) pair.0 (λ is. other (sym is)) facts in
+        done_target s w p stamp x (target_role s w p shape x pair.0 (λ is. other (sym is))) acts once z (lt, within) pair.0 (λ is. other (sym is)) facts in
         (subst (λ (n : ℕ). G n y) (sym e) (subst (G p.topic) (sym f) h)) lt pair.2 facts
     by stamp acts (Role.Elsewhere other other') = done_else s w p stamp t x y shape acts pair.0 other other' facts

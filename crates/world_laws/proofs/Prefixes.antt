@@ -1,8 +1,8 @@
 -- What y has of x as a beginning of what it is to have: which entry may come next, and what a duplicate shows. Here are lists
 -- alone: near is the topic at x, far the one at y.
-use Rattle.std.proofs.Common.{◌≡◌, ℕ, zero, suc, ◌+◌, ◌<◌, ◌≢◌, Bool, true, false, cond, List, [], ◌∷◌, ◌++◌, length, refl, sym, ap, subst, ◌∙◌, ◌==◌, arith, append_assoc}
+use Rattle.std.proofs.Common.{◌≡◌, ℕ, zero, suc, ◌+◌, ◌<◌, Bool, true, false, cond, List, [], ◌∷◌, ◌++◌, length, refl, sym, ap, subst, ◌∙◌, ◌==◌, arith, append_assoc}
 use Rattle.std.proofs.lemmas.List.{append-nil}
-use Rattle.std.specs.Prelude.{Option, Some, None, ◌&&◌, ◌||◌, not, nat_lt, slice_get, filter}
+use Rattle.std.specs.Prelude.{Some, ◌&&◌, ◌||◌, not, nat_lt, slice_get, filter}
 use Rattle.std.proofs.lemmas.Bool.{eqb-true, eq-eqb, false≢true}
 use Rattle.std.proofs.lemmas.Bool.Decides.{nat_tests}
 use Rattle.std.proofs.lemmas.List.Elements.{filter-append}
@@ -13,7 +13,7 @@ use Rattle.world_laws.proofs.Types.{Entry, Ident}
 use Rattle.geo_base.specs.Entry.{goes_to, same_stream}
 use Rattle.geo_base.specs.Laws.{of_origin, outbound}
 use Rattle.geo_base.specs.Topic.{accepts}
-use Rattle.world_laws.proofs.Members.{Cuts, IsSplit, Passes, Stands, cut_both, from_filter, get_left, get_right, get_within, split_at, stands_here, stands_left, stands_next, to_filter}
+use Rattle.world_laws.proofs.Members.{Cuts, IsSplit, Passes, Stands, cut_both, from_filter, get_left, get_right, split_at, stands_here, stands_left, stands_next, to_filter}
 use Rattle.world_laws.proofs.Once.{OnceIn, accepts_newer}
 use Rattle.world_laws.proofs.Walk.{left}
 
@@ -81,7 +81,7 @@ before_cut near before after e f whole s =
     let size : s.place < length before = within before s.place f s.is in
     let here : slice_get (before ++ e ∷ after) (length before + zero) ≡ Some e = get_right before (e ∷ after) zero in
     subst P (sym whole)
-      (record { i = s.place; j = length before + zero; before = omega (arith, size); at_i = get_left before (e ∷ after) s.place f s.is; at_j = here })
+    (record { i = s.place; j = length before + zero; before = omega (arith, size); at_i = get_left before (e ∷ after) s.place f s.is; at_j = here })
 
 once_left : (es fs : List Entry) → OnceIn (es ++ fs) → OnceIn es
 once_left es fs once i j e f lt ge gf same = once i j e f lt (get_left es fs i e ge) (get_left es fs j f gf) same
@@ -112,10 +112,11 @@ goes_on : (x y : ℕ) (near far : List Entry) (e : Entry) (before after : List E
     → outbound x y near ≡ outbound x y before ++ e ∷ outbound x y after → Begins x y near (far ++ e ∷ [])
 goes_on x y near far e before after out meet whole =
     let one : of_origin x (far ++ e ∷ []) ≡ of_origin x far ++ e ∷ [] =
-      filter-append (is_of x) far (e ∷ []) ∙ ap (λ (b : Bool). of_origin x far ++ cond b (e ∷ []) []) (of_out x y e out) in
-    (outbound x y after,
+    filter-append (is_of x) far (e ∷ []) ∙ ap (λ (b : Bool). of_origin x far ++ cond b (e ∷ []) []) (of_out x y e out) in (
+      outbound x y after,
       whole ∙ ap (λ (l : List Entry). l ++ e ∷ outbound x y after) (sym meet)
-      ∙ sym (append_assoc (of_origin x far) (e ∷ []) (outbound x y after)) ∙ ap (λ (l : List Entry). l ++ outbound x y after) (sym one))
+          ∙ sym (append_assoc (of_origin x far) (e ∷ []) (outbound x y after)) ∙ ap (λ (l : List Entry). l ++ outbound x y after) (sym one),
+    )
 
 -- the entries before it all stand at far
 abbrev pub AllBefore : ℕ → ℕ → List Entry → List Entry → ℕ → Type 0
@@ -136,9 +137,9 @@ not_short x y near far i e f r s once all is =
     let G' : ℕ → List Entry → Type 0 = λ n l. slice_get l n ≡ Some f in
     let size : first.place < length (of_origin x far) = within (of_origin x far) first.place f first.is in
     let order : InOrder s.before f f =
-      filter_order (is_out x y) s.before f f first.place (length (of_origin x far) + zero) (omega (arith, size))
-        (subst (G' first.place) (sym is) (get_left (of_origin x far) (f ∷ r) first.place f first.is))
-        (subst (G' (length (of_origin x far) + zero)) (sym is) (get_right (of_origin x far) (f ∷ r) zero)) in
+    filter_order (is_out x y) s.before f f first.place (length (of_origin x far) + zero) (omega (arith, size))
+    (subst (G' first.place) (sym is) (get_left (of_origin x far) (f ∷ r) first.place f first.is))
+    (subst (G' (length (of_origin x far) + zero)) (sym is) (get_right (of_origin x far) (f ∷ r) zero)) in
     not_twice s.before f (once_left s.before (e ∷ s.after) (subst OnceIn s.whole once)) order
 
 -- an accepted entry of x that all before it precede is the next one
@@ -148,6 +149,7 @@ next_begins x y near far i e once begins at out all new = go c.cuts
   where
     c : IsCutAt x y near far i e
     c = cut_at x y near far i e begins at out
+
     go : Cuts (of_origin x far) c.rest (outbound x y c.split.before) e → Begins x y near (far ++ e ∷ [])
     go (Cuts.Meet m) = goes_on x y near far e c.split.before c.split.after out m c.whole
     go (Cuts.Short f r is) = absurd (not_short x y near far i e f r c.split once all is)
@@ -181,18 +183,22 @@ refused_stands x y near far i e once begins at out old = go c.cuts
   where
     c : IsCutAt x y near far i e
     c = cut_at x y near far i e begins at out
+
     r : Refuses far e.ident
     r = refused far e.ident old
+
     first : Stands (of_origin x far) r.entry
     first =
         let same : r.entry.ident.origin ≡ e.ident.origin = eqb-true _ _ (left (r.entry.ident.origin == e.ident.origin) _ r.same) in
         let of : is_of x r.entry ≡ true = ap (λ (n : ℕ). n == x) same ∙ of_out x y e out in
         to_filter (is_of x) far r.entry r.stands.place r.stands.is of
+
     not_before : Stands (outbound x y c.split.before) r.entry → ⊥
     not_before s =
         let o = before_cut near c.split.before c.split.after e r.entry c.split.whole (from_filter (is_out x y) c.split.before r.entry s).stands in
         let h = once o.i o.j r.entry e o.before o.at_i o.at_j r.same in
         grind (arith, nat_tests, h, r.newer)
+
     go : Cuts (of_origin x far) c.rest (outbound x y c.split.before) e → Stands far e
     go (Cuts.Meet m) = let P : List Entry → Type 0 = λ l. Stands l r.entry in absurd (not_before (subst P m first))
     go (Cuts.Short f rs is) =
@@ -204,13 +210,14 @@ refused_stands x y near far i e once begins at out old = go c.cuts
 
 -- more at near leaves the beginning
 pub near_grows : (x y : ℕ) (near far more : List Entry) → Begins x y near far → Begins x y (near ++ more) far
-near_grows x y near far more begins =
-    (begins.0 ++ outbound x y more,
-      filter-append (is_out x y) near more ∙ ap (λ (l : List Entry). l ++ outbound x y more) begins.1 ∙ append_assoc (of_origin x far) begins.0 (outbound x y more))
+near_grows x y near far more begins = (
+  begins.0 ++ outbound x y more,
+  filter-append (is_out x y) near more ∙ ap (λ (l : List Entry). l ++ outbound x y more) begins.1 ∙ append_assoc (of_origin x far) begins.0 (outbound x y more),
+)
 
 -- and so does what far has of others
 pub other_begins : (x y : ℕ) (near far : List Entry) (e : Entry) → is_of x e ≡ false → Begins x y near far → Begins x y near (far ++ e ∷ [])
 other_begins x y near far e other begins =
     let same : of_origin x (far ++ e ∷ []) ≡ of_origin x far =
-      filter-append (is_of x) far (e ∷ []) ∙ ap (λ (b : Bool). of_origin x far ++ cond b (e ∷ []) []) other ∙ append-nil (of_origin x far) in
+    filter-append (is_of x) far (e ∷ []) ∙ ap (λ (b : Bool). of_origin x far ++ cond b (e ∷ []) []) other ∙ append-nil (of_origin x far) in
     (begins.0, begins.1 ∙ ap (λ (l : List Entry). l ++ begins.0) (sym same))

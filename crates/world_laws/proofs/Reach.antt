@@ -1,7 +1,7 @@
 -- How far a plan reaches beside subscriptions, sessions of clients and the builder: to one sender, or to one receiving side.
-use Rattle.std.proofs.Common.{◌≡◌, ℕ, ◌+◌, Bool, true, false, List, [], ◌∷◌, ◌++◌, refl, sym, ◌∙◌, ◌==◌, ap}
-use Rattle.std.specs.Prelude.{Option, Some, None}
-use Rattle.world_laws.proofs.Types.{Change, Entry, Out, Packet, Peer, Position, Write}
+use Rattle.std.proofs.Common.{◌≡◌, ℕ, List, [], ◌∷◌, ◌++◌, refl, ◌∙◌, ap}
+use Rattle.std.specs.Prelude.{Option}
+use Rattle.world_laws.proofs.Types.{Change, Out, Packet, Peer, Position, Write}
 use Rattle.world_laws.proofs.Types.change
 use Rattle.world_laws.proofs.Types.peer
 use Rattle.world_laws.proofs.Types.write
@@ -10,7 +10,7 @@ use Rattle.geo_base.specs.Forwarding.{closes, resets}
 use Rattle.geo_base.specs.Plan.{Plan, quiet_plan}
 use Rattle.geo_base.specs.Subscription.{Subscription}
 use Rattle.world_laws.proofs.Effects.{Each, each_both}
-use Rattle.world_laws.proofs.Shapes.{Answered, Fated, Offers, Reads, Seeks, Served, Snaps, Taken, Updates, in_a_row}
+use Rattle.world_laws.proofs.Shapes.{Answered, Fated, Offers, Reads, Seeks, Served, Snaps, Taken, Updates}
 
 -- own entries, and the sender to z
 abbrev pub OutgoingWrite : ℕ → ℕ → Write → Type 0

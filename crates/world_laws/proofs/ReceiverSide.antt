@@ -1,34 +1,20 @@
 -- What the events at y do to the facts of its pair with x: what it stores of others changes nothing for x, and a packet that
 -- it takes from x goes on with what it has of x.
-use Rattle.std.proofs.Common.{◌≡◌, ℕ, zero, suc, ◌+◌, ◌<◌, ◌≤◌, Bool, true, false, List, [], ◌∷◌, ◌++◌, length, refl, sym, ap, subst, ◌∙◌, ◌==◌, arith, inl, inr, ◌⊎◌}
-use Rattle.std.specs.Prelude.{Option, Some, None, if◌then◌else◌, ◌&&◌, nat_lt, slice_get, take}
-use Rattle.std.specs.Str.{bytes_eq}
-use Rattle.std.proofs.lemmas.Bool.{eqb-true, eq-eqb, false≢true}
-use Rattle.std.proofs.lemmas.Bool.Decides.{nat_tests}
-use Rattle.std.proofs.lemmas.Option.{none-some, same_Some}
-use Rattle.world_laws.proofs.Types.{Change, Entry, Frame, Out, Packet, Place, Write}
+use Rattle.std.proofs.Common.{◌≡◌, ℕ, zero, suc, ◌<◌, ◌≤◌, Bool, true, false, List, [], ◌∷◌, ◌++◌, length, refl, sym, ap, subst, ◌∙◌, ◌==◌}
+use Rattle.std.specs.Prelude.{Option, None, if◌then◌else◌, take}
+use Rattle.std.proofs.lemmas.Bool.{eqb-true}
+use Rattle.world_laws.proofs.Types.{Change, Entry, Packet, Write}
 use Rattle.world_laws.proofs.Types.change
-use Rattle.world_laws.proofs.Types.frame
-use Rattle.world_laws.proofs.Types.peer
 use Rattle.world_laws.proofs.Types.write
-use Rattle.geo_base.specs.Broker.{Broker, Site, receiver_at, sender_at}
-use Rattle.geo_base.specs.Entry.{with_origin}
-use Rattle.geo_base.specs.Forwarding.{closes}
+use Rattle.geo_base.specs.Broker.{Broker, receiver_at, sender_at}
 use Rattle.geo_base.specs.Link.{Link}
 use Rattle.geo_base.specs.Plan.{Plan, done, halted}
-use Rattle.geo_base.specs.Receiver.{is_open}
-use Rattle.geo_base.specs.Topic.{accepts}
-use Rattle.geo_base.specs.World.{stamped}
 use Rattle.world_laws.proofs.Appends.{after_writes, done_entries, halted_entries}
-use Rattle.world_laws.proofs.Effects.{Each, done_session, done_size, each_both, each_map, each_take, halted_session, session_changed, session_then}
-use Rattle.world_laws.proofs.InARow.{taken_in_a_row}
-use Rattle.world_laws.proofs.Members.{Stands, stands_here, stands_left}
-use Rattle.world_laws.proofs.Once.{OnceIn}
-use Rattle.world_laws.proofs.Packets.{Asks, Carries, IsOpener, IsSend, Receives, not_both, same_entry, same_place}
-use Rattle.world_laws.proofs.PairFacts.{Carried, InSession, IsAnswered, IsPlaced, Receiving, carried_far, none_open}
-use Rattle.world_laws.proofs.Prefixes.{AllBefore, Begins, is_of, is_out, next_begins, of_out, other_begins, refused_stands}
+use Rattle.world_laws.proofs.Effects.{Each, done_session, halted_session, session_then}
+use Rattle.world_laws.proofs.Members.{Stands, stands_left}
+use Rattle.world_laws.proofs.PairFacts.{Carried, InSession, Receiving, carried_far, none_open}
+use Rattle.world_laws.proofs.Prefixes.{Begins, is_of, other_begins}
 use Rattle.world_laws.proofs.SenderSide.{Facts}
-use Rattle.world_laws.proofs.Shapes.{Fated, Taken, in_a_row}
 
 -- each append leaves a beginning
 abbrev pub Extends : ℕ → ℕ → List Entry → List Entry → List Write → Type 0
@@ -98,7 +84,7 @@ facts_there x y a b b' f f' back far' r entries session sent c k h =
       carried = subst (C b'.entries) (sym sent) (subst (λ (es : List Entry). C es f.sent) (sym entries) c);
       session = subst (λ (ps : List Packet). InSession x y a.entries ps (sender_at a y)) (sym sent) h.session;
       receiving =
-        subst (R (receiver_at b' x) b'.entries) (sym sent)
+          subst (R (receiver_at b' x) b'.entries) (sym sent)
           (subst (λ (es : List Entry). R (receiver_at b' x) es f.sent) (sym entries) (subst (λ (o : Option ℕ). R o far' f.sent) (sym session) k));
     }
 
@@ -113,9 +99,9 @@ there_aside x y per a b f back p lt others leaves h =
     let far = after_writes b.entries p.writes in
     let begins = extends_begins x y a.entries b.entries p.writes (others_extend x y a.entries b.entries p.writes others h.carried.begins) h.carried.begins in
     facts_there x y a b (done per b p) f f back far (receiver_at b x) (done_entries per b p)
-      (done_session per b x p lt ∙ left_sessions x (receiver_at b x) p.changes leaves) refl
-      (carried_far x y a.entries (sender_at a y).cursor b.entries far f.sent back begins (stands_after b.entries p.writes) h.carried)
-      (receiving_more (receiver_at b x) b.entries far f.sent f.taken (stands_after b.entries p.writes) h.receiving) h
+    (done_session per b x p lt ∙ left_sessions x (receiver_at b x) p.changes leaves) refl
+    (carried_far x y a.entries (sender_at a y).cursor b.entries far f.sent back begins (stands_after b.entries p.writes) h.carried)
+    (receiving_more (receiver_at b x) b.entries far f.sent f.taken (stands_after b.entries p.writes) h.receiving) h
 
 after_halt : (far : List Entry) (ws : List Write) → after_writes far (ws ++ write.Ledger ∷ []) ≡ after_writes far ws
 after_halt far [] = refl
@@ -129,5 +115,4 @@ there_halted x y per k a b f f' back p extends sent within h =
     let ws = take k p.writes in let far = after_writes b.entries ws in
     let begins = extends_begins x y a.entries b.entries ws (extends_take x y a.entries b.entries k p.writes extends) h.carried.begins in
     facts_there x y a b (halted per b k p) f f' back far None (halted_entries per b k p ∙ after_halt b.entries ws) (halted_session per b x k p) sent
-      (carried_far x y a.entries (sender_at a y).cursor b.entries far f.sent back begins (stands_after b.entries ws) h.carried) (none_open far f.sent f'.taken within) h
-
+    (carried_far x y a.entries (sender_at a y).cursor b.entries far f.sent back begins (stands_after b.entries ws) h.carried) (none_open far f.sent f'.taken within) h

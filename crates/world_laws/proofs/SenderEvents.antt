@@ -1,10 +1,10 @@
 -- The events of the sender from x to y, each with what it does to the facts of the pair: reset, read and receipt.
 use Rattle.std.proofs.Common.{◌≡◌, ℕ, zero, suc, ◌+◌, ◌-◌, ◌<◌, ◌≤◌, Bool, true, false, List, [], ◌∷◌, ◌++◌, length, refl, sym, ap, subst, ◌∙◌, ◌==◌, arith, inl, inr, ◌⊎◌, length-append}
-use Rattle.std.specs.Prelude.{Option, Some, None, if◌then◌else◌, ◌&&◌, nat_lt, slice_get, take}
+use Rattle.std.specs.Prelude.{Option, Some, if◌then◌else◌, nat_lt, slice_get, take}
 use Rattle.std.proofs.lemmas.Bool.{eqb-true, eq-eqb, false≢true, ltb-true}
 use Rattle.std.proofs.lemmas.Bool.Decides.{nat_tests}
 use Rattle.std.proofs.lemmas.Option.{none-some, same_Some, slice_get_within}
-use Rattle.world_laws.proofs.Types.{Change, Entry, Frame, Packet, Pending, Place, Position, SenderState, Write}
+use Rattle.world_laws.proofs.Types.{Change, Entry, Packet, Position, SenderState, Write}
 use Rattle.world_laws.proofs.Types.change
 use Rattle.world_laws.proofs.Types.frame
 use Rattle.world_laws.proofs.Types.sender_state
@@ -19,15 +19,15 @@ use Rattle.geo_base.specs.Sender.{Sender, index_to_read, pending_index, sender_r
 use Rattle.geo_base.specs.Updating.{handled}
 use Rattle.world_laws.proofs.Appends.{after_writes, done_entries, halted_entries}
 use Rattle.world_laws.proofs.Cursors.{IsNextOpen, has_it, next_is}
-use Rattle.world_laws.proofs.Effects.{Each, done_sender, done_size, each_both, each_take, halted_sender, sender_after, sender_changed, sender_then, sender_written}
+use Rattle.world_laws.proofs.Effects.{Each, done_sender, done_size, each_both, halted_sender, sender_after, sender_changed, sender_then, sender_written}
 use Rattle.world_laws.proofs.InARow.{answered_in_a_row}
 use Rattle.world_laws.proofs.Members.{Stands}
-use Rattle.world_laws.proofs.Packets.{Asks, Carries, IsReceipt, IsSend, Receives, WasSentBefore, last_send, not_both, same_entry, send_left}
-use Rattle.world_laws.proofs.PairFacts.{Carried, Grew, Grows, InSession, IsAnswered, IsPending, IsPlaced, MayAck, Receiving, carried_grew, carried_sent, grows_length, same_grows}
+use Rattle.world_laws.proofs.Packets.{Asks, Carries, IsReceipt, IsSend, WasSentBefore, last_send, not_both, same_entry, send_left}
+use Rattle.world_laws.proofs.PairFacts.{IsPlaced, MayAck, Receiving, carried_sent, grows_length}
 use Rattle.world_laws.proofs.Prefixes.{is_out}
 use Rattle.world_laws.proofs.SenderSide.{Facts, HasWritten, LeavesSender, OkWrite, Sending, all_ok_written, facts_aside, facts_done, facts_halted, facts_of, left_all, none_written, sending_of}
-use Rattle.world_laws.proofs.SessionFacts.{forgetful, pending_is, session_forgot, session_grew, session_opened, session_opens, session_read, session_received, session_sent}
-use Rattle.world_laws.proofs.Shapes.{Answered, Fated, InLink, ReadsNext, Reads, in_a_row, is_outbound}
+use Rattle.world_laws.proofs.SessionFacts.{forgetful, pending_is, session_forgot, session_opened, session_opens, session_read, session_received, session_sent}
+use Rattle.world_laws.proofs.Shapes.{Answered, Fated, InLink, ReadsNext}
 
 -- a test of a number with itself
 self_is : (y : ℕ) → (y == y) ≡ true
@@ -42,7 +42,7 @@ reset_sending : (x y : ℕ) (near : List Entry) (s : Sender) (far : List Entry) 
 reset_sending x y near s far sent back state p asks h = record {
   carried = carried_sent x y near s.cursor far sent back p (λ m k e c. absurd (not_both p (s.session + 1) m k e asks c)) h.carried;
   session =
-    session_opens x y near sent (forgetful s (s.session + 1) state) p asks
+      session_opens x y near sent (forgetful s (s.session + 1) state) p asks
       (λ q k e is. let b = h.session.bounded q is.packet is.at in absurd (omega (arith, b, is.carries.session)))
       (session_forgot x y near sent s (s.session + 1) state (omega arith) (inr (omega arith)) h.session);
 }
@@ -53,10 +53,10 @@ receiving_sent : (session : Option ℕ) (far : List Entry) (sent : List Packet) 
 receiving_sent session far sent taken p r = record {
   within = let e = length-append sent (p ∷ []) in let w = r.within in omega (arith, e, w);
   stands = λ m is q k e lt send.
-    elim (last_send sent p q m k e send) [
-      | inl h ↦ r.stands m is q k e lt h
-      | inr h ↦ let w = r.within in absurd (omega (arith, lt, w, h.0))
-    ];
+      elim (last_send sent p q m k e send) [
+        | inl h ↦ r.stands m is q k e lt h
+        | inr h ↦ let w = r.within in absurd (omega (arith, lt, w, h.0))
+      ];
 }
 
 reset_sender : (y n : ℕ) (s : Sender) → sender_then y (sender_after y s (write.SessionNumber y n ∷ [])) (change.Opening y ∷ []) ≡ forgetful s n sender_state.Opening
@@ -69,9 +69,9 @@ pub reset_done : (x y per : ℕ) (h : Site) (a b : Broker) (f : Link) (back : Li
 reset_done x y per h a b f back p lt asks facts =
     let s = sender_at a y in let n = s.session + 1 in
     facts_of x y (done per a (resets h y n)) b (sent_on f p) back a.entries (forgetful s n sender_state.Opening)
-      (done_entries per a (resets h y n)) (done_sender per a y (resets h y n) lt ∙ reset_sender y n s)
-      (receiving_sent (receiver_at b x) b.entries f.sent f.taken p facts.receiving)
-      (reset_sending x y a.entries s b.entries f.sent back sender_state.Opening p asks (sending_of x y a b f back facts))
+    (done_entries per a (resets h y n)) (done_sender per a y (resets h y n) lt ∙ reset_sender y n s)
+    (receiving_sent (receiver_at b x) b.entries f.sent f.taken p facts.receiving)
+    (reset_sending x y a.entries s b.entries f.sent back sender_state.Opening p asks (sending_of x y a b f back facts))
 
 -- a stop before or behind its write
 pub reset_halted : (x y per k : ℕ) (h : Site) (a b : Broker) (f : Link) (back : List Packet) → y < length a.senders → Facts x y a b f back
@@ -80,15 +80,16 @@ reset_halted x y per zero h a b f back lt facts = facts_halted x y per zero a b 
 reset_halted x y per (suc k) h a b f back lt facts =
     let s = sender_at a y in let n = s.session + 1 in let p = resets h y n in
     facts_of x y (halted per a (suc k) p) b f back a.entries (forgetful s n sender_state.Closed)
-      (halted_entries per a (suc k) p ∙ halt_is k n) (halted_sender per a y (suc k) p lt ∙ ap sender_restarted (sender_is k n s)) facts.receiving
-      (record {
-        carried = facts.carried;
-        session = session_forgot x y a.entries f.sent s n sender_state.Closed (omega arith) (inl refl) facts.session;
-      })
+    (halted_entries per a (suc k) p ∙ halt_is k n) (halted_sender per a y (suc k) p lt ∙ ap sender_restarted (sender_is k n s)) facts.receiving
+    (record {
+      carried = facts.carried;
+      session = session_forgot x y a.entries f.sent s n sender_state.Closed (omega arith) (inl refl) facts.session;
+    })
   where
     halt_is : (k n : ℕ) → after_writes a.entries (take (suc k) (write.SessionNumber y n ∷ []) ++ write.Ledger ∷ []) ≡ a.entries
     halt_is zero n = refl
     halt_is (suc k) n = refl
+
     sender_is : (k n : ℕ) (s : Sender) → sender_after y s (take (suc k) (write.SessionNumber y n ∷ [])) ≡ record s { session = n }
     sender_is zero n s = chosen y (record s { session = n }) s
     sender_is (suc k) n s = chosen y (record s { session = n }) s
@@ -139,21 +140,22 @@ sent_sending x y near s far sent back i e p live covered at out carries h = reco
         elim (h.session.read j f (ltb-true _ _ read) at' out') [
           | inl k ↦ inl k
           | inr w ↦
-            let P : ℕ → Type 0 = λ n. IsSend sent w.place n w.number f in
-            let before = slice_get_within sent w.place w.send.packet w.send.at in
-            inr (record { place = w.place; number = w.number; before = before; send = send_left sent (p ∷ []) w.place m w.number f (subst P is w.send) })
+              let P : ℕ → Type 0 = λ n. IsSend sent w.place n w.number f in
+              let before = slice_get_within sent w.place w.send.packet w.send.at in
+              inr (record { place = w.place; number = w.number; before = before; send = send_left sent (p ∷ []) w.place m w.number f (subst P is w.send) })
         ]
     all_before m is j f lt at' out' false read = inl (covered j (grind (arith, nat_tests, read)) lt)
+
     placed : (m k : ℕ) (g : Entry) → Carries p m k g → IsPlaced x y near s.cursor (sent ++ p ∷ []) (length sent) m g
     placed m k g c =
         let P : Entry → Type 0 = λ g. IsPlaced x y near s.cursor (sent ++ p ∷ []) (length sent) m g in
         subst P (same_entry p s.session m s.next k e g carries c)
-          (record {
-            index = i;
-            at = at;
-            out = out;
-            before = λ j f lt at' out'. all_before m (sym carries.session ∙ c.session) j f lt at' out' (nat_lt j s.read_index) refl;
-          })
+        (record {
+          index = i;
+          at = at;
+          out = out;
+          before = λ j f lt at' out'. all_before m (sym carries.session ∙ c.session) j f lt at' out' (nat_lt j s.read_index) refl;
+        })
 
 pub forwards_done : (x y per : ℕ) (h : Site) (a b : Broker) (f : Link) (back : List Packet) (i : ℕ) (e : Entry) (p : Packet) → y < length a.senders
     → ReadsNext h a y i e → is_out x y e ≡ true → Carries p (sender_at a y).session (sender_at a y).next e → Facts x y a b f back
@@ -161,8 +163,8 @@ pub forwards_done : (x y per : ℕ) (h : Site) (a b : Broker) (f : Link) (back :
 forwards_done x y per h a b f back i e p lt next out carries facts =
     let s = sender_at a y in let q = forwards h y s i e in let n = next_index x y h a i e next in
     facts_of x y (done per a q) b (sent_on f p) back a.entries (sender_sent i s) (done_entries per a q)
-      (done_sender per a y q lt ∙ chosen y (sender_sent i s) s) (receiving_sent (receiver_at b x) b.entries f.sent f.taken p facts.receiving)
-      (sent_sending x y a.entries s b.entries f.sent back i e p n.live n.covered n.at out carries (sending_of x y a b f back facts))
+    (done_sender per a y q lt ∙ chosen y (sender_sent i s) s) (receiving_sent (receiver_at b x) b.entries f.sent f.taken p facts.receiving)
+    (sent_sending x y a.entries s b.entries f.sent back i e p n.live n.covered n.at out carries (sending_of x y a b f back facts))
 
 -- what is not for y may be acknowledged at once
 aside_may : (x y : ℕ) (h : Site) (a : Broker) (far : List Entry) (i : ℕ) (e : Entry) → ReadsNext h a y i e → is_out x y e ≡ false → MayAck x y a.entries far i
@@ -195,16 +197,21 @@ handled_done x y per h a b f back i e ws cs lt next other ok leaves facts =
   where
     vs : List Write
     vs = ws ++ write.SenderAck y i ∷ []
+
     s : Sender
     s = sender_after y (sender_at a y) vs
+
     near : List Entry
     near = after_writes a.entries vs
+
     written : HasWritten x y a.entries b.entries (sender_at a y) near s
     written =
         all_ok_written x y a.entries b.entries (sender_at a y) a.entries (sender_at a y) vs (handled_ok x y h a b.entries i e ws cs next other ok)
-          (none_written x y a.entries b.entries (sender_at a y))
+        (none_written x y a.entries b.entries (sender_at a y))
+
     n : NextIndex x y a i e
     n = next_index x y h a i e next
+
     covered : (j : ℕ) → s.read_index ≤ j → j < i + 1 → has s.cursor j ≡ true
     covered j lo hi = by (j == i) refl
       where
@@ -213,17 +220,18 @@ handled_done x y per h a b f back i e ws cs lt next other ok leaves facts =
         by false is =
             let same = ap (λ (t : Sender). t.read_index) written.rest in
             written.grew.keeps j (n.covered j (omega (arith, lo, same)) (grind (arith, nat_tests, is, hi)))
+
     turns : Sending x y near s b.entries f.sent back → Sending x y near (sender_then y s (cs ++ change.ReadTo y (i + 1) ∷ [])) b.entries f.sent back
     turns k =
         let P : Sender → Type 0 = λ t. Sending x y near t b.entries f.sent back in
         let is : sender_then y s (cs ++ change.ReadTo y (i + 1) ∷ []) ≡ record s { read_index = i + 1 } =
-          then_both y s cs (change.ReadTo y (i + 1) ∷ []) ∙ ap (λ (t : Sender). sender_changed y t (change.ReadTo y (i + 1))) (left_all y s cs leaves)
-          ∙ chosen y (record s { read_index = i + 1 }) s in
+        then_both y s cs (change.ReadTo y (i + 1) ∷ []) ∙ ap (λ (t : Sender). sender_changed y t (change.ReadTo y (i + 1))) (left_all y s cs leaves)
+        ∙ chosen y (record s { read_index = i + 1 }) s in
         subst P (sym is)
-          (record {
-            carried = k.carried;
-            session = session_read x y near f.sent s (i + 1) (omega (arith, n.within, grows_length a.entries near written.grew.entries)) covered k.session;
-          })
+        (record {
+          carried = k.carried;
+          session = session_read x y near f.sent s (i + 1) (omega (arith, n.within, grows_length a.entries near written.grew.entries)) covered k.session;
+        })
 
 -- receipt: what is pending under its number has its entry at y
 received_may : (x y : ℕ) (a : Broker) (far : List Entry) (sent back : List Packet) (p : Packet) (id n i : ℕ) (position : Option Position)
@@ -239,8 +247,8 @@ received_may x y a far sent back p id n i position h came at is pending =
     record {
       within = slice_get_within a.entries i d.entry d.at;
       stands = λ e at out.
-        let is_e : answered.entry ≡ e = sym same ∙ same_Some _ _ (sym d.at ∙ at) in
-        let P : Entry → Type 0 = λ g. Stands far g in subst P is_e answered.stands;
+          let is_e : answered.entry ≡ e = sym same ∙ same_Some _ _ (sym d.at ∙ at) in
+          let P : Entry → Type 0 = λ g. Stands far g in subst P is_e answered.stands;
     }
 
 pub answered_ok : (x y : ℕ) (a : Broker) (far : List Entry) (sent back : List Packet) (p : Packet) (q : Plan) → Sending x y a.entries (sender_at a y) far sent back
@@ -264,21 +272,21 @@ answered_turns x y a far sent back p q (Answered.Opened request name at is state
     let s = sender_at a y in
     let P : Sender → Type 0 = λ t. Sending x y a.entries t far sent back in
     subst P (sym (chosen y (record s { state = sender_state.Open }) s))
-      (record { carried = h.carried; session = session_opened x y a.entries sent s (λ e. opening_live (sym state ∙ e)) h.session })
+    (record { carried = h.carried; session = session_opened x y a.entries sent s (λ e. opening_live (sym state ∙ e)) h.session })
 answered_turns x y a far sent back p q (Answered.OpenBefore request name at is state) h = h
 answered_turns x y a far sent back p q (Answered.ClosedBefore request name at is state) h = h
 answered_turns x y a far sent back p q (Answered.Received id n i position at is pending) h =
     let s = sender_written y (sender_at a y) (write.SenderAck y i) in
     let P : Sender → Type 0 = λ t. Sending x y a.entries t far sent back in
     subst P (sym (chosen y (record s { pending = without_number s.pending n }) s))
-      (record { carried = h.carried; session = session_received x y a.entries sent s n h.session })
+    (record { carried = h.carried; session = session_received x y a.entries sent s n h.session })
 answered_turns x y a far sent back p q (Answered.ReceivedBefore id n position at is pending) h = h
 
 answered_once : (x y per : ℕ) (a b : Broker) (f : Link) (back : List Packet) (p : Packet) (q : Plan) → y < length a.senders → Stands back p → Answered a y p q
     → Facts x y a b f back → Facts x y (done per a q) b f back
 answered_once x y per a b f back p q lt came t facts =
     facts_done x y per a b f back q lt (answered_ok x y a b.entries f.sent back p q (sending_of x y a b f back facts) came t)
-      (answered_turns x y a b.entries f.sent back p q t) facts
+    (answered_turns x y a b.entries f.sent back p q t) facts
 
 -- a receipt with its fate
 pub answered_done : (x y per : ℕ) (a b : Broker) (f : Link) (back : List Packet) (p : Packet) (q : Plan) → y < length a.senders → Stands back p
@@ -288,8 +296,8 @@ answered_done x y per a b f back p q lt came Fated.Lost facts = facts_aside x y 
 answered_done x y per a b f back p q lt came (Fated.Twice r r' t t') facts =
     let P : Broker → Type 0 = λ c. Facts x y c b f back in
     subst P (sym (answered_in_a_row per a (done per a r) y p r r' t t' a))
-      (answered_once x y per (done per a r) b f back p r' (omega (arith, lt, (done_size per a r).senders)) came t'
-        (answered_once x y per a b f back p r lt came t facts))
+    (answered_once x y per (done per a r) b f back p r' (omega (arith, lt, (done_size per a r).senders)) came t'
+    (answered_once x y per a b f back p r lt came t facts))
 
 -- receipts append nothing
 answered_entries : (b : Broker) (y : ℕ) (p : Packet) (q : Plan) (es : List Entry) → Answered b y p q → after_writes es q.writes ≡ es
@@ -310,5 +318,5 @@ fated_ok x y per a b f back p q lt came (Fated.Twice r r' t t') facts =
     let P : List Entry → Type 0 = λ es. Each (OkWrite x y es b.entries) r'.writes in
     let next = answered_once x y per a b f back p r lt came t facts in
     each_both (OkWrite x y a.entries b.entries) r.writes r'.writes (answered_ok x y a b.entries f.sent back p r (sending_of x y a b f back facts) came t)
-      (subst P (done_entries per a r ∙ answered_entries a y p r a.entries t)
-        (answered_ok x y (done per a r) b.entries f.sent back p r' (sending_of x y (done per a r) b f back next) came t'))
+    (subst P (done_entries per a r ∙ answered_entries a y p r a.entries t)
+    (answered_ok x y (done per a r) b.entries f.sent back p r' (sending_of x y (done per a r) b f back next) came t'))

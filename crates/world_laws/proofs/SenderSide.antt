@@ -1,28 +1,22 @@
 -- What the events at x do to the facts of its pair with y: the topic grows, the cursor gains what it may, and the sender's
 -- memory changes in its own ways.
-use Rattle.std.proofs.Common.{◌≡◌, ℕ, zero, suc, ◌+◌, ◌<◌, ◌≤◌, Bool, true, false, List, [], ◌∷◌, ◌++◌, length, refl, sym, ap, subst, ◌∙◌, ◌==◌, arith, inl, inr, ◌⊎◌, append_assoc}
-use Rattle.std.specs.Prelude.{Option, Some, None, if◌then◌else◌, ◌&&◌, slice_get, take}
-use Rattle.std.proofs.lemmas.Bool.{eqb-true, eq-eqb, false≢true}
-use Rattle.std.proofs.lemmas.Option.{none-some, same_Some, slice_get_within}
-use Rattle.world_laws.proofs.Types.{Change, Entry, Packet, Pending, SenderState, Write}
+use Rattle.std.proofs.Common.{◌≡◌, ℕ, ◌<◌, Bool, true, false, List, [], ◌∷◌, ◌++◌, length, refl, sym, ap, subst, ◌∙◌, ◌==◌, arith, inl, inr, append_assoc}
+use Rattle.std.specs.Prelude.{if◌then◌else◌, take}
+use Rattle.std.proofs.lemmas.Bool.{eqb-true}
+use Rattle.world_laws.proofs.Types.{Change, Entry, Packet, Write}
 use Rattle.world_laws.proofs.Types.change
 use Rattle.world_laws.proofs.Types.sender_state
 use Rattle.world_laws.proofs.Types.write
-use Rattle.geo_base.specs.Broker.{Broker, Site, receiver_at, sender_at}
-use Rattle.geo_base.specs.Cursor.{has, with_index}
+use Rattle.geo_base.specs.Broker.{Broker, receiver_at, sender_at}
+use Rattle.geo_base.specs.Cursor.{with_index}
 use Rattle.geo_base.specs.Link.{Link}
-use Rattle.geo_base.specs.Plan.{Plan, done, halted, quiet_plan}
-use Rattle.geo_base.specs.Sender.{Sender, pending_index, sender_restarted, without_number}
+use Rattle.geo_base.specs.Plan.{Plan, done, halted}
+use Rattle.geo_base.specs.Sender.{Sender, sender_restarted}
 use Rattle.world_laws.proofs.Appends.{after_writes, done_entries, halted_entries}
-use Rattle.world_laws.proofs.Cursors.{has_it, has_less, has_more}
-use Rattle.world_laws.proofs.Effects.{Each, done_sender, done_size, each_both, each_take, halted_sender, sender_after, sender_changed, sender_then, sender_written}
-use Rattle.world_laws.proofs.InARow.{answered_in_a_row}
-use Rattle.world_laws.proofs.Members.{Stands}
-use Rattle.world_laws.proofs.Packets.{IsReceipt, IsSend}
-use Rattle.world_laws.proofs.PairFacts.{Carried, Grew, Grows, InSession, IsAnswered, IsPending, MayAck, Receiving, carried_grew, same_grows}
-use Rattle.world_laws.proofs.Prefixes.{is_out}
-use Rattle.world_laws.proofs.SessionFacts.{forgetful, pending_is, session_forgot, session_grew, session_opened, session_read, session_received}
-use Rattle.world_laws.proofs.Shapes.{Answered, Fated, in_a_row}
+use Rattle.world_laws.proofs.Cursors.{has_less, has_more}
+use Rattle.world_laws.proofs.Effects.{Each, done_sender, each_take, halted_sender, sender_after, sender_changed, sender_then, sender_written}
+use Rattle.world_laws.proofs.PairFacts.{Carried, Grew, InSession, MayAck, Receiving, carried_grew, same_grows}
+use Rattle.world_laws.proofs.SessionFacts.{session_forgot, session_grew}
 
 -- the facts of a pair, of the brokers at x and y, the forward link and what was sent on the back link
 pub record Facts (x y : ℕ) (a b : Broker) (f : Link) (back : List Packet) : Type 0 where
@@ -88,10 +82,10 @@ ack_written x y near far s near' s' z i true e may h = record {
     entries = h.grew.entries;
     keeps = λ j k. has_more s'.cursor i j (h.grew.keeps j k);
     gains = λ j k.
-      elim (has_less s'.cursor i j k) [
-        | inl is ↦ let P : ℕ → Type 0 = λ n. MayAck x y near far n in inr (subst P is (may (eqb-true z y e)))
-        | inr k ↦ h.grew.gains j k
-      ];
+        elim (has_less s'.cursor i j k) [
+          | inl is ↦ let P : ℕ → Type 0 = λ n. MayAck x y near far n in inr (subst P is (may (eqb-true z y e)))
+          | inr k ↦ h.grew.gains j k
+        ];
   };
   rest = ap (λ (t : Sender). record t { cursor = with_index s'.cursor i }) h.rest;
 }
@@ -155,20 +149,20 @@ left_all y s (c ∷ cs) h = ap (λ (t : Sender). sender_then y t cs) (left_one y
 -- a plan whose changes turn the sender as they may
 pub facts_done : (x y per : ℕ) (a b : Broker) (f : Link) (back : List Packet) (p : Plan) → y < length a.senders → Each (OkWrite x y a.entries b.entries) p.writes
     → (Sending x y (after_writes a.entries p.writes) (sender_after y (sender_at a y) p.writes) b.entries f.sent back
-      → Sending x y (after_writes a.entries p.writes) (sender_then y (sender_after y (sender_at a y) p.writes) p.changes) b.entries f.sent back)
+    → Sending x y (after_writes a.entries p.writes) (sender_then y (sender_after y (sender_at a y) p.writes) p.changes) b.entries f.sent back)
     → Facts x y a b f back → Facts x y (done per a p) b f back
 facts_done x y per a b f back p lt ok turns h =
     facts_of x y (done per a p) b f back _ _ (done_entries per a p) (done_sender per a y p lt) h.receiving
-      (turns (sending_written x y a.entries b.entries (sender_at a y) _ _ f.sent back
-        (all_ok_written x y a.entries b.entries (sender_at a y) a.entries (sender_at a y) p.writes ok (none_written x y a.entries b.entries (sender_at a y)))
-        (sending_of x y a b f back h)))
+    (turns (sending_written x y a.entries b.entries (sender_at a y) _ _ f.sent back
+    (all_ok_written x y a.entries b.entries (sender_at a y) a.entries (sender_at a y) p.writes ok (none_written x y a.entries b.entries (sender_at a y)))
+    (sending_of x y a b f back h)))
 
 -- one that leaves the sender
 pub facts_aside : (x y per : ℕ) (a b : Broker) (f : Link) (back : List Packet) (p : Plan) → y < length a.senders → Each (OkWrite x y a.entries b.entries) p.writes
     → Each (LeavesSender y) p.changes → Facts x y a b f back → Facts x y (done per a p) b f back
 facts_aside x y per a b f back p lt ok leaves h =
     facts_done x y per a b f back p lt ok
-      (λ k. let P : Sender → Type 0 = λ t. Sending x y (after_writes a.entries p.writes) t b.entries f.sent back in subst P (sym (left_all y _ p.changes leaves)) k) h
+    (λ k. let P : Sender → Type 0 = λ t. Sending x y (after_writes a.entries p.writes) t b.entries f.sent back in subst P (sym (left_all y _ p.changes leaves)) k) h
 
 -- a stop behind some of its writes
 pub sending_restarted : (x y : ℕ) (near : List Entry) (s : Sender) (far : List Entry) (sent back : List Packet) → Sending x y near s far sent back
@@ -186,7 +180,7 @@ pub facts_halted : (x y per k : ℕ) (a b : Broker) (f : Link) (back : List Pack
 facts_halted x y per k a b f back p lt ok h =
     let ws = take k p.writes in
     facts_of x y (halted per a k p) b f back _ _ (halted_entries per a k p ∙ after_halt a.entries ws) (halted_sender per a y k p lt) h.receiving
-      (sending_restarted x y (after_writes a.entries ws) (sender_after y (sender_at a y) ws) b.entries f.sent back
-        (sending_written x y a.entries b.entries (sender_at a y) _ _ f.sent back
-          (all_ok_written x y a.entries b.entries (sender_at a y) a.entries (sender_at a y) ws (each_take (OkWrite x y a.entries b.entries) k p.writes ok) (none_written x y a.entries b.entries (sender_at a y)))
-          (sending_of x y a b f back h)))
+    (sending_restarted x y (after_writes a.entries ws) (sender_after y (sender_at a y) ws) b.entries f.sent back
+    (sending_written x y a.entries b.entries (sender_at a y) _ _ f.sent back
+    (all_ok_written x y a.entries b.entries (sender_at a y) a.entries (sender_at a y) ws (each_take (OkWrite x y a.entries b.entries) k p.writes ok) (none_written x y a.entries b.entries (sender_at a y)))
+    (sending_of x y a b f back h)))

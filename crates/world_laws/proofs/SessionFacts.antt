@@ -1,6 +1,6 @@
 -- What keeps the facts of a sender's memory: one lemma for each kind of change.
 use Rattle.std.proofs.Common.{◌≡◌, ℕ, zero, suc, ◌+◌, ◌<◌, ◌≤◌, Bool, true, false, List, [], ◌∷◌, ◌++◌, length, refl, sym, ap, subst, ◌∙◌, ◌==◌, arith, inl, inr, ◌⊎◌}
-use Rattle.std.specs.Prelude.{Option, Some, None, if◌then◌else◌, nat_lt, slice_get}
+use Rattle.std.specs.Prelude.{Some, if◌then◌else◌, nat_lt, slice_get}
 use Rattle.std.proofs.lemmas.Bool.{eqb-true, ltb-true}
 use Rattle.std.proofs.lemmas.Bool.Decides.{nat_tests}
 use Rattle.std.proofs.lemmas.Option.{none-some, same_Some, slice_get_within}
@@ -10,8 +10,8 @@ use Rattle.geo_base.specs.Cursor.{has}
 use Rattle.geo_base.specs.Sender.{Sender, pending_index, sender_sent, without_number}
 use Rattle.world_laws.proofs.Members.{Stands, get_last, stands_next}
 use Rattle.world_laws.proofs.Once.{get_push}
-use Rattle.world_laws.proofs.Packets.{Asks, Carries, IsOpener, IsSend, WasSent, WasSentBefore, last_opener, last_send, not_both, same_entry, same_number, same_place, send_left, sent_left}
-use Rattle.world_laws.proofs.PairFacts.{Carried, Grew, Grows, InSession, IsPending, IsPlaced, carried_sent, grows_get, grows_length, grows_within}
+use Rattle.world_laws.proofs.Packets.{Asks, Carries, IsOpener, IsSend, WasSent, last_opener, last_send, not_both, same_entry, same_number, send_left, sent_left}
+use Rattle.world_laws.proofs.PairFacts.{Grows, InSession, IsPending, grows_get, grows_length, grows_within}
 use Rattle.world_laws.proofs.Prefixes.{is_out}
 
 -- the topic grows, and the cursor too
@@ -23,14 +23,14 @@ session_grew x y near near' sent s cursor g keeps f = record {
   unique = f.unique;
   opened = f.opened;
   read = λ j e lt at out.
-    elim (f.read j e lt (grows_within near near' g j e (omega (arith, lt, f.read_within)) at) out) [
-      | inl h ↦ inl (keeps j h)
-      | inr w ↦ inr w
-    ];
+      elim (f.read j e lt (grows_within near near' g j e (omega (arith, lt, f.read_within)) at) out) [
+        | inl h ↦ inl (keeps j h)
+        | inr w ↦ inr w
+      ];
   read_within = omega (arith, f.read_within, grows_length near near' g);
   pending = λ a d is.
-    let p = f.pending a d is in
-    record { place = p.place; entry = p.entry; send = p.send; at = grows_get near near' g d.index p.entry p.at };
+      let p = f.pending a d is in
+      record { place = p.place; entry = p.entry; send = p.send; at = grows_get near near' g d.index p.entry p.at };
 }
 
 -- a sender that has no memory, in a session that may be new
@@ -43,10 +43,10 @@ pub session_forgot : (x y : ℕ) (near : List Entry) (sent : List Packet) (s : S
 session_forgot x y near sent s m state le new f = record {
   bounded = λ q p at. omega (arith, le, f.bounded q p at);
   numbered = λ live q k e is.
-    elim new [
-      | inl h ↦ absurd (live h)
-      | inr h ↦ let b = f.bounded q is.packet is.at in absurd (omega (arith, h, b, is.carries.session))
-    ];
+      elim new [
+        | inl h ↦ absurd (live h)
+        | inr h ↦ let b = f.bounded q is.packet is.at in absurd (omega (arith, h, b, is.carries.session))
+      ];
   unique = f.unique;
   opened = f.opened;
   read = λ j e lt at out. absurd (omega (arith, lt));
@@ -62,21 +62,22 @@ session_opens x y near sent s p asks unused f = record {
   numbered = λ live q k e is. absurd (none_new q k e is);
   unique = λ q r m k e g is is'. f.unique q r m k e g (old q m k e is) (old r m k g is');
   opened = λ q r m k e is is'.
-    elim (last_opener sent p q m is) [
-      | inl h ↦ f.opened q r m k e h (old r m k e is')
-      | inr h ↦
-        let P : ℕ → Type 0 = λ n. IsSend sent r n k e in
-        absurd (unused r k e (subst P (sym h.1.session ∙ asks.session) (old r m k e is')))
-    ];
+      elim (last_opener sent p q m is) [
+        | inl h ↦ f.opened q r m k e h (old r m k e is')
+        | inr h ↦
+            let P : ℕ → Type 0 = λ n. IsSend sent r n k e in
+            absurd (unused r k e (subst P (sym h.1.session ∙ asks.session) (old r m k e is')))
+      ];
   read = λ j e lt at out. elim (f.read j e lt at out) [ inl h ↦ inl h | inr w ↦ inr (sent_left sent (p ∷ []) s.session e w) ];
   read_within = f.read_within;
   pending = λ a d is.
-    let n = f.pending a d is in
-    record { place = n.place; entry = n.entry; send = send_left sent (p ∷ []) n.place s.session d.number n.entry n.send; at = n.at };
+      let n = f.pending a d is in
+      record { place = n.place; entry = n.entry; send = send_left sent (p ∷ []) n.place s.session d.number n.entry n.send; at = n.at };
 }
   where
     old : (q m k : ℕ) (e : Entry) → IsSend (sent ++ p ∷ []) q m k e → IsSend sent q m k e
     old q m k e is = elim (last_send sent p q m k e is) [ inl h ↦ h | inr h ↦ absurd (not_both p s.session m k e asks h.1) ]
+
     none_new : (q k : ℕ) (e : Entry) → IsSend (sent ++ p ∷ []) q s.session k e → ⊥
     none_new q k e is = unused q k e (old q s.session k e is)
 
@@ -154,27 +155,29 @@ pub session_sent : (x y : ℕ) (near : List Entry) (sent : List Packet) (s : Sen
 session_sent x y near sent s i e p live at covered carries f = record {
   bounded = λ q r h. elim (get_push sent p q r h) [ inl h ↦ f.bounded q r h.1 | inr h ↦ omega (arith, carries.session, ap (λ (r : Packet). r.session) h.1) ];
   numbered = λ _ q k g is.
-    elim (last_send sent p q s.session k g is) [
-      | inl h ↦ let lt = f.numbered live q k g h in omega (arith, lt)
-      | inr h ↦ let same = same_number p s.session s.session s.next k e g carries h.1 in omega (arith, same)
-    ];
+      elim (last_send sent p q s.session k g is) [
+        | inl h ↦ let lt = f.numbered live q k g h in omega (arith, lt)
+        | inr h ↦ let same = same_number p s.session s.session s.next k e g carries h.1 in omega (arith, same)
+      ];
   unique = unique_sent;
   opened = λ q r m k g is is'. opened_sent q r m k g is (last_send sent p r m k g is');
   read = λ j g lt at' out. read_sent j g lt at' out (nat_lt j s.read_index) (j == i) refl refl;
   read_within = let w = slice_get_within near i e at in omega (arith, w);
   pending = λ a d is.
-    elim (get_push s.pending (record { number = s.next; index = i }) a d is) [
-      | inl h ↦
-        let n = f.pending a d h.1 in
-        record { place = n.place; entry = n.entry; send = send_left sent (p ∷ []) n.place s.session d.number n.entry n.send; at = n.at }
-      | inr h ↦ let P : Pending → Type 0 = λ d. IsPending near (sent ++ p ∷ []) s.session d in subst P h.1 here
-    ];
+      elim (get_push s.pending (record { number = s.next; index = i }) a d is) [
+        | inl h ↦
+            let n = f.pending a d h.1 in
+            record { place = n.place; entry = n.entry; send = send_left sent (p ∷ []) n.place s.session d.number n.entry n.send; at = n.at }
+        | inr h ↦ let P : Pending → Type 0 = λ d. IsPending near (sent ++ p ∷ []) s.session d in subst P h.1 here
+      ];
 }
   where
     new : IsSend (sent ++ p ∷ []) (length sent) s.session s.next e
     new = record { packet = p; at = get_last sent p; carries = carries }
+
     here : IsPending near (sent ++ p ∷ []) s.session (record { number = s.next; index = i })
     here = record { place = length sent; entry = e; send = new; at = at }
+
     -- an earlier SEND has another number
     earlier : (q m k : ℕ) (g h : Entry) → IsSend sent q m k g → Carries p m k h → ⊥
     earlier q m k g h is c =
@@ -182,6 +185,7 @@ session_sent x y near sent s i e p live at covered carries f = record {
         let lt = f.numbered live q k g (subst P (sym c.session ∙ carries.session) is) in
         let same = same_number p s.session m s.next k e h carries c in
         omega (arith, lt, same)
+
     unique_sent : (q r m k : ℕ) (g h : Entry) → IsSend (sent ++ p ∷ []) q m k g → IsSend (sent ++ p ∷ []) r m k h → g ≡ h
     unique_sent q r m k g h is is' = go (last_send sent p q m k g is) (last_send sent p r m k h is')
       where
@@ -190,6 +194,7 @@ session_sent x y near sent s i e p live at covered carries f = record {
         go (inl a) (inr b) = absurd (earlier q m k g h a b.1)
         go (inr a) (inl b) = absurd (earlier r m k h g b a.1)
         go (inr a) (inr b) = same_entry p m m k k g h a.1 b.1
+
     opened_sent : (q r m k : ℕ) (g : Entry) → IsOpener (sent ++ p ∷ []) q m → IsSend sent r m k g ⊎ ((r ≡ length sent) × Carries p m k g) → q < r
     opened_sent q r m k g is is' =
         elim (last_opener sent p q m is) [
@@ -199,6 +204,7 @@ session_sent x y near sent s i e p live at covered carries f = record {
             | inr h' ↦ let w = slice_get_within sent q h.packet h.at in omega (arith, w, h'.0)
           ]
         ]
+
     read_sent : (j : ℕ) (g : Entry) → j < i + 1 → slice_get near j ≡ Some g → is_out x y g ≡ true → (b c : Bool) → nat_lt j s.read_index ≡ b → (j == i) ≡ c
         → (has s.cursor j ≡ true) ⊎ WasSent (sent ++ p ∷ []) s.session g
     read_sent j g lt at' out true c h h' =

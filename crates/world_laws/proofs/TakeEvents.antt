@@ -1,36 +1,34 @@
 -- The packets that y takes from x, each with what it does to the facts of the pair.
-use Rattle.std.proofs.Common.{◌≡◌, ℕ, zero, suc, ◌+◌, ◌<◌, ◌≤◌, Bool, true, false, List, [], ◌∷◌, ◌++◌, length, refl, sym, ap, subst, ◌∙◌, ◌==◌, arith, inl, inr, ◌⊎◌}
-use Rattle.std.specs.Prelude.{Option, Some, None, if◌then◌else◌, ◌&&◌, nat_lt, slice_get, take}
+use Rattle.std.proofs.Common.{◌≡◌, ℕ, zero, ◌+◌, ◌<◌, ◌≤◌, Bool, true, false, List, [], ◌∷◌, ◌++◌, length, refl, sym, ap, subst, ◌∙◌, ◌==◌, arith, inl, inr}
+use Rattle.std.specs.Prelude.{Option, Some, None, if◌then◌else◌, slice_get}
 use Rattle.std.specs.Str.{bytes_eq}
 use Rattle.std.proofs.lemmas.Bool.{eqb-true, eq-eqb, false≢true}
 use Rattle.std.proofs.lemmas.Bool.Decides.{nat_tests}
-use Rattle.std.proofs.lemmas.Option.{none-some, same_Some, slice_get_within}
-use Rattle.world_laws.proofs.Types.{Change, Entry, Frame, Out, Packet, Place, Position, Write}
-use Rattle.world_laws.proofs.Types.change
+use Rattle.std.proofs.lemmas.Option.{same_Some, slice_get_within}
+use Rattle.world_laws.proofs.Types.{Entry, Frame, Out, Packet, Place, Position}
 use Rattle.world_laws.proofs.Types.frame
 use Rattle.world_laws.proofs.Types.peer
-use Rattle.world_laws.proofs.Types.write
 use Rattle.geo_base.specs.Broker.{Broker, Site, receiver_at, sender_at}
 use Rattle.geo_base.specs.Entry.{with_origin}
 use Rattle.geo_base.specs.Forwarding.{closes, link_producer}
 use Rattle.geo_base.specs.Link.{Link}
-use Rattle.geo_base.specs.Plan.{Plan, done, halted}
+use Rattle.geo_base.specs.Plan.{Plan, done}
 use Rattle.geo_base.specs.Position.{nowhere}
 use Rattle.geo_base.specs.Receiver.{is_open}
 use Rattle.geo_base.specs.Topic.{accepts, next_position}
 use Rattle.geo_base.specs.World.{stamped}
-use Rattle.world_laws.proofs.Appends.{after_writes, done_entries, halted_entries}
-use Rattle.world_laws.proofs.Effects.{Each, done_session, done_size, each_both, each_map, each_take, halted_session, session_changed, session_then}
+use Rattle.world_laws.proofs.Appends.{after_writes, done_entries}
+use Rattle.world_laws.proofs.Effects.{Each, done_session, done_size, each_both, each_map, session_then}
 use Rattle.world_laws.proofs.InARow.{taken_in_a_row}
 use Rattle.world_laws.proofs.Members.{Stands, stands_here, stands_left}
 use Rattle.world_laws.proofs.Once.{OnceIn}
-use Rattle.world_laws.proofs.Packets.{Asks, Carries, IsOpener, IsSend, Receives, not_both, same_entry, same_place}
-use Rattle.world_laws.proofs.PairFacts.{Carried, InSession, IsAnswered, IsPlaced, Receiving, carried_far, none_open}
-use Rattle.world_laws.proofs.Prefixes.{AllBefore, Begins, is_of, is_out, next_begins, of_out, other_begins, refused_stands}
+use Rattle.world_laws.proofs.Packets.{Asks, Carries, IsOpener, IsSend, Receives, same_entry, same_place}
+use Rattle.world_laws.proofs.PairFacts.{Carried, IsAnswered, IsPlaced, Receiving, carried_far, none_open}
+use Rattle.world_laws.proofs.Prefixes.{AllBefore, Begins, is_of, next_begins, of_out, refused_stands}
 use Rattle.world_laws.proofs.SenderSide.{Facts}
 use Rattle.world_laws.proofs.ReceiverSide.{Extends, extends_both, stands_after}
 use Rattle.world_laws.proofs.Walk.{right}
-use Rattle.world_laws.proofs.Shapes.{Fated, Taken, in_a_row}
+use Rattle.world_laws.proofs.Shapes.{Fated, Taken}
 
 -- an answer that may go out: no receipt, or one of a SEND whose entry stands
 abbrev pub OkOut : List Entry → List Packet → Out → Type 0
@@ -124,15 +122,15 @@ taken_once x y near cursor h b sent back c q p plan once opened at within le ge 
 taken_once x y near cursor h b sent back c q p plan once opened at within le ge (Taken.Opens topic id request name is opening) carried receiving = record {
   carried = carried;
   receiving =
-    let R : Option ℕ → Type 0 = λ o. Receiving o b.entries sent (q + 1) in
-    let same : id ≡ p.session = eqb-true id p.session (right (bytes_eq topic h.topic) (id == p.session) opening) in
-    subst R (sym (session_of x (receiver_at b x) (Some id)))
+      let R : Option ℕ → Type 0 = λ o. Receiving o b.entries sent (q + 1) in
+      let same : id ≡ p.session = eqb-true id p.session (right (bytes_eq topic h.topic) (id == p.session) opening) in
+      subst R (sym (session_of x (receiver_at b x) (Some id)))
       (record {
         within = omega (arith, within);
         stands = λ m live v k e lt send.
-          let asks : Asks p m = record { session = sym same ∙ same_Some _ _ live; topic = topic; id = id; request = request; name = name; is = is } in
-          let first = opened q v m k e (record { packet = p; at = at; asks = asks }) send in
-          absurd (omega (arith, first, lt));
+            let asks : Asks p m = record { session = sym same ∙ same_Some _ _ live; topic = topic; id = id; request = request; name = name; is = is } in
+            let first = opened q v m k e (record { packet = p; at = at; asks = asks }) send in
+            absurd (omega (arith, first, lt));
       });
   answers = (no_receipt (record { to = peer.Back x; session = id; frame = frame.ProducerSuccess request (link_producer h x) }) b.entries sent refl, tt);
 }
@@ -165,11 +163,11 @@ taken_once x y near cursor h b sent back c q p plan once opened at within le ge 
     let here : Stands (b.entries ++ e ∷ []) e = stands_here b.entries [] e in
     let more : (f : Entry) → Stands b.entries f → Stands (b.entries ++ e ∷ []) f = λ f s. stands_left b.entries (e ∷ []) f s in
     subst G (sym own)
-      (record {
-        carried = carried_far x y near cursor b.entries (b.entries ++ e ∷ []) sent back begins more carried;
-        receiving = stands_on b.entries (b.entries ++ e ∷ []) (receiver_at b x) sent c q p id seq source e at is within le ge more here receiving;
-        answers = (receipt_ok (b.entries ++ e ∷ []) sent q p seq e out (Some (next_position h.per_ledger b.ledgers)) send here refl refl, tt);
-      })
+    (record {
+      carried = carried_far x y near cursor b.entries (b.entries ++ e ∷ []) sent back begins more carried;
+      receiving = stands_on b.entries (b.entries ++ e ∷ []) (receiver_at b x) sent c q p id seq source e at is within le ge more here receiving;
+      answers = (receipt_ok (b.entries ++ e ∷ []) sent q p seq e out (Some (next_position h.per_ledger b.ledgers)) send here refl refl, tt);
+    })
 taken_once x y near cursor h b sent back c q p plan once opened at within le ge (Taken.Repeats id seq source e is live may old) carried receiving =
     let send = send_at sent q p id seq source e at is in
     let placed = carried.sends q p.session seq e send in
@@ -200,23 +198,23 @@ taken_one x y near cursor h b sent back c q p plan lt k t =
     let b' = done h.per_ledger b plan in
     let P : List Entry → Option ℕ → Type 0 = λ es r. HasTaken x y near cursor es r sent back (q + 1) plan.sent in
     subst (λ (es : List Entry). P es (receiver_at b' x)) (sym (done_entries h.per_ledger b plan))
-      (subst (P (after_writes b.entries plan.writes)) (sym (done_session h.per_ledger b x plan lt))
-        (taken_once x y near cursor h b sent back c q p plan k.once k.opened k.at k.within k.low k.high t k.carried k.receiving))
+    (subst (P (after_writes b.entries plan.writes)) (sym (done_session h.per_ledger b x plan lt))
+    (taken_once x y near cursor h b sent back c q p plan k.once k.opened k.at k.within k.low k.high t k.carried k.receiving))
 
 -- what goes out goes on standing
 outs_later : (per : ℕ) (b : Broker) (q : Plan) (sent : List Packet) (outs : List Out) → Each (OkOut b.entries sent) outs → Each (OkOut (done per b q).entries sent) outs
 outs_later per b q sent outs h =
     let P : List Entry → Entry → Type 0 = λ es e. Stands es e in
     each_map (OkOut b.entries sent) (OkOut (done per b q).entries sent)
-      (λ o ok stamp m k r.
-        let n = ok stamp m k r in
-        record {
-          place = n.place;
-          entry = n.entry;
-          send = n.send;
-          stands = subst (λ (es : List Entry). P es n.entry) (sym (done_entries per b q)) (stands_after b.entries q.writes n.entry n.stands);
-        })
-      outs h
+    (λ o ok stamp m k r.
+    let n = ok stamp m k r in
+    record {
+      place = n.place;
+      entry = n.entry;
+      send = n.send;
+      stands = subst (λ (es : List Entry). P es n.entry) (sym (done_entries per b q)) (stands_after b.entries q.writes n.entry n.stands);
+    })
+    outs h
 
 coming_first : (x y : ℕ) (a b : Broker) (f : Link) (back : List Packet) (p : Packet) → OnceIn a.entries → slice_get f.sent f.taken ≡ Some p → Facts x y a b f back
     → Coming x y a.entries (sender_at a y).cursor b f.sent back f.taken f.taken p
@@ -257,7 +255,7 @@ taken_done x y h a b f back p plan once lt at Fated.Lost facts =
     record {
       carried = facts.carried;
       receiving =
-        subst R (sym (done_session h.per_ledger b x (closes x) lt)) (closed_session x (receiver_at b x) b.entries f.sent (f.taken + 1) (omega (arith, w)));
+          subst R (sym (done_session h.per_ledger b x (closes x) lt)) (closed_session x (receiver_at b x) b.entries f.sent (f.taken + 1) (omega (arith, w)));
       answers = tt;
     }
 taken_done x y h a b f back p plan once lt at (Fated.Twice q q' t t') facts =
@@ -266,14 +264,14 @@ taken_done x y h a b f back p plan once lt at (Fated.Twice q q' t t') facts =
     let first = coming_first x y a b f back p once at facts in
     let one = taken_one x y near cursor h b f.sent back f.taken f.taken p q lt first t in
     let two = taken_one x y near cursor h b' f.sent back (f.taken + 1) f.taken p q' (omega (arith, lt, (done_size h.per_ledger b q).receivers))
-      (coming_again x y near cursor b b' f.sent back f.taken f.taken p q.sent first one) t' in
+    (coming_again x y near cursor b b' f.sent back f.taken f.taken p q.sent first one) t' in
     let P : Broker → Type 0 = λ d. HasTaken x y near cursor d.entries (receiver_at d x) f.sent back (f.taken + 1) (q.sent ++ q'.sent) in
     subst P (sym (taken_in_a_row h.per_ledger h b b' x p q q' t t' b))
-      (record {
-        carried = two.carried;
-        receiving = two.receiving;
-        answers = each_both (OkOut (done h.per_ledger b' q').entries f.sent) q.sent q'.sent (outs_later h.per_ledger b' q' f.sent q.sent one.answers) two.answers;
-      })
+    (record {
+      carried = two.carried;
+      receiving = two.receiving;
+      answers = each_both (OkOut (done h.per_ledger b' q').entries f.sent) q.sent q'.sent (outs_later h.per_ledger b' q' f.sent q.sent one.answers) two.answers;
+    })
 
 -- each append of it leaves a beginning, also where a stop comes behind it
 taken_extends : (x y : ℕ) (near : List Entry) (h : Site) (b : Broker) (p : Packet) (plan : Plan) → Taken h b x p plan
@@ -303,5 +301,5 @@ fated_extends x y h a b f back p plan once lt at (Fated.Twice q q' t t') facts =
     let one = taken_one x y near cursor h b f.sent back f.taken f.taken p q lt first t in
     let E : List Entry → Type 0 = λ es. Extends x y near es q'.writes in
     extends_both x y near b.entries q.writes q'.writes (one_extends x y near cursor h b f.sent back f.taken f.taken p q first t)
-      (subst E (done_entries h.per_ledger b q)
-        (one_extends x y near cursor h b' f.sent back (f.taken + 1) f.taken p q' (coming_again x y near cursor b b' f.sent back f.taken f.taken p q.sent first one) t'))
+    (subst E (done_entries h.per_ledger b q)
+    (one_extends x y near cursor h b' f.sent back (f.taken + 1) f.taken p q' (coming_again x y near cursor b b' f.sent back f.taken f.taken p q.sent first one) t'))
