@@ -26,7 +26,7 @@ use Rattle.world_laws.proofs.Shapes.{Shape}
 use Rattle.world_laws.proofs.Walk.{left, on_if, right}
 
 -- of two entries of one origin and producer the earlier has the smaller sequence id
-abbrev OnceIn : List Entry → Type 0
+abbrev pub OnceIn : List Entry → Type 0
 OnceIn es = (i j : ℕ) (e f : Entry) → i < j → slice_get es i ≡ Some e → slice_get es j ≡ Some f → same_stream e.ident f.ident ≡ true → e.ident.seq < f.ident.seq
 
 -- an element of a list with one more at its end is one of the list, or the new one
@@ -42,7 +42,7 @@ get_push (x ∷ xs) y (suc j) z h =
     ]
 
 -- what an accepted entry is newer than
-accepts_newer : (es : List Entry) (i : Ident) → accepts es i ≡ true → (k : ℕ) (a : Entry) → slice_get es k ≡ Some a → same_stream a.ident i ≡ true → a.ident.seq < i.seq
+pub accepts_newer : (es : List Entry) (i : Ident) → accepts es i ≡ true → (k : ℕ) (a : Entry) → slice_get es k ≡ Some a → same_stream a.ident i ≡ true → a.ident.seq < i.seq
 accepts_newer [] i h k a g s = absurd (none-some a g)
 accepts_newer (e ∷ es) i h zero a g s =
     let e_is : e ≡ a = same_Some _ _ g in
@@ -123,7 +123,7 @@ opening_once : (s : Setup) → AllOnce (opening_world s)
 opening_once s z =
     at_copies IsOnce (length s.topics * length s.clusters) z (new_broker (length s.clusters) (length s.clients)) no_broker empty_once empty_once
 
-once_kept : (s : Setup) → IsKept s AllOnce
+pub once_kept : (s : Setup) → IsKept s AllOnce
 once_kept s = record {
   opening = opening_once s;
   idle = λ w n once. once;

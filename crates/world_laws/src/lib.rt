@@ -4,6 +4,8 @@
 //! the definitions; nothing is done in its body, and its proof stands in `proofs/`.
 #![tactic(auto)]
 
+pub mod replication;
 pub mod topics;
 
+pub use replication::{law_prefix, law_receipt};
 pub use topics::law_once;
