@@ -1,5 +1,5 @@
 -- Names are ASCII, so they are texts.
-use Rattle.std.proofs.Common.{◌≡◌, ℕ, ◌<◌, nat_le, ◌==◌, Bool, true, ◌&&◌, ◌||◌, List, [], ◌∷◌, inl, inr, arith}
+use Rattle.std.proofs.Common.{◌≡◌, ℕ, ◌<◌, nat_le, ◌==◌, true, ◌&&◌, ◌||◌, List, [], ◌∷◌, inl, inr, arith}
 use Rattle.std.specs.List.{list_all}
 use Rattle.std.specs.Str.{IsUtf8, IsAscii}
 use Rattle.std.proofs.lemmas.Bool.{and_parts, or_cases, leb-true, eqb-true}
