@@ -11,8 +11,8 @@ use std::marker::Model;
 /// Texts in order.
 pub type TextList = Sequence<Text>;
 
-/// The metadata of a message. `rest` has the fields of no other number, in their order; they are kept and written
-/// again (own).
+/// The metadata of a message. `rest` holds no field that the table names: the others are kept in their order and
+/// written again (own).
 #[derive(Debug, Drop)]
 pub struct Meta {
     /// The name of the producer that published the message.
@@ -29,6 +29,7 @@ pub struct Meta {
     pub replicate_to: TextList,
     /// What kind of marker it is, where it is one.
     pub marker: Option<u64>,
+    /// The fields that the table does not name.
     pub rest: FieldList,
 }
 
@@ -55,7 +56,7 @@ impl Model for Meta {
 }
 
 impl Meta {
-    /// The same metadata, replicated from a cluster.
+    /// The same metadata, replicated from a cluster; `Memory` where there is no room for its name.
     pub fn with_origin(self, alloc: Global, cluster: &ClusterName) -> Result<Meta, Memory>
         ensures { IfOk result (λ m. m ≡ record self { replicated_from = Some cluster.now }) }
     {

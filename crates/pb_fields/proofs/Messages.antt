@@ -68,11 +68,26 @@ last_value-other n fields f other =
 
 -- ---- the judgement of fields
 
-pub first_wrong : (rows : List Row) (front : List Field) (f : Field) (rest : List Field) (e : MessageFault) → AllByRecursion (Fits rows) front → IsWrong rows f e → FirstWrong (Fits rows) (IsWrong rows) (front ++ f ∷ rest) e
-first_wrong rows [] f rest e right wrong = here wrong
-first_wrong rows (g ∷ front) f rest e right wrong = later right.0 (first_wrong rows front f rest e right.1 wrong)
+-- Right and Wrong may be those of any message: a field is not both, and one thing is wrong with it.
+module _ (Right : Field → Type 0) (Wrong : Field → MessageFault → Type 0) where
+  pub first_wrong : (front : List Field) (f : Field) (rest : List Field) (e : MessageFault) → AllByRecursion Right front → Wrong f e → FirstWrong Right Wrong (front ++ f ∷ rest) e
+  first_wrong [] f rest e right wrong = here wrong
+  first_wrong (g ∷ front) f rest e right wrong = later right.0 (first_wrong front f rest e right.1 wrong)
 
-fits_or_wrong : (rows : List Row) (f : Field) (e : MessageFault) → Fits rows f → IsWrong rows f e → ⊥
+module _ (Right : Field → Type 0) (Wrong : Field → MessageFault → Type 0) (either : (f : Field) (e : MessageFault) → Right f → Wrong f e → ⊥) where
+  pub none_wrong : (fs : List Field) (e : MessageFault) → AllByRecursion Right fs → FirstWrong Right Wrong fs e → ⊥
+  none_wrong [] e right h = elim h [ ]
+  none_wrong (f ∷ fs) e right (here h) = either f e right.0 h
+  none_wrong (f ∷ fs) e right (later r h) = none_wrong fs e right.1 h
+
+  pub first_one : (one : (f : Field) (a b : MessageFault) → Wrong f a → Wrong f b → a ≡ b) (fs : List Field) (a b : MessageFault) → FirstWrong Right Wrong fs a → FirstWrong Right Wrong fs b → a ≡ b
+  first_one one [] a b h k = elim h [ ]
+  first_one one (f ∷ fs) a b (here h) (here k) = one f a b h k
+  first_one one (f ∷ fs) a b (here h) (later right k) = absurd (either f a right h)
+  first_one one (f ∷ fs) a b (later right h) (here k) = absurd (either f b right k)
+  first_one one (f ∷ fs) a b (later right h) (later right' k) = first_one one fs a b h k
+
+pub fits_or_wrong : (rows : List Row) (f : Field) (e : MessageFault) → Fits rows f → IsWrong rows f e → ⊥
 fits_or_wrong rows f e fit (type_differs r is differs e-is) = differs (same_type f.value r.form (fit r is))
   where
     same_type : (v : Value) (k : Form) → HasForm v k → wire_type v ≡ form_type k
@@ -92,26 +107,16 @@ text_type rows f r r' content is is' text bytes differs =
     some_is : (x y : Row) → ◌≡◌ {A = Option Row} (Some x) (Some y) → x ≡ y
     some_is x y e = cc
 
-wrong_one : (rows : List Row) (f : Field) (a b : MessageFault) → IsWrong rows f a → IsWrong rows f b → a ≡ b
+pub wrong_one : (rows : List Row) (f : Field) (a b : MessageFault) → IsWrong rows f a → IsWrong rows f b → a ≡ b
 wrong_one rows f a b (type_differs r is differs a-is) (type_differs r' is' differs' b-is) = a-is ∙ sym b-is
 wrong_one rows f a b (type_differs r is differs a-is) (not_text r' content is' text bytes broken b-is) = absurd (text_type rows f r r' content is is' text bytes differs)
 wrong_one rows f a b (not_text r' content is' text bytes broken a-is) (type_differs r is differs b-is) = absurd (text_type rows f r r' content is is' text bytes differs)
 wrong_one rows f a b (not_text r content is text bytes broken a-is) (not_text r' content' is' text' bytes' broken' b-is) = a-is ∙ sym b-is
 
-pub first_one : (rows : List Row) {fs : List Field} {a b : MessageFault} → FirstWrong (Fits rows) (IsWrong rows) fs a → FirstWrong (Fits rows) (IsWrong rows) fs b → a ≡ b
-first_one rows {a = a} {b = b} (here {f = f} h) (here k) = wrong_one rows f a b h k
-first_one rows {a = a} (here {f = f} h) (later right k) = absurd (fits_or_wrong rows f a right h)
-first_one rows {b = b} (later {f = f} right h) (here k) = absurd (fits_or_wrong rows f b right k)
-first_one rows (later right h) (later right' k) = first_one rows h k
-
-pub none_wrong : (rows : List Row) {fs : List Field} {e : MessageFault} → AllByRecursion (Fits rows) fs → FirstWrong (Fits rows) (IsWrong rows) fs e → ⊥
-none_wrong rows {e = e} right (here {f = f} h) = fits_or_wrong rows f e right.0 h
-none_wrong rows right (later r h) = none_wrong rows right.1 h
-
 pub fields_one : (rows : List Row) (fs : List Field) (a b : MessageFault) → WrongFields rows fs a → WrongFields rows fs b → a ≡ b
-fields_one rows fs a b (field h) (field k) = first_one rows h k
-fields_one rows fs a b (field h) (missing n fit is b-is) = absurd (none_wrong rows fit h)
-fields_one rows fs a b (missing n fit is a-is) (field k) = absurd (none_wrong rows fit k)
+fields_one rows fs a b (field h) (field k) = first_one (Fits rows) (IsWrong rows) (fits_or_wrong rows) (wrong_one rows) fs a b h k
+fields_one rows fs a b (field h) (missing n fit is b-is) = absurd (none_wrong (Fits rows) (IsWrong rows) (fits_or_wrong rows) fs _ fit h)
+fields_one rows fs a b (missing n fit is a-is) (field k) = absurd (none_wrong (Fits rows) (IsWrong rows) (fits_or_wrong rows) fs _ fit k)
 fields_one rows fs a b (missing m fit is a-is) (missing n fit' is' b-is) =
     a-is ∙ ap (λ (x : ℕ). fault.Missing x) (same_number m n (sym is ∙ is')) ∙ sym b-is
   where
@@ -119,7 +124,7 @@ fields_one rows fs a b (missing m fit is a-is) (missing n fit' is' b-is) =
     same_number x y e = cc
 
 pub fields_sound : (rows : List Row) (fs : List Field) (e : MessageFault) → IsMessage rows fs → WrongFields rows fs e → ⊥
-fields_sound rows fs e right (field h) = none_wrong rows right.fit h
+fields_sound rows fs e right (field h) = none_wrong (Fits rows) (IsWrong rows) (fits_or_wrong rows) fs _ right.fit h
 fields_sound rows fs e right (missing n fit is e-is) = (let h = right.complete in cc)
 
 -- ---- the judgement of bytes

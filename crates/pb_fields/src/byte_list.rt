@@ -37,7 +37,7 @@ impl ByteList {
         ByteList { bytes }
     }
 
-    /// A copy of the bytes.
+    /// A copy of the bytes of a slice; `Memory` where there is no room for it.
     pub fn from_slice(alloc: Global, bytes: &[u8]) -> Result<ByteList, Memory>
         ensures { IfOk result (λ b. b ≡ bytes.now) }
     {
@@ -46,18 +46,21 @@ impl ByteList {
         })
     }
 
+    /// How many bytes there are.
     pub fn len(&self) -> usize
         ensures { result ≡ length self.now }
     {
         self.bytes.len()
     }
 
+    /// Whether there is none.
     pub fn is_empty(&self) -> bool
         ensures { IsTrue result ↔ (self.now ≡ []) }
     {
         self.bytes.is_empty()
     }
 
+    /// The bytes as a slice.
     pub fn as_slice(&self) -> &[u8]
         ensures { result.now ≡ self.now }
     {

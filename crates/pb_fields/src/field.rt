@@ -15,9 +15,13 @@ use std::marker::Model;
 /// which are deprecated there, are not read.
 #[derive(Clone, Copy, Debug, PartialEq, Eq)]
 pub enum WireType {
+    /// Groups of seven bits, number 0 in a tag.
     Varint,
+    /// Eight bytes, number 1.
     Fixed64,
+    /// A length and so many bytes, number 2.
     Bytes,
+    /// Four bytes, number 5.
     Fixed32,
 }
 
@@ -62,6 +66,7 @@ pub enum Value {
 }
 
 impl Value {
+    /// How the value stands in the bytes.
     pub fn wire_type(&self) -> WireType
         ensures { result ≡ wire_type self.now }
     {
@@ -107,7 +112,9 @@ impl Value {
 /// A field of a message. Its number is 1 to 536870911, as `FieldList` keeps it and `write_field` requires it.
 #[derive(Debug, Drop)]
 pub struct Field {
+    /// What the message's table calls the field by, 1 to 536870911.
     pub number: u32,
+    /// What it holds.
     pub value: Value,
 }
 
@@ -145,18 +152,21 @@ impl FieldList {
         }
     }
 
+    /// How many fields there are.
     pub fn len(&self) -> usize
         ensures { result ≡ length self.now }
     {
         self.fields.len()
     }
 
+    /// Whether there is none.
     pub fn is_empty(&self) -> bool
         ensures { IsTrue result ↔ (self.now ≡ []) }
     {
         self.fields.is_empty()
     }
 
+    /// The fields as a slice.
     pub fn as_slice(&self) -> &[Field]
         ensures fields { result.now ≡ self.now }
         ensures numbers { AllByRecursion HasNumber self.now }

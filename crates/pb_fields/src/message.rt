@@ -46,7 +46,9 @@ impl Form {
 /// A field that a message has. A number stands in one row of a table at most: a later row of it is not looked at.
 #[derive(Clone, Copy, Debug, PartialEq, Eq)]
 pub struct Row {
+    /// The field's number.
     pub number: u32,
+    /// What its values are.
     pub form: Form,
     /// A message without the field is refused.
     pub required: bool,

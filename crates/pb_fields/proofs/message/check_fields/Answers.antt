@@ -6,7 +6,7 @@ use Rattle.std.specs.Prelude.{List}
 use Rattle.std.specs.List.{AllByRecursion}
 use Rattle.std.proofs.lemmas.Grind.{common_steps}
 use Rattle.pb_fields.specs.declared.field.Field.{Field}
-use Rattle.pb_fields.specs.Message.{Fits, field, missing}
+use Rattle.pb_fields.specs.Message.{Fits, IsWrong, field, missing}
 use Rattle.pb_fields.proofs.Messages.{first_wrong}
 use Rattle.pb_fields.proofs.message.check_fields.Goals as goal
 
@@ -17,7 +17,7 @@ returns-in_err-check_field-clause-wrong c =
     let i = c.loop-field.field-index in
     let f : Field = c.field-item.result in
     let parts : fields ≡ take i fields ++ f ∷ drop (suc i) fields = sym (take-append-drop i fields) ∙ ap (λ (xs : List Field). take i fields ++ xs) (drop-cons fields i f c.loop-field-test.true ∙ ap (λ (x : Field). x ∷ drop (suc i) fields) (sym c.field-item.is)) in
-    rw (p.1, p.2) (rw parts (field (first_wrong c.args.rows.now (take i fields) f (drop (suc i) fields) _ c.loop-field.invariant c.in_err-check_field.ensures.wrong)))
+    rw (p.1, p.2) (rw parts (field (first_wrong (Fits c.args.rows.now) (IsWrong c.args.rows.now) (take i fields) f (drop (suc i) fields) _ c.loop-field.invariant c.in_err-check_field.ensures.wrong)))
 
 pub returns-in-Some-clause-wrong : goal.returns-in-Some-clause-wrong
 returns-in-Some-clause-wrong c =
