@@ -52,6 +52,12 @@ pub halted_entries : (per : ℕ) (b : Broker) (k : ℕ) (p : Plan) → (halted p
 halted_entries per b k p =
     changed_entries (all_written per b (take k p.writes ++ write.Ledger ∷ [])) change.Forget ∙ written_entries per b (take k p.writes ++ write.Ledger ∷ [])
 
+-- a new ledger appends nothing
+pub after_halt : (es : List Entry) (ws : List Write) → after_writes es (ws ++ write.Ledger ∷ []) ≡ after_writes es ws
+after_halt es [] = refl
+after_halt es (write.Append e ∷ ws) = after_halt (es ++ e ∷ []) ws
+after_halt es (w ∷ ws) = after_halt es ws
+
 -- two lists of writes in a row
 pub fresh_both : (es : List Entry) (ws vs : List Write) → fresh es ws ≡ true → fresh (after_writes es ws) vs ≡ true → fresh es (ws ++ vs) ≡ true
 fresh_both es [] vs h k = k

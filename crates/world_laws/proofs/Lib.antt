@@ -8,10 +8,10 @@ pub mod OfferWalk
 pub mod EventWalk
 pub mod Runs
 pub mod Frames
+pub mod Members
 pub mod Appends
 pub mod Fresh
 pub mod Once
-pub mod Members
 pub mod Prefixes
 pub mod Cursors
 pub mod Packets

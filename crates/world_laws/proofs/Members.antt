@@ -1,5 +1,5 @@
 -- Entries in lists: what stands in a list, and in what a test leaves of it.
-use Rattle.std.proofs.Common.{◌≡◌, ℕ, zero, suc, ◌+◌, ◌<◌, Bool, true, false, cond, List, [], ◌∷◌, ◌++◌, length, refl, sym, ap, subst, ◌∙◌, arith}
+use Rattle.std.proofs.Common.{◌≡◌, ℕ, zero, suc, ◌+◌, ◌<◌, Bool, true, false, cond, List, [], ◌∷◌, ◌++◌, length, refl, sym, ap, subst, ◌∙◌, arith, inl, inr, ◌⊎◌}
 use Rattle.std.specs.Prelude.{Some, slice_get, filter}
 use Rattle.std.proofs.lemmas.Option.{none-some, same_Some}
 
@@ -24,6 +24,18 @@ get_right (x ∷ xs) ys i = let e : length (x ∷ xs) + i ≡ suc (length xs + i
 pub get_last : {X : Type 0} (xs : List X) (y : X) → slice_get (xs ++ y ∷ []) (length xs) ≡ Some y
 get_last [] y = refl
 get_last (x ∷ xs) y = get_last xs y
+
+-- an element of a list with one more at its end is one of the list, or the new one
+pub get_push : {X : Type 0} (xs : List X) (y : X) (j : ℕ) (z : X) → slice_get (xs ++ y ∷ []) j ≡ Some z
+    → ((j < length xs) × (slice_get xs j ≡ Some z)) ⊎ ((j ≡ length xs) × (y ≡ z))
+get_push [] y zero z h = inr (refl, same_Some _ _ h)
+get_push [] y (suc j) z h = absurd (none-some z h)
+get_push (x ∷ xs) y zero z h = inl (omega arith, h)
+get_push (x ∷ xs) y (suc j) z h =
+    elim (get_push xs y j z h) [
+      | inl p ↦ inl (omega (arith, p.0), p.1)
+      | inr p ↦ inr (omega (arith, p.0), p.1)
+    ]
 
 -- within the first list an element of both is one of the first
 pub get_within : {X : Type 0} (xs ys : List X) (i : ℕ) → i < length xs → slice_get (xs ++ ys) i ≡ slice_get xs i

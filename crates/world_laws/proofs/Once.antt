@@ -1,5 +1,5 @@
 -- Once and in order: writes that append accepted entries alone keep the order, and every event writes so.
-use Rattle.std.proofs.Common.{◌≡◌, ℕ, zero, suc, ◌*◌, ◌<◌, true, List, [], ◌∷◌, ◌++◌, length, refl, sym, subst, arith, inl, inr, ◌⊎◌}
+use Rattle.std.proofs.Common.{◌≡◌, ℕ, zero, suc, ◌*◌, ◌<◌, true, List, [], ◌∷◌, ◌++◌, length, sym, subst, arith, inl, inr}
 use Rattle.std.specs.Prelude.{Option, Some, None, ◌&&◌, ◌||◌, not, nat_lt, slice_get, take}
 use Rattle.std.proofs.lemmas.Option.{none-some, same_Some}
 use Rattle.std.proofs.lemmas.Bool.Decides.{nat_tests}
@@ -21,6 +21,7 @@ use Rattle.world_laws.specs.Moments.{Moment, partly_written, world_at}
 use Rattle.world_laws.proofs.Appends.{after_writes, done_entries, fresh, fresh_halt, fresh_take, halted_entries, written_entries}
 use Rattle.world_laws.proofs.Frames.{at_copies, at_map, at_set}
 use Rattle.world_laws.proofs.Fresh.{Fresh, restart_fresh, shape_fresh}
+use Rattle.world_laws.proofs.Members.{get_push}
 use Rattle.world_laws.proofs.Runs.{IsKept, at_moment, in_run}
 use Rattle.world_laws.proofs.Shapes.{Shape}
 use Rattle.world_laws.proofs.Walk.{left, on_if, right}
@@ -28,18 +29,6 @@ use Rattle.world_laws.proofs.Walk.{left, on_if, right}
 -- of two entries of one origin and producer the earlier has the smaller sequence id
 abbrev pub OnceIn : List Entry → Type 0
 OnceIn es = (i j : ℕ) (e f : Entry) → i < j → slice_get es i ≡ Some e → slice_get es j ≡ Some f → same_stream e.ident f.ident ≡ true → e.ident.seq < f.ident.seq
-
--- an element of a list with one more at its end is one of the list, or the new one
-pub get_push : {X : Type 0} (xs : List X) (y : X) (j : ℕ) (z : X) → slice_get (xs ++ y ∷ []) j ≡ Some z
-    → ((j < length xs) × (slice_get xs j ≡ Some z)) ⊎ ((j ≡ length xs) × (y ≡ z))
-get_push [] y zero z h = inr (refl, same_Some _ _ h)
-get_push [] y (suc j) z h = absurd (none-some z h)
-get_push (x ∷ xs) y zero z h = inl (omega arith, h)
-get_push (x ∷ xs) y (suc j) z h =
-    elim (get_push xs y j z h) [
-      | inl p ↦ inl (omega (arith, p.0), p.1)
-      | inr p ↦ inr (omega (arith, p.0), p.1)
-    ]
 
 -- what an accepted entry is newer than
 pub accepts_newer : (es : List Entry) (i : Ident) → accepts es i ≡ true → (k : ℕ) (a : Entry) → slice_get es k ≡ Some a → same_stream a.ident i ≡ true → a.ident.seq < i.seq

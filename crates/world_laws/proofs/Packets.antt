@@ -5,8 +5,7 @@ use Rattle.std.proofs.lemmas.Bool.{false≢true}
 use Rattle.std.proofs.lemmas.Option.{same_Some}
 use Rattle.world_laws.proofs.Types.{Entry, Frame, Packet, Place, Position}
 use Rattle.world_laws.proofs.Types.frame
-use Rattle.world_laws.proofs.Members.{get_left}
-use Rattle.world_laws.proofs.Once.{get_push}
+use Rattle.world_laws.proofs.Members.{get_push, get_left}
 
 -- a packet carries an entry, in session m under number k
 pub record Carries (p : Packet) (m k : ℕ) (e : Entry) : Type 0 where

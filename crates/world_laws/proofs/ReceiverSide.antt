@@ -9,7 +9,7 @@ use Rattle.world_laws.proofs.Types.write
 use Rattle.geo_base.specs.Broker.{Broker, receiver_at, sender_at}
 use Rattle.geo_base.specs.Link.{Link}
 use Rattle.geo_base.specs.Plan.{Plan, done, halted}
-use Rattle.world_laws.proofs.Appends.{after_writes, done_entries, halted_entries}
+use Rattle.world_laws.proofs.Appends.{after_halt, after_writes, done_entries, halted_entries}
 use Rattle.world_laws.proofs.Effects.{Each, done_session, halted_session, session_then}
 use Rattle.world_laws.proofs.Members.{Stands, stands_left}
 use Rattle.world_laws.proofs.PairFacts.{Carried, InSession, Receiving, carried_far, none_open}
@@ -102,11 +102,6 @@ there_aside x y per a b f back p lt others leaves h =
     (done_session per b x p lt ∙ left_sessions x (receiver_at b x) p.changes leaves) refl
     (carried_far x y a.entries (sender_at a y).cursor b.entries far f.sent back begins (stands_after b.entries p.writes) h.carried)
     (receiving_more (receiver_at b x) b.entries far f.sent f.taken (stands_after b.entries p.writes) h.receiving) h
-
-after_halt : (far : List Entry) (ws : List Write) → after_writes far (ws ++ write.Ledger ∷ []) ≡ after_writes far ws
-after_halt far [] = refl
-after_halt far (write.Append e ∷ ws) = after_halt (far ++ e ∷ []) ws
-after_halt far (w ∷ ws) = after_halt far ws
 
 -- a stop behind some writes of a plan: no session is open
 pub there_halted : (x y per k : ℕ) (a b : Broker) (f f' : Link) (back : List Packet) (p : Plan) → Extends x y a.entries b.entries p.writes → f'.sent ≡ f.sent

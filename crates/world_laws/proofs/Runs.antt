@@ -10,7 +10,7 @@ use Rattle.geo_base.specs.Planned.{Planned, planned}
 use Rattle.geo_base.specs.Run.{Limits, Ran, all_settle, budget, counting_round, ends_or, goes_on, pairs, resets_of, round_of, rounds_of, run_from, run_under, settled_world, settles, steps}
 use Rattle.geo_base.specs.Setup.{Setup}
 use Rattle.geo_base.specs.World.{ToClient, World, opening_world}
-use Rattle.world_laws.specs.Moments.{Moment, Settling, NotBegun, Resets, Rounds, partly_written, settled_so_far, world_at, world_between}
+use Rattle.world_laws.specs.Moments.{Moment, Settling, InRound, NotBegun, Resetting, partly_written, settled_so_far, world_at, world_between}
 use Rattle.world_laws.proofs.EventWalk.{HasShape, planned_shape}
 use Rattle.world_laws.proofs.Shapes.{Shape}
 use Rattle.world_laws.proofs.Walk.{on_elim, on_if}
@@ -82,8 +82,8 @@ in_run l s P k es = steps_done l s P k (record { world = opening_world s; ended 
 
 settling_done : (l : Limits) (s : Setup) (P : World → Type 0) (k : IsKept s P) (r : Ran) (at : Settling) → P r.world → Holds P (settled_so_far l s r at)
 settling_done l s P k r NotBegun p = p
-settling_done l s P k r (Resets n) p = all_settled l s P k r (take n (resets_of (pairs s))) p
-settling_done l s P k r (Rounds m n) p =
+settling_done l s P k r (Resetting n) p = all_settled l s P k r (take n (resets_of (pairs s))) p
+settling_done l s P k r (InRound m n) p =
     all_settled l s P k _ (take n (round_of (pairs s)))
     (rounds_done m l s P k (all_settle l s r (resets_of (pairs s))) (all_settled l s P k r (resets_of (pairs s)) p))
 

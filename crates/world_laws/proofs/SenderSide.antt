@@ -12,7 +12,7 @@ use Rattle.geo_base.specs.Cursor.{with_index}
 use Rattle.geo_base.specs.Link.{Link}
 use Rattle.geo_base.specs.Plan.{Plan, done, halted}
 use Rattle.geo_base.specs.Sender.{Sender, sender_restarted}
-use Rattle.world_laws.proofs.Appends.{after_writes, done_entries, halted_entries}
+use Rattle.world_laws.proofs.Appends.{after_halt, after_writes, done_entries, halted_entries}
 use Rattle.world_laws.proofs.Cursors.{has_less, has_more}
 use Rattle.world_laws.proofs.Effects.{Each, done_sender, each_take, halted_sender, sender_after, sender_changed, sender_then, sender_written}
 use Rattle.world_laws.proofs.PairFacts.{Carried, Grew, InSession, MayAck, Receiving, carried_grew, same_grows}
@@ -169,11 +169,6 @@ pub sending_restarted : (x y : ℕ) (near : List Entry) (s : Sender) (far : List
     → Sending x y near (sender_restarted s) far sent back
 sending_restarted x y near s far sent back h =
     record { carried = h.carried; session = session_forgot x y near sent s s.session sender_state.Closed (omega arith) (inl refl) h.session }
-
-after_halt : (near : List Entry) (ws : List Write) → after_writes near (ws ++ write.Ledger ∷ []) ≡ after_writes near ws
-after_halt near [] = refl
-after_halt near (write.Append e ∷ ws) = after_halt (near ++ e ∷ []) ws
-after_halt near (w ∷ ws) = after_halt near ws
 
 pub facts_halted : (x y per k : ℕ) (a b : Broker) (f : Link) (back : List Packet) (p : Plan) → y < length a.senders → Each (OkWrite x y a.entries b.entries) p.writes
     → Facts x y a b f back → Facts x y (halted per a k p) b f back

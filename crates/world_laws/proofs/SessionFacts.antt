@@ -8,8 +8,7 @@ use Rattle.world_laws.proofs.Types.{Entry, Packet, Pending, SenderState}
 use Rattle.world_laws.proofs.Types.sender_state
 use Rattle.geo_base.specs.Cursor.{has}
 use Rattle.geo_base.specs.Sender.{Sender, pending_index, sender_sent, without_number}
-use Rattle.world_laws.proofs.Members.{Stands, get_last, stands_next}
-use Rattle.world_laws.proofs.Once.{get_push}
+use Rattle.world_laws.proofs.Members.{get_push, Stands, get_last, stands_next}
 use Rattle.world_laws.proofs.Packets.{Asks, Carries, IsOpener, IsSend, WasSent, last_opener, last_send, not_both, same_entry, same_number, send_left, sent_left}
 use Rattle.world_laws.proofs.PairFacts.{Grows, InSession, IsPending, grows_get, grows_length, grows_within}
 use Rattle.world_laws.proofs.Prefixes.{is_out}

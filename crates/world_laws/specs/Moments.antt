@@ -8,17 +8,17 @@ use Rattle.geo_base.specs.Run.{Limits, Ran, all_settle, pairs, resets_of, round_
 use Rattle.geo_base.specs.Setup.{Setup}
 use Rattle.geo_base.specs.World.{World, broker_at, node}
 
--- how far settling has come: it has not begun, or k of its resets are done, or all of them, a number of rounds, and k events
--- of the next round
+-- How far the settling has come that follows some steps: it has not begun; its first k resets are done; or all resets, so many
+-- rounds, and the first k events of the next one. Settling itself may end sooner; what is said of all moments is said of more
 pub data Settling : Type 0 where
   NotBegun : Settling
-  Resets : (k : ℕ) → Settling
-  Rounds : (rounds k : ℕ) → Settling
+  Resetting : (k : ℕ) → Settling
+  InRound : (rounds k : ℕ) → Settling
 
 abbrev pub settled_so_far : Limits → Setup → Ran → Settling → Ran
 settled_so_far l s r NotBegun = r
-settled_so_far l s r (Resets k) = all_settle l s r (take k (resets_of (pairs s)))
-settled_so_far l s r (Rounds n k) = all_settle l s (rounds_of n l s (all_settle l s r (resets_of (pairs s)))) (take k (round_of (pairs s)))
+settled_so_far l s r (Resetting k) = all_settle l s r (take k (resets_of (pairs s)))
+settled_so_far l s r (InRound n k) = all_settle l s (rounds_of n l s (all_settle l s r (resets_of (pairs s)))) (take k (round_of (pairs s)))
 
 -- the world when an event has done the first k of its durable writes, and nothing else yet
 abbrev pub partly_written : Setup → World → ℕ → Option Planned → World
@@ -26,7 +26,7 @@ partly_written s w k None = w
 partly_written s w k (Some p) =
     let n = node s p.topic p.cluster in record w { brokers = slice_set w.brokers n (all_written s.per_ledger (broker_at w n) (take k p.plan.writes)) }
 
--- a moment: some steps are done, then a part of settling, then so many durable writes of an event
+-- a moment: some steps are done, then a part of settling, then the first so many durable writes of an event
 pub record Moment : Type 0 where
   pub steps : List Step
   pub settling : Settling
@@ -39,5 +39,4 @@ world_between l s es at = (settled_so_far l s (run_under l s es) at).world
 
 -- the world at a moment of a run under limits
 abbrev pub world_at : Limits → Setup → Moment → World
-world_at l s m =
-    let w = world_between l s m.steps m.settling in partly_written s w m.writes (planned s w m.event)
+world_at l s m = let w = world_between l s m.steps m.settling in partly_written s w m.writes (planned s w m.event)
