@@ -1,0 +1,4 @@
+pub mod Message
+pub mod Built
+pub mod ProducerLine
+pub mod Counted
