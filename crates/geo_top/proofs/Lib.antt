@@ -1,0 +1,3 @@
+pub mod SeenThrough
+pub mod Undoing
+pub mod Nodes
