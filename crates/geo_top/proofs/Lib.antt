@@ -1,0 +1,2 @@
+pub mod ProducerLines
+pub mod Published
