@@ -2,6 +2,7 @@
 ghost use Rattle.std.specs.Prelude.{◌≡◌, ◌<◌, ◌≤◌, ◌^◌, true, ◌∷◌, [], ◌++◌, length, IfOk, OnOk};
 ghost use Rattle.geo_base.specs.Client.{command, command_at, commands_at, connects, id_of, published, reconnect};
 ghost use Rattle.geo_top.specs.Built.{is_client_frame};
+ghost use Rattle.geo_top.specs.Counted.{CanCount};
 ghost use Rattle.geo_top.specs.Message.{is_message};
 ghost use Rattle.geo_top.specs.ProducerLine.{is_producer_line};
 
@@ -23,7 +24,7 @@ impl Client {
     /// force, then each publish without receipt in order.
     #[tactic(auto, unfolding(geo_base::specs::Client::reconnect))]
     pub fn prepare_reconnect(&self, alloc: Global, setup: &Declarations, declared: &Declaration) -> Result<ClientPrepared, Memory>
-        requires { self.now.connection < 2 ^ 63 }
+        requires { CanCount self.now }
         ensures { IfOk result (λ p. p ≡ reconnect setup.now declared.now self.now) }
     {
         let mut client = self.copy(alloc)?;

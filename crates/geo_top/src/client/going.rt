@@ -1,7 +1,7 @@
 //! `go`: a client does its next line.
 ghost use Rattle.std.specs.Prelude.{◌≡◌, ◌<◌, ◌+◌, ◌^◌, true, Some, IfOk};
 ghost use Rattle.geo_base.specs.Going.{go, go_line};
-ghost use Rattle.geo_top.specs.ProducerLine.{is_producer_line};
+ghost use Rattle.geo_top.specs.ProducerLine.{is_producer_line, is_publish};
 
 use crate::client::Client;
 use crate::client::outgoing::{ClientOut, add};
@@ -57,7 +57,7 @@ impl Client {
 
     fn publishes(self, alloc: Global, setup: &Declarations, declared: &Declaration, line: &Line) -> Result<ClientPrepared, Memory>
         requires built { is_producer_line line.now ≡ true }
-        requires publish { IsPub line.now }
+        requires publish { is_publish line.now ≡ true }
         requires more { self.done + 1 < 2 ^ 64 }
         ensures { IfOk result (λ p. p ≡ go_line setup.now declared.now self (Some line.now)) }
     {
@@ -68,7 +68,8 @@ impl Client {
         let index = client.done;
         let mut sent = Vec::new(alloc);
         add(&mut sent, client.command(alloc, setup, declared, index, line)?)?;
-        client.unanswered.push(index)?;
+        client.unanswered.reserve(1)?;
+        client.unanswered.push_reserved(index);
         client.done += 1;
         Ok(ClientPrepared::becomes(client, sent))
     }

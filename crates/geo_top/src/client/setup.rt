@@ -1,5 +1,5 @@
 //! What a script declares.
-ghost use Rattle.std.specs.Prelude.{◌≡◌, ◌<◌, true, length, slice_get};
+ghost use Rattle.std.specs.Prelude.{◌≡◌, ◌<◌, ◌^◌, true, length, slice_get, OnSome};
 ghost use Rattle.std.specs.Option.{option_copied};
 ghost use Rattle.geo_base.specs.Name.{is_name};
 ghost use Rattle.geo_base.specs.Setup.{declared_at, topic_name};
@@ -72,9 +72,10 @@ impl Declaration {
         self.lines.len()
     }
 
-    /// The line at an index.
+    /// The line at an index. A list in memory has fewer than 2 ^ 63 lines.
     pub fn line(&self, index: usize) -> Option<&ProducerLine>
-        ensures { option_copied result ≡ slice_get self.now.lines index }
+        ensures value { option_copied result ≡ slice_get self.now.lines index }
+        ensures within { OnSome result (index < 2 ^ 63) }
     {
         self.lines.get(index)
     }
