@@ -41,19 +41,19 @@ impl Model for Client {
     ghost Value = { Client };
 
     ghost view = { λ k. record {
-        cluster = k.cluster;
-        connection = k.connection;
-        connected = k.is_connected;
-        done = k.done;
-        produce = k.produce;
-        sub = None;
-        flow = None;
-        unanswered = k.unanswered.items;
-        held = [];
-        receipts = k.receipts;
-        duplicates = k.duplicates;
-        errors = k.errors;
-        got = []
+      cluster = k.cluster;
+      connection = k.connection;
+      connected = k.is_connected;
+      done = k.done;
+      produce = k.produce;
+      sub = None;
+      flow = None;
+      unanswered = k.unanswered.items;
+      held = [];
+      receipts = k.receipts;
+      duplicates = k.duplicates;
+      errors = k.errors;
+      got = [];
     } };
 }
 

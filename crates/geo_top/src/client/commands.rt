@@ -23,7 +23,12 @@ impl Client {
     /// What will be done where a client connects again to its cluster: CONNECT, then the command of the produce line in
     /// force, then each publish without receipt in order.
     #[tactic(auto, unfolding(geo_base::specs::Client::reconnect))]
-    pub fn prepare_reconnect(&self, alloc: Global, setup: &Declarations, declared: &Declaration) -> Result<ClientPrepared, Memory>
+    pub fn prepare_reconnect(
+        &self,
+        alloc: Global,
+        setup: &Declarations,
+        declared: &Declaration,
+    ) -> Result<ClientPrepared, Memory>
         requires { CanCount self.now }
         ensures { IfOk result (λ p. p ≡ reconnect setup.now declared.now self.now) }
     {
@@ -33,7 +38,12 @@ impl Client {
         client.connects(alloc, setup, declared)
     }
 
-    fn connects(self, alloc: Global, setup: &Declarations, declared: &Declaration) -> Result<ClientPrepared, Memory>
+    fn connects(
+        self,
+        alloc: Global,
+        setup: &Declarations,
+        declared: &Declaration,
+    ) -> Result<ClientPrepared, Memory>
         ensures { IfOk result (λ p. p ≡ connects setup.now declared.now self) }
     {
         let mut sent = Vec::new(alloc);
@@ -43,7 +53,13 @@ impl Client {
         Ok(ClientPrepared::becomes(self, sent))
     }
 
-    fn add_unanswered(&self, alloc: Global, setup: &Declarations, declared: &Declaration, sent: &mut Vec<ClientOut>) -> Result<(), Memory>
+    fn add_unanswered(
+        &self,
+        alloc: Global,
+        setup: &Declarations,
+        declared: &Declaration,
+        sent: &mut Vec<ClientOut>,
+    ) -> Result<(), Memory>
         ensures { OnOk result (sent.new.items ≡ sent.old.items ++ commands_at setup.now declared.now self.now self.now.unanswered) }
     {
         let unanswered = self.unanswered.as_slice();
@@ -53,21 +69,38 @@ impl Client {
         Ok(())
     }
 
-    fn add_command_at(&self, alloc: Global, setup: &Declarations, declared: &Declaration, index: Option<usize>, sent: &mut Vec<ClientOut>) -> Result<(), Memory>
+    fn add_command_at(
+        &self,
+        alloc: Global,
+        setup: &Declarations,
+        declared: &Declaration,
+        index: Option<usize>,
+        sent: &mut Vec<ClientOut>,
+    ) -> Result<(), Memory>
         ensures { OnOk result (sent.new.items ≡ sent.old.items ++ command_at setup.now declared.now self.now index) }
     {
         let Some(index) = index else {
             return Ok(());
         };
         match declared.line(index) {
-            Some(line) => add(sent, self.command(alloc, setup, declared, index, line.line())?),
+            Some(line) => add(
+                sent,
+                self.command(alloc, setup, declared, index, line.line())?,
+            ),
             None => Ok(()),
         }
     }
 
     /// What is sent for a line that is in force or unanswered. Its index is its request id.
     #[tactic(auto, using(crate::proofs::ProducerLines::goes_everywhere, crate::proofs::ProducerLines::has_no_key, crate::proofs::ProducerLines::has_short_text))]
-    pub(super) fn command(&self, alloc: Global, setup: &Declarations, declared: &Declaration, index: usize, line: &Line) -> Result<ClientOut, Memory>
+    pub(super) fn command(
+        &self,
+        alloc: Global,
+        setup: &Declarations,
+        declared: &Declaration,
+        index: usize,
+        line: &Line,
+    ) -> Result<ClientOut, Memory>
         requires { is_producer_line line.now ≡ true }
         ensures { IfOk result (λ out. command setup.now declared.now self.now index (Some line.now) ≡ out ∷ []) }
     {
@@ -113,7 +146,14 @@ impl Client {
 
     /// The message that a `pub` line publishes to all clusters, without a key.
     #[tactic(auto, using(crate::proofs::Published::published_is_message))]
-    fn publish(&self, alloc: Global, setup: &Declarations, declared: &Declaration, seq: u64, text: &Blob) -> Result<Entry, Memory>
+    fn publish(
+        &self,
+        alloc: Global,
+        setup: &Declarations,
+        declared: &Declaration,
+        seq: u64,
+        text: &Blob,
+    ) -> Result<Entry, Memory>
         requires { length text.now ≤ 1024 }
         ensures entry { IfOk result (λ e. e ≡ published setup.now declared.now self.now seq Targets.All None text.now) }
         ensures message { IfOk result (λ e. is_message e ≡ true) }

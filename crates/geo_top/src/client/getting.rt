@@ -18,7 +18,12 @@ use std::alloc::Global;
 impl Client {
     /// What will be done where a client takes a packet, or finds none. A packet of an earlier connection is discarded.
     #[tactic(auto, unfolding(geo_base::specs::Getting::get))]
-    pub fn prepare_get(&self, alloc: Global, declared: &Declaration, input: Option<&Packet>) -> Result<ClientPrepared, Memory>
+    pub fn prepare_get(
+        &self,
+        alloc: Global,
+        declared: &Declaration,
+        input: Option<&Packet>,
+    ) -> Result<ClientPrepared, Memory>
         requires { CanCount self.now }
         ensures { IfOk result (λ p. p ≡ get declared.now self.now (option_copied input.entry)) }
     {
@@ -41,7 +46,9 @@ impl Client {
         ensures { result ≡ got_frame declared.now self frame.now }
     {
         match frame {
-            Frame::SendReceipt { seq, position, .. } => self.with_receipt(declared, *seq, *position),
+            Frame::SendReceipt { seq, position, .. } => self.with_receipt(
+                declared, *seq, *position,
+            ),
             Frame::SendError { seq, .. } => self.with_refusal(declared, *seq),
             Frame::Error { .. } => self.with_error(),
             _ => self,
@@ -94,7 +101,13 @@ impl Client {
 fn is_duplicate(position: Option<Position>) -> bool
     ensures { result ≡ is_duplicate position }
 {
-    matches!(position, Some(Position { ledger: u64::MAX, entry: u64::MAX }))
+    matches!(
+        position,
+        Some(Position {
+            ledger: u64::MAX,
+            entry: u64::MAX
+        })
+    )
 }
 
 /// The place of the first publish of a sequence id among indexes of lines.
@@ -118,7 +131,8 @@ impl Declaration {
         ensures { result ≡ publishes self.now seq index }
     {
         match self.line(index) {
-            Some(line) => matches!(line.line(), Line::Pub { seq: published, .. } if *published == seq),
+            Some(line) =>
+                matches!(line.line(), Line::Pub { seq: published, .. } if *published == seq),
             None => false,
         }
     }

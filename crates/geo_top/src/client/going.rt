@@ -16,7 +16,12 @@ impl Client {
     /// What will be done where a client does its next line. It is idle where the client is not connected, has no line left, or
     /// publishes without a produce line in force or with as many publishes without receipt as may wait.
     #[tactic(auto, unfolding(geo_base::specs::Going::go))]
-    pub fn prepare_go(&self, alloc: Global, setup: &Declarations, declared: &Declaration) -> Result<ClientPrepared, Memory>
+    pub fn prepare_go(
+        &self,
+        alloc: Global,
+        setup: &Declarations,
+        declared: &Declaration,
+    ) -> Result<ClientPrepared, Memory>
         ensures { IfOk result (λ p. p ≡ go setup.now declared.now self.now) }
     {
         let client = self.copy(alloc)?;
@@ -29,7 +34,13 @@ impl Client {
         }
     }
 
-    fn goes(self, alloc: Global, setup: &Declarations, declared: &Declaration, line: &Line) -> Result<ClientPrepared, Memory>
+    fn goes(
+        self,
+        alloc: Global,
+        setup: &Declarations,
+        declared: &Declaration,
+        line: &Line,
+    ) -> Result<ClientPrepared, Memory>
         requires built { is_producer_line line.now ≡ true }
         requires more { self.done + 1 < 2 ^ 64 }
         ensures { IfOk result (λ p. p ≡ go_line setup.now declared.now self (Some line.now)) }
@@ -41,7 +52,13 @@ impl Client {
         }
     }
 
-    fn produces(self, alloc: Global, setup: &Declarations, declared: &Declaration, line: &Line) -> Result<ClientPrepared, Memory>
+    fn produces(
+        self,
+        alloc: Global,
+        setup: &Declarations,
+        declared: &Declaration,
+        line: &Line,
+    ) -> Result<ClientPrepared, Memory>
         requires produce { line.now ≡ Line.Produce }
         requires more { self.done + 1 < 2 ^ 64 }
         ensures { IfOk result (λ p. p ≡ go_line setup.now declared.now self (Some line.now)) }
@@ -51,11 +68,20 @@ impl Client {
         client.done += 1;
         client.produce = Some(index);
         let mut sent = Vec::new(alloc);
-        add(&mut sent, client.command(alloc, setup, declared, index, line)?)?;
+        add(
+            &mut sent,
+            client.command(alloc, setup, declared, index, line)?,
+        )?;
         Ok(ClientPrepared::becomes(client, sent))
     }
 
-    fn publishes(self, alloc: Global, setup: &Declarations, declared: &Declaration, line: &Line) -> Result<ClientPrepared, Memory>
+    fn publishes(
+        self,
+        alloc: Global,
+        setup: &Declarations,
+        declared: &Declaration,
+        line: &Line,
+    ) -> Result<ClientPrepared, Memory>
         requires built { is_producer_line line.now ≡ true }
         requires publish { is_publish line.now ≡ true }
         requires more { self.done + 1 < 2 ^ 64 }
@@ -67,7 +93,10 @@ impl Client {
         }
         let index = client.done;
         let mut sent = Vec::new(alloc);
-        add(&mut sent, client.command(alloc, setup, declared, index, line)?)?;
+        add(
+            &mut sent,
+            client.command(alloc, setup, declared, index, line)?,
+        )?;
         client.unanswered.reserve(1)?;
         client.unanswered.push_reserved(index);
         client.done += 1;

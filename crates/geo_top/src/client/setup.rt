@@ -31,7 +31,12 @@ impl Model for Declaration {
 
 impl Declaration {
     /// A client with its lines; takes no memory.
-    pub fn new(name: ProducerName, topic: u32, cluster: u32, lines: Vec<ProducerLine>) -> Declaration
+    pub fn new(
+        name: ProducerName,
+        topic: u32,
+        cluster: u32,
+        lines: Vec<ProducerLine>,
+    ) -> Declaration
         requires { is_name name ≡ true }
         ensures { result ≡ record { name = name; topic = topic; cluster = cluster; lines = lines.items } }
     {
@@ -100,7 +105,12 @@ impl Model for Declarations {
 
 impl Declarations {
     /// What was declared; takes no memory.
-    pub fn new(per_ledger: u64, clusters: Vec<ClusterName>, topics: Vec<TopicName>, clients: Vec<Declaration>) -> Declarations
+    pub fn new(
+        per_ledger: u64,
+        clusters: Vec<ClusterName>,
+        topics: Vec<TopicName>,
+        clients: Vec<Declaration>,
+    ) -> Declarations
         ensures { result ≡ record { per_ledger = per_ledger; clusters = clusters.items; topics = topics.items; clients = clients.items } }
     {
         Declarations {
