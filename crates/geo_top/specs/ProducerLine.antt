@@ -18,3 +18,8 @@ abbrev pub is_producer_line : Line → Bool
 is_producer_line line.Produce = true
 is_producer_line (line.Pub seq to key text) = nat_lt seq (2 ^ 63) && is_everywhere to && is_absent key && nat_le (length text) 1024
 is_producer_line l = false
+
+-- a `pub` line
+abbrev pub is_publish : Line → Bool
+is_publish (line.Pub seq to key text) = true
+is_publish l = false

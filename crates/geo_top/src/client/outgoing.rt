@@ -1,7 +1,8 @@
 //! What a client sends.
-ghost use Rattle.std.specs.Prelude.{◌≡◌, true};
+ghost use Rattle.std.specs.Prelude.{◌≡◌, true, ◌∷◌, [], ◌++◌, OnOk, OnErr};
 ghost use Rattle.geo_top.specs.Built.{is_client_frame};
 
+use geo_base::memory::Memory;
 use geo_base::packet::Out;
 use std::marker::Model;
 
@@ -38,5 +39,16 @@ impl ClientOut {
         ensures fits { is_client_frame self.frame ≡ true }
     {
         self.out
+    }
+}
+
+/// One more packet to send.
+pub(super) fn add(sent: &mut Vec<ClientOut>, out: ClientOut) -> Result<(), Memory>
+    ensures ok { OnOk result (sent.new.items ≡ sent.old.items ++ out ∷ []) }
+    ensures err { OnErr result (sent.new.items ≡ sent.old.items) }
+{
+    match sent.push(out) {
+        Ok(()) => Ok(()),
+        Err(_) => Err(Memory),
     }
 }

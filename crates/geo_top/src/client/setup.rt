@@ -1,5 +1,5 @@
 //! What a script declares.
-ghost use Rattle.std.specs.Prelude.{◌≡◌, ◌<◌, true, length, slice_get};
+ghost use Rattle.std.specs.Prelude.{◌≡◌, ◌<◌, ◌^◌, true, length, slice_get, OnSome};
 ghost use Rattle.std.specs.Option.{option_copied};
 ghost use Rattle.geo_base.specs.Name.{is_name};
 ghost use Rattle.geo_base.specs.Setup.{declared_at, topic_name};
@@ -31,7 +31,12 @@ impl Model for Declaration {
 
 impl Declaration {
     /// A client with its lines; takes no memory.
-    pub fn new(name: ProducerName, topic: u32, cluster: u32, lines: Vec<ProducerLine>) -> Declaration
+    pub fn new(
+        name: ProducerName,
+        topic: u32,
+        cluster: u32,
+        lines: Vec<ProducerLine>,
+    ) -> Declaration
         requires { is_name name ≡ true }
         ensures { result ≡ record { name = name; topic = topic; cluster = cluster; lines = lines.items } }
     {
@@ -72,9 +77,10 @@ impl Declaration {
         self.lines.len()
     }
 
-    /// The line at an index.
+    /// The line at an index. A list in memory has fewer than 2 ^ 63 lines.
     pub fn line(&self, index: usize) -> Option<&ProducerLine>
-        ensures { option_copied result ≡ slice_get self.now.lines index }
+        ensures value { option_copied result ≡ slice_get self.now.lines index }
+        ensures within { OnSome result (index < 2 ^ 63) }
     {
         self.lines.get(index)
     }
@@ -99,7 +105,12 @@ impl Model for Declarations {
 
 impl Declarations {
     /// What was declared; takes no memory.
-    pub fn new(per_ledger: u64, clusters: Vec<ClusterName>, topics: Vec<TopicName>, clients: Vec<Declaration>) -> Declarations
+    pub fn new(
+        per_ledger: u64,
+        clusters: Vec<ClusterName>,
+        topics: Vec<TopicName>,
+        clients: Vec<Declaration>,
+    ) -> Declarations
         ensures { result ≡ record { per_ledger = per_ledger; clusters = clusters.items; topics = topics.items; clients = clients.items } }
     {
         Declarations {
