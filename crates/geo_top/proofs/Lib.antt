@@ -1,0 +1,4 @@
+pub mod Accepting
+pub mod Cursors
+pub mod SenderTables
+pub mod Pendings

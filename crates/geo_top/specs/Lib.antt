@@ -1,0 +1,5 @@
+pub mod Message
+pub mod Built
+pub mod Room
+pub mod Steps
+pub mod Fits

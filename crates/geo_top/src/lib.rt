@@ -1,0 +1,4 @@
+//! The program: a script's clusters, clients and links, its run, and the report.
+#![tactic(auto)]
+
+pub mod broker;
