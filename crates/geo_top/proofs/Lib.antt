@@ -4,3 +4,7 @@ pub mod Nodes
 pub mod Getting
 pub mod ProducerLines
 pub mod Published
+pub mod Accepting
+pub mod Cursors
+pub mod SenderTables
+pub mod Pendings

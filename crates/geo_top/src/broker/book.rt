@@ -1,0 +1,139 @@
+//! A broker's state, and how a prepared event becomes of it.
+ghost use Rattle.std.specs.Prelude.{◌≡◌, ◌<◌, ◌≤◌, ◌+◌, length, OnOk};
+ghost use Rattle.geo_base.specs.Broker.{changed, written};
+ghost use Rattle.geo_base.specs.Plan.{all_changed, all_written, done};
+ghost use Rattle.geo_top.specs.Fits.{AllChangesFit, AllWritesFit, ChangeFits, PlanFits, WriteFits, steps};
+
+use crate::broker::message::Message;
+use crate::broker::prepared::Prepared;
+use crate::broker::sender::SenderStep;
+use crate::broker::senders::SenderTable;
+use crate::broker::topic::grow;
+use geo_base::change::Change;
+use geo_base::memory::Memory;
+use geo_base::session::Session;
+use geo_base::write::Write;
+use std::marker::Model;
+
+/// A topic's entries and ledgers, the senders and receivers by cluster, and the clients' sessions.
+///
+/// `room` is how many more steps find memory: each write and each change takes one.
+#[derive(Debug, Drop)]
+pub struct Book {
+    entries: Vec<Message>,
+    ledgers: Vec<u64>,
+    senders: SenderTable,
+    receivers: Vec<Option<u64>>,
+    sessions: Vec<Option<Session>>,
+    room: usize,
+}
+
+impl Model for Book {
+    ghost use Rattle.std.specs.Prelude.{[], None, vec_len, vec_capacity};
+    ghost use Rattle.geo_top.specs.Room.{BrokerBook, BookHolds};
+
+    ghost Value = { BrokerBook };
+
+    ghost view = { λ b. record {
+        broker = record { entries = b.entries.items; ledgers = b.ledgers.items; senders = b.senders.senders; receivers = b.receivers.items; subs = []; sessions = b.sessions.items; builder = None };
+        room = b.room
+    } };
+
+    ghost invariant = { λ b. BookHolds b.room (vec_len b.entries) (vec_capacity b.entries) (vec_len b.ledgers) (vec_capacity b.ledgers) b.senders.room b.entries.items };
+}
+
+impl Book {
+    /// Makes room for so many more steps.
+    pub fn reserve(&mut self, room: usize) -> Result<(), Memory>
+        ensures broker { self.new.broker ≡ self.old.broker }
+        ensures ok { OnOk result (self.new.room ≡ room) }
+    {
+        self.room = 0;
+        self.entries.reserve(room)?;
+        self.ledgers.reserve(room)?;
+        self.senders.reserve(room)?;
+        self.room = room;
+        Ok(())
+    }
+
+    /// Does what was prepared. It takes no memory.
+    pub fn commit(&mut self, per_ledger: u64, prepared: Prepared)
+        requires room { steps prepared ≤ self.old.room }
+        requires fits { PlanFits per_ledger self.old.broker prepared }
+        ensures { self.new.broker ≡ done per_ledger self.old.broker prepared }
+    {
+        let (writes, changes) = prepared.into_steps();
+        self.write_all(per_ledger, writes);
+        self.change_all(changes);
+    }
+
+    fn write_all(&mut self, per_ledger: u64, writes: Vec<Write>)
+        requires room { length writes.items ≤ self.old.room }
+        requires fit { AllWritesFit per_ledger self.old.broker writes.items }
+        ensures broker { self.new.broker ≡ all_written per_ledger self.old.broker writes.items }
+        ensures room { self.new.room + length writes.items ≡ self.old.room }
+    {
+        let mut left = writes;
+        while !left.is_empty() {
+            let write = left.remove(0);
+            self.write(per_ledger, write);
+        }
+    }
+
+    fn change_all(&mut self, changes: Vec<Change>)
+        requires room { length changes.items ≤ self.old.room }
+        requires fit { AllChangesFit self.old.broker changes.items }
+        ensures { self.new.broker ≡ all_changed self.old.broker changes.items }
+    {
+        let mut left = changes;
+        while !left.is_empty() {
+            let change = left.remove(0);
+            self.change(change);
+        }
+    }
+
+    /// Does one durable write.
+    #[tactic(auto, using(crate::proofs::Accepting::topic_append))]
+    fn write(&mut self, per_ledger: u64, write: Write)
+        requires room { 0 < self.old.room }
+        requires fits { WriteFits self.old.broker write }
+        ensures broker { self.new.broker ≡ written per_ledger self.old.broker write }
+        ensures room { self.new.room + 1 ≡ self.old.room }
+    {
+        self.room -= 1;
+        match write {
+            Write::Append(entry) => {
+                grow(per_ledger, &mut self.ledgers);
+                self.entries.push_reserved(Message::new(entry));
+            }
+            Write::SenderAck { remote, index } => {
+                self.senders.step(remote, SenderStep::Acknowledge(index));
+            }
+            Write::SessionNumber { remote, session } => {
+                self.senders.step(remote, SenderStep::Session(session));
+            }
+            _ => unreachable!(),
+        }
+    }
+
+    /// Makes one change in memory. Without subscriptions, nothing is attached that a client could leave.
+    fn change(&mut self, change: Change)
+        requires room { 0 < self.old.room }
+        requires fits { ChangeFits self.old.broker change }
+        ensures broker { self.new.broker ≡ changed self.old.broker change }
+        ensures room { self.new.room + 1 ≡ self.old.room }
+    {
+        self.room -= 1;
+        match change {
+            Change::Receiver { source, session } => self.receivers[source as usize] = session,
+            Change::Client { client, session } => self.sessions[client as usize] = session,
+            Change::Detach { client: _ } => {}
+            Change::Opening { remote } => self.senders.step(remote, SenderStep::Reset),
+            Change::Opened { remote } => self.senders.step(remote, SenderStep::Open),
+            Change::Pend { remote, index } => self.senders.step(remote, SenderStep::Pend(index)),
+            Change::ReadTo { remote, index } => self.senders.step(remote, SenderStep::ReadTo(index)),
+            Change::Unpend { remote, number } => self.senders.step(remote, SenderStep::Unpend(number)),
+            _ => unreachable!(),
+        }
+    }
+}
