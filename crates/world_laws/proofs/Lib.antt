@@ -11,3 +11,5 @@ pub mod Frames
 pub mod Appends
 pub mod Fresh
 pub mod Once
+pub mod Calm
+pub mod Places
