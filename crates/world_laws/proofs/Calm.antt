@@ -1,8 +1,8 @@
 -- Plans and the numbers of senders. A calm plan begins no session and sends no entry, so it raises none; any plan raises one at
 -- most by one.
-use Rattle.std.proofs.Common.{◌≡◌, ℕ, ◌+◌, ◌≤◌, Bool, true, false, List, [], ◌∷◌, ◌++◌, map, refl, arith, subst, sym}
+use Rattle.std.proofs.Common.{◌≡◌, ℕ, ◌+◌, Bool, true, false, List, [], ◌∷◌, ◌++◌, refl, arith}
 use Rattle.std.proofs.lemmas.Bool.{false≢true}
-use Rattle.std.specs.Prelude.{Option, None, is_some, slice_index_or}
+use Rattle.std.specs.Prelude.{Option, None, is_some}
 use Rattle.world_laws.proofs.Types.{Change, Packet, Position, SubKind, Write}
 use Rattle.world_laws.proofs.Types.change
 use Rattle.world_laws.proofs.Types.write
@@ -187,8 +187,8 @@ reset_raises : (per n : ℕ) (b : Broker) (y : ℕ) → SendersWithin n b.sender
     → SendersWithin (n + 1) (all_changed (all_written per b (write.SessionNumber y ((sender_at b y).session + 1) ∷ [])) (change.Opening y ∷ [])).senders
 reset_raises per n b y w =
     let more : SendersWithin (n + 1) (written per b (write.SessionNumber y ((sender_at b y).session + 1))).senders =
-      λ z. at_set (SenderWithin (n + 1)) b.senders y z _ new_sender
-      (λ _. record { session = omega (arith, (w y).session); next = omega (arith, (w y).next) }) (sender_more n _ (w z)) in
+    λ z. at_set (SenderWithin (n + 1)) b.senders y z _ new_sender
+    (λ _. record { session = omega (arith, (w y).session); next = omega (arith, (w y).next) }) (sender_more n _ (w z)) in
     calm_one (n + 1) (written per b (write.SessionNumber y ((sender_at b y).session + 1))) (change.Opening y) refl more
 
 pub shape_raises : (s : Setup) (w : World) (n : ℕ) (p : Planned) → Shape s w p → Raises s.per_ledger n (topic_at s w p.topic p.cluster) p.plan

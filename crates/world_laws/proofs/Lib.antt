@@ -13,3 +13,4 @@ pub mod Fresh
 pub mod Once
 pub mod Calm
 pub mod Places
+pub mod Bounds

@@ -1,5 +1,5 @@
 -- No event changes how many places a broker has for clusters and clients, nor how many brokers and clients a world has.
-use Rattle.std.proofs.Common.{◌≡◌, ℕ, zero, suc, ◌+◌, ◌*◌, ◌<◌, Bool, replicate, List, [], ◌∷◌, length, map, refl, ◌∙◌, subst, sym, arith, length-set}
+use Rattle.std.proofs.Common.{ℕ, zero, suc, ◌+◌, ◌*◌, ◌<◌, Bool, replicate, List, [], ◌∷◌, length, ◌∙◌, subst, sym, arith, length-set}
 use Rattle.std.proofs.lemmas.List.{length-map, length-replicate}
 use Rattle.std.specs.Prelude.{Option, Some, None, is_some, slice_index_or, slice_set}
 use Rattle.world_laws.proofs.Types.{Change, Event, Session, SubKind, Write}
@@ -7,7 +7,7 @@ use Rattle.world_laws.proofs.Types.change
 use Rattle.world_laws.proofs.Types.event
 use Rattle.world_laws.proofs.Types.write
 use Rattle.geo_base.specs.Broker.{Broker, changed, new_broker, no_broker, sub_named, written}
-use Rattle.geo_base.specs.Client.{Acted, Client, new_client}
+use Rattle.geo_base.specs.Client.{Acted, new_client}
 use Rattle.geo_base.specs.Happening.{broker_does, client_does, does_planned, happens}
 use Rattle.geo_base.specs.Plan.{Plan, all_changed, all_written, done}
 use Rattle.geo_base.specs.Planned.{Planned, planned}
@@ -70,9 +70,9 @@ does_places s w q p =
       broker_clocks = length-set w.broker_clocks n _ ∙ p.broker_clocks;
       client_clocks = p.client_clocks;
       each = λ z within.
-      let z_within : z < length w.brokers = subst (λ (m : ℕ). z < m) (length-set w.brokers n _) within in
-      at_set (BrokerPlaces s) w.brokers n z _ no_broker
-      (λ is. kept_done s s.per_ledger (broker_at w n) q.plan (p.each n (subst (λ (m : ℕ). m < length w.brokers) (sym is) z_within))) (p.each z z_within);
+          let z_within : z < length w.brokers = subst (λ (m : ℕ). z < m) (length-set w.brokers n _) within in
+          at_set (BrokerPlaces s) w.brokers n z _ no_broker
+          (λ is. kept_done s s.per_ledger (broker_at w n) q.plan (p.each n (subst (λ (m : ℕ). m < length w.brokers) (sym is) z_within))) (p.each z z_within);
     })
 
 client_places : (s : Setup) (w : World) (c : ℕ) (k : Option LinkName) (a : Acted) → WorldPlaces s w → WorldPlaces s (client_does s w c k a)
@@ -109,5 +109,5 @@ opening_places s = record {
   broker_clocks = length-replicate (length s.topics * length s.clusters) 0;
   client_clocks = length-replicate (length s.clients) 0;
   each = λ z within. replicate_at (BrokerPlaces s) (length s.topics * length s.clusters) z (new_broker (length s.clusters) (length s.clients)) no_broker
-    (record { senders = length-replicate (length s.clusters) new_sender; receivers = length-replicate (length s.clusters) None; sessions = length-replicate (length s.clients) None }) within;
+      (record { senders = length-replicate (length s.clusters) new_sender; receivers = length-replicate (length s.clusters) None; sessions = length-replicate (length s.clients) None }) within;
 }
