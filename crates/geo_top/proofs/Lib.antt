@@ -2,3 +2,4 @@ pub mod Accepting
 pub mod Cursors
 pub mod SenderTables
 pub mod Pendings
+pub mod Messages

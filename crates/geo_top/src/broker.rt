@@ -6,6 +6,7 @@
 
 pub mod book;
 pub mod cursor;
+pub mod forward;
 pub mod message;
 pub mod packet;
 pub mod prepared;
