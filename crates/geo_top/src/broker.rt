@@ -6,11 +6,12 @@
 
 pub mod book;
 pub mod cursor;
-pub mod forward;
 pub mod message;
 pub mod packet;
 pub mod prepared;
+pub mod receiving;
 pub mod sender;
 pub mod senders;
+pub mod sending;
 pub mod site;
 pub mod topic;

@@ -1,6 +1,6 @@
 //! A broker's state, and how a prepared event becomes of it.
 ghost use Rattle.std.specs.Prelude.{◌≡◌, ◌<◌, ◌≤◌, ◌+◌, ◌++◌, true, length, IfOk, OnOk};
-ghost use Rattle.geo_base.specs.Broker.{changed, receiver_at, written};
+ghost use Rattle.geo_base.specs.Broker.{changed, receiver_at, sender_at, written};
 ghost use Rattle.geo_base.specs.Entry.{with_origin};
 ghost use Rattle.geo_base.specs.Storing.{receipt_position, storing};
 ghost use Rattle.geo_top.specs.Message.{is_message};
@@ -9,7 +9,7 @@ ghost use Rattle.geo_top.specs.Fits.{AllChangesFit, AllWritesFit, ChangeFits, Pl
 
 use crate::broker::message::Message;
 use crate::broker::prepared::Prepared;
-use crate::broker::sender::SenderStep;
+use crate::broker::sender::{Sender, SenderStep};
 use crate::broker::senders::SenderTable;
 use crate::broker::site::Site;
 use crate::broker::topic::{NOWHERE, grow, is_accepted, position_after};
@@ -59,6 +59,28 @@ impl Book {
         ensures { result ≡ receiver_at self.now.broker source }
     {
         self.receivers[source as usize]
+    }
+
+    /// The topic's entries.
+    pub fn entries(&self) -> &[Message]
+        ensures { result.now ≡ self.now.broker.entries }
+    {
+        self.entries.as_slice()
+    }
+
+    /// The lengths of the topic's ledgers.
+    pub fn ledgers(&self) -> &[u64]
+        ensures { result.now ≡ self.now.broker.ledgers }
+    {
+        self.ledgers.as_slice()
+    }
+
+    /// The sender to a cluster.
+    pub fn sender(&self, remote: u32) -> &Sender
+        requires { remote < length self.now.broker.senders }
+        ensures { result.now.sender ≡ sender_at self.now.broker remote }
+    {
+        self.senders.at(remote)
     }
 
     /// Plans to store an entry under the origin of a cluster, unless it is a duplicate; the position is for the receipt.

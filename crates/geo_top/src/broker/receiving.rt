@@ -1,18 +1,11 @@
-//! The two ends of a forward link: take at the receiving broker, reset and receipt at the sending one.
-ghost use Rattle.std.specs.Prelude.{◌≡◌, ◌<◌, ◌≤◌, ◌+◌, ◌^◌, [], true, length, IfOk};
+//! The receiving end of a forward link: take.
+ghost use Rattle.std.specs.Prelude.{◌≡◌, ◌<◌, ◌≤◌, true, length, IfOk};
 ghost use Rattle.std.specs.Option.{option_copied};
-ghost use Rattle.geo_base.specs.Broker.{sender_at};
-ghost use Rattle.geo_base.specs.Entry.{with_origin};
-ghost use Rattle.geo_base.specs.Forwarding.{closes, receipt, receipt_packet, reset, take_command, take_frame, take_in, take_packet, take_send};
-ghost use Rattle.geo_base.specs.Link.{sends};
-ghost use Rattle.geo_base.specs.Plan.{plan_of};
-ghost use Rattle.geo_base.specs.Storing.{receipt_position, storing};
+ghost use Rattle.geo_base.specs.Forwarding.{closes, take_command, take_frame, take_in, take_packet, take_send};
 ghost use Rattle.geo_base.specs.Receiver.{is_from};
 ghost use Rattle.geo_base.specs.declared.event.Fate.TheVariants as fate;
-ghost use Rattle.geo_base.specs.declared.frame.Frame.TheVariants as frame;
-ghost use Rattle.geo_base.specs.declared.packet.Peer.TheVariants as peer;
 ghost use Rattle.geo_top.specs.Built.{is_forward_frame};
-ghost use Rattle.geo_top.specs.Fits.{AllWritesFit, PlanFits, steps};
+ghost use Rattle.geo_top.specs.Fits.{PlanFits, steps};
 ghost use Rattle.geo_top.specs.Message.{is_message};
 
 use crate::broker::book::{Book, STEPS};
