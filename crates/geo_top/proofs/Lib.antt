@@ -8,3 +8,4 @@ pub mod Accepting
 pub mod Cursors
 pub mod SenderTables
 pub mod Pendings
+pub mod Messages

@@ -1,18 +1,25 @@
 //! A broker's state, and how a prepared event becomes of it.
-ghost use Rattle.std.specs.Prelude.{◌≡◌, ◌<◌, ◌≤◌, ◌+◌, length, OnOk};
-ghost use Rattle.geo_base.specs.Broker.{changed, written};
+ghost use Rattle.std.specs.Prelude.{◌≡◌, ◌<◌, ◌≤◌, ◌+◌, ◌++◌, true, length, IfOk, OnOk};
+ghost use Rattle.geo_base.specs.Broker.{changed, receiver_at, sender_at, written};
+ghost use Rattle.geo_base.specs.Entry.{with_origin};
+ghost use Rattle.geo_base.specs.Storing.{receipt_position, storing};
+ghost use Rattle.geo_top.specs.Message.{is_message};
 ghost use Rattle.geo_base.specs.Plan.{all_changed, all_written, done};
 ghost use Rattle.geo_top.specs.Fits.{AllChangesFit, AllWritesFit, ChangeFits, PlanFits, WriteFits, steps};
 
 use crate::broker::message::Message;
 use crate::broker::prepared::Prepared;
-use crate::broker::sender::SenderStep;
+use crate::broker::sender::{Sender, SenderStep};
 use crate::broker::senders::SenderTable;
-use crate::broker::topic::grow;
+use crate::broker::site::Site;
+use crate::broker::topic::{NOWHERE, grow, is_accepted, position_after};
 use geo_base::change::Change;
+use geo_base::entry::Entry;
 use geo_base::memory::Memory;
+use geo_base::position::Position;
 use geo_base::session::Session;
 use geo_base::write::Write;
+use std::alloc::Global;
 use std::marker::Model;
 
 /// A topic's entries and ledgers, the senders and receivers by cluster, and the clients' sessions.
@@ -42,7 +49,65 @@ impl Model for Book {
     ghost invariant = { λ b. BookHolds b.room (vec_len b.entries) (vec_capacity b.entries) (vec_len b.ledgers) (vec_capacity b.ledgers) b.senders.room b.entries.items };
 }
 
+/// The most steps that an event takes.
+pub const STEPS: usize = 2;
+
 impl Book {
+    /// The session that is open on the forward link from a cluster.
+    pub fn receiver(&self, source: u32) -> Option<u64>
+        requires { source < length self.now.broker.receivers }
+        ensures { result ≡ receiver_at self.now.broker source }
+    {
+        self.receivers[source as usize]
+    }
+
+    /// The topic's entries.
+    pub fn entries(&self) -> &[Message]
+        ensures { result.now ≡ self.now.broker.entries }
+    {
+        self.entries.as_slice()
+    }
+
+    /// The lengths of the topic's ledgers.
+    pub fn ledgers(&self) -> &[u64]
+        ensures { result.now ≡ self.now.broker.ledgers }
+    {
+        self.ledgers.as_slice()
+    }
+
+    /// The sender to a cluster.
+    pub fn sender(&self, remote: u32) -> &Sender
+        requires { remote < length self.now.broker.senders }
+        ensures { result.now.sender ≡ sender_at self.now.broker remote }
+    {
+        self.senders.at(remote)
+    }
+
+    /// Plans to store an entry under the origin of a cluster, unless it is a duplicate; the position is for the receipt.
+    #[tactic(auto, using(crate::proofs::Messages::message_with_origin))]
+    pub fn store(
+        &self,
+        alloc: Global,
+        site: &Site,
+        origin: u32,
+        entry: &Entry,
+        plan: &mut Prepared,
+    ) -> Result<Position, Memory>
+        requires message { is_message entry.now ≡ true }
+        ensures plan { OnOk result (plan.new ≡ record plan.old { writes = plan.old.writes ++ storing self.now.broker (with_origin origin entry.now) }) }
+        ensures position { IfOk result (λ at. receipt_position site.now.per_ledger self.now.broker (with_origin origin entry.now) ≡ Some at) }
+        ensures fits { OnOk result (AllWritesFit site.now.per_ledger self.now.broker (storing self.now.broker (with_origin origin entry.now))) }
+        ensures few { OnOk result (length (storing self.now.broker (with_origin origin entry.now)) ≤ 1) }
+    {
+        let mut stored = entry.copy(alloc)?;
+        stored.ident.origin = origin;
+        if !is_accepted(self.entries.as_slice(), &stored.ident) {
+            return Ok(NOWHERE);
+        }
+        plan.write(Write::Append(stored))?;
+        Ok(position_after(site.per_ledger(), self.ledgers.as_slice()))
+    }
+
     /// Makes room for so many more steps.
     pub fn reserve(&mut self, room: usize) -> Result<(), Memory>
         ensures broker { self.new.broker ≡ self.old.broker }

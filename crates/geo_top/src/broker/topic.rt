@@ -7,6 +7,12 @@ use crate::broker::message::Message;
 use geo_base::entry::Ident;
 use geo_base::position::Position;
 
+/// The position of what stands nowhere, -1:-1 as 64-bit numbers.
+pub const NOWHERE: Position = Position {
+    ledger: u64::MAX,
+    entry: u64::MAX,
+};
+
 /// Whether an entry of this name is no duplicate. The last entry of its stream decides, since sequence ids rise.
 pub fn is_accepted(entries: &[Message], ident: &Ident) -> bool
     requires { IsTopic entries.now }
