@@ -3,3 +3,4 @@ pub mod Built
 pub mod Room
 pub mod Steps
 pub mod Fits
+pub mod Refusing

@@ -1,6 +1,7 @@
 //! A broker's state, and how a prepared event becomes of it.
 ghost use Rattle.std.specs.Prelude.{◌≡◌, ◌<◌, ◌≤◌, ◌+◌, ◌++◌, true, length, IfOk, OnOk};
-ghost use Rattle.geo_base.specs.Broker.{changed, receiver_at, sender_at, written};
+ghost use Rattle.std.specs.Option.{option_copied};
+ghost use Rattle.geo_base.specs.Broker.{changed, receiver_at, sender_at, session_at, written};
 ghost use Rattle.geo_base.specs.Entry.{with_origin};
 ghost use Rattle.geo_base.specs.Storing.{receipt_position, storing};
 ghost use Rattle.geo_top.specs.Message.{is_message};
@@ -81,6 +82,21 @@ impl Book {
         ensures { result.now.sender ≡ sender_at self.now.broker remote }
     {
         self.senders.at(remote)
+    }
+
+    /// The clients' sessions.
+    pub fn sessions(&self) -> &[Option<Session>]
+        ensures { result.now ≡ self.now.broker.sessions }
+    {
+        self.sessions.as_slice()
+    }
+
+    /// The session that a client has open.
+    pub fn session(&self, client: u32) -> Option<&Session>
+        requires { client < length self.now.broker.sessions }
+        ensures { option_copied result ≡ session_at self.now.broker client }
+    {
+        self.sessions[client as usize].as_ref()
     }
 
     /// Plans to store an entry under the origin of a cluster, unless it is a duplicate; the position is for the receipt.
