@@ -61,7 +61,13 @@ impl Book {
         }
     }
 
-    fn serve_frame(&self, alloc: Global, site: &Site, client: u32, packet: &Packet) -> Result<Prepared, Memory>
+    fn serve_frame(
+        &self,
+        alloc: Global,
+        site: &Site,
+        client: u32,
+        packet: &Packet,
+    ) -> Result<Prepared, Memory>
         requires client { client < length self.now.broker.sessions }
         requires carried { is_client_frame packet.now.frame ≡ true }
         ensures plan { IfOk result (λ p. p ≡ serve_frame site.now self.now.broker client packet.now packet.now.frame) }
@@ -87,7 +93,13 @@ impl Book {
         }
     }
 
-    fn serve_in(&self, alloc: Global, site: &Site, client: u32, packet: &Packet) -> Result<Prepared, Memory>
+    fn serve_in(
+        &self,
+        alloc: Global,
+        site: &Site,
+        client: u32,
+        packet: &Packet,
+    ) -> Result<Prepared, Memory>
         requires client { client < length self.now.broker.sessions }
         requires carried { is_client_frame packet.now.frame ≡ true }
         requires opened { packet.now.frame ≢ frame.Connect }
@@ -129,7 +141,13 @@ impl Book {
                 Some(code) => refusing(alloc, client, session, *request, code),
                 None => attaching(alloc, client, session, *id, *request, name),
             },
-            Frame::Producer { request, .. } => refusing(alloc, client, session, *request, UNKNOWN_ERROR),
+            Frame::Producer { request, .. } => refusing(
+                alloc,
+                client,
+                session,
+                *request,
+                UNKNOWN_ERROR,
+            ),
             Frame::Send {
                 id,
                 seq,
@@ -187,7 +205,12 @@ impl Book {
 }
 
 /// An answer that changes nothing.
-fn answering(alloc: Global, client: u32, session: &Session, frame: Frame) -> Result<Prepared, Memory>
+fn answering(
+    alloc: Global,
+    client: u32,
+    session: &Session,
+    frame: Frame,
+) -> Result<Prepared, Memory>
     ensures { IfOk result (λ p. p ≡ answers client session.now frame) }
 {
     let mut plan = Prepared::quiet(alloc);
@@ -196,14 +219,26 @@ fn answering(alloc: Global, client: u32, session: &Session, frame: Frame) -> Res
 }
 
 /// A request is refused.
-fn refusing(alloc: Global, client: u32, session: &Session, request: u64, code: u64) -> Result<Prepared, Memory>
+fn refusing(
+    alloc: Global,
+    client: u32,
+    session: &Session,
+    request: u64,
+    code: u64,
+) -> Result<Prepared, Memory>
     ensures { IfOk result (λ p. p ≡ refuses client session.now request code) }
 {
     answering(alloc, client, session, Frame::Error { request, code })
 }
 
 /// A SEND is refused.
-fn failing(alloc: Global, client: u32, session: &Session, id: u64, seq: u64) -> Result<Prepared, Memory>
+fn failing(
+    alloc: Global,
+    client: u32,
+    session: &Session,
+    id: u64,
+    seq: u64,
+) -> Result<Prepared, Memory>
     ensures { IfOk result (λ p. p ≡ answers client session.now (frame.SendError id seq unknown_error)) }
 {
     let error = Frame::SendError {
