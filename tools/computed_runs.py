@@ -144,37 +144,71 @@ class Script:
         return 'record { name = %s; topic = %d; cluster = %d; lines =%s [] } ∷' % (text(client), topic, cluster, lines)
 
 
-def module(path):
+# the report as a test: where it fails, the checker says so at once, and does not show both reports
+TEST = '''
+same_lines : List (List ℕ) → List (List ℕ) → Bool
+same_lines [] [] = true
+same_lines (x ∷ xs) [] = false
+same_lines [] (y ∷ ys) = false
+same_lines (x ∷ xs) (y ∷ ys) = bytes_eq x y && same_lines xs ys
+'''
+TEST_IMPORTS = '''use Rattle.std.specs.Prelude.{Bool, ◌&&◌}
+use Rattle.std.specs.Str.{bytes_eq}
+'''
+
+
+def module(path, as_test=False):
     """The text of the proof module of a script."""
     script, base = Script(path), path[:-len('.geo')]
     with open(base + '.report') as file:
         report = file.read().split('\n')[:-1]
-    out = ['-- The run %s, computed: the definitions give its report. Written by tools/computed_runs.py.' % os.path.basename(base)]
-    out += [IMPORTS, 'setup : Setup', 'setup = record {', '  per_ledger = %d;' % script.per_ledger]
+    out = [TEST] if as_test else []
+    out += ['setup : Setup', 'setup = record {', '  per_ledger = %d;' % script.per_ledger]
     out += ['  clusters = %s;' % items([text(name) for name in script.clusters])]
     out += ['  topics = %s;' % items([text(name) for name in script.topics]), '  clients =']
     out += ['    ' + script.declared(client) for client in script.clients] + ['    [];', '}', '']
     out += ['schedule : List Step', 'schedule ='] + ['    %s ∷' % script.step(words) for words in script.events] + ['    []', '']
     out += ['shown : List (List ℕ)', 'shown ='] + ['    %s ∷' % text(line) for line in report] + ['    []', '']
-    out += ['reported : report_lines setup (run setup schedule) ≡ shown', 'unfolding ' + UNFOLDED, 'reported = refl']
+    report = 'report_lines setup (run setup schedule)'
+    equal = 'same_lines (%s) shown ≡ true' % report if as_test else report + ' ≡ shown'
+    unfolded = UNFOLDED + (' same_lines' if as_test else '')
+    out += ['reported : ' + equal, 'unfolding ' + unfolded, 'reported = refl']
     if os.path.exists(base + '.bytes'):
         with open(base + '.bytes') as file:
             out += ['', 'sent : (run_under all_limits setup schedule).world.frame_bytes ≡ %s' % file.read().strip()]
         out += ['unfolding ' + UNFOLDED, 'sent = refl']
-    return '\n'.join(out) + '\n'
+    body = '\n'.join(out) + '\n'
+    head = '-- The run %s, computed: the definitions give its report. Written by tools/computed_runs.py.\n' % os.path.basename(base)
+    return head + used(IMPORTS + TEST_IMPORTS if as_test else IMPORTS, body) + '\n' + body
+
+
+def used(imports, body):
+    """The lines of imports, with the names that a body uses alone."""
+    words = set(re.findall(r'[^\s(){};.]+', body))
+    kept = []
+    for line in imports.strip().split('\n'):
+        path, names = re.fullmatch(r'use (\S+?)(?:\.\{(.*)\})?', line).groups()
+        if names is None:
+            if path.split('.')[-1] in words:
+                kept.append(line)
+            continue
+        found = [name for name in names.split(', ') if name.strip('◌') in words]
+        if found:
+            kept.append('use %s.{%s}' % (path, ', '.join(found)))
+    return '\n'.join(kept) + '\n'
 
 
 def name_of(path):
     return 'Run_' + os.path.basename(path)[:-len('.geo')]
 
 
-def write(out, paths):
+def write(out, paths, as_test=False):
     for path in paths:
         with open(os.path.join(out, name_of(path) + '.antt'), 'w') as file:
-            file.write(module(path))
+            file.write(module(path, as_test))
 
 
-def copy_of_crate(where, paths):
+def copy_of_crate(where, paths, as_test=False):
     """A copy of the repository's lowest crate with these runs in place of its own; gives its folder."""
     crate = os.path.join(where, 'crates', 'geo_base')
     shutil.copytree(os.path.join(ROOT, 'crates', 'geo_base'), crate, symlinks=True)
@@ -185,7 +219,7 @@ def copy_of_crate(where, paths):
     for old in os.listdir(proofs):
         if old.startswith('Run_'):
             os.remove(os.path.join(proofs, old))
-    write(proofs, paths)
+    write(proofs, paths, as_test)
     with open(os.path.join(proofs, 'Lib.antt')) as file:
         kept = [line for line in file.read().split('\n') if line and 'Run_' not in line]
     with open(os.path.join(proofs, 'Lib.antt'), 'w') as file:

@@ -1,5 +1,5 @@
 //! Names of clusters, topics and subscriptions, and of producers.
-ghost use Rattle.std.specs.Prelude.{◌≡◌, ◌↔◌, ◌<◌, [], true, length, IfOk, OnOk, IsErrOf};
+ghost use Rattle.std.specs.Prelude.{◌≡◌, ◌↔◌, ◌<◌, [], true, false, length, IfOk, OnOk, IsErrOf, MatchOption};
 ghost use Rattle.std.specs.List.{list_all};
 ghost use Rattle.geo_base.specs.Name.{is_name, name_byte, HasBadByte};
 
@@ -94,11 +94,27 @@ impl<K> Name<K> {
         }
     }
 
-    /// The name.
+    /// The name's text.
     pub fn as_str(&self) -> &str
-        ensures { result.now ≡ self.now }
+        ensures text { result.now ≡ self.now }
+        ensures is_one { is_name result.now ≡ true }
     {
         self.text.as_str()
+    }
+}
+
+/// The text of a word that is a name; None exactly where it is none.
+#[tactic(auto, using(crate::proofs::Names::name_utf8))]
+pub fn name_text(word: &[u8]) -> Option<&str>
+    ensures { MatchOption result (is_name word.now ≡ false)
+        (λ text. (text.now ≡ word.now) × (is_name word.now ≡ true)) }
+{
+    if word.is_empty() || word.len() > NAME_BYTES || !are_name_bytes(word) {
+        return None;
+    }
+    match str::from_utf8(word) {
+        Ok(text) => Some(text),
+        Err(_) => unreachable!(),
     }
 }
 
@@ -164,5 +180,64 @@ impl ProducerName {
         Ok(ProducerName {
             text: Text::from_str(alloc, text)?,
         })
+    }
+
+    /// The name's text.
+    pub fn as_str(&self) -> &str
+        ensures { result.now ≡ self.now }
+    {
+        self.text.as_str()
+    }
+}
+
+#[cfg(test)]
+mod tests {
+    use super::*;
+    use std::test::Fail;
+
+    /// What a reader answers, as a word.
+    fn answer(name: Result<ClusterName, NameFault>) -> &'static str {
+        match name {
+            Ok(_) => "a name",
+            Err(NameFault::Empty) => "Empty",
+            Err(NameFault::TooLong) => "TooLong",
+            Err(NameFault::BadByte) => "BadByte",
+            Err(NameFault::Memory) => "Memory",
+        }
+    }
+
+    #[test]
+    fn names_are_judged_in_order(rt: HostRuntime) -> Result<(), Fail> {
+        let table = [
+            ("", "Empty"),
+            ("abcdefghijklmnopq", "TooLong"),
+            ("ABCDEFGHIJKLMNOPQ", "TooLong"),
+            ("A", "BadByte"),
+            ("a-b", "BadByte"),
+            ("a b", "BadByte"),
+            ("a_1", "a name"),
+            ("_", "a name"),
+            ("abcdefghijklmnop", "a name"),
+            ("\u{e9}", "BadByte"),
+        ];
+        for (text, expected) in table {
+            assert_eq!(rt;
+                answer(ClusterName::read(rt.alloc(), text)),
+                expected,
+                "{text}"
+            );
+        }
+        Ok(())
+    }
+
+    #[test]
+    fn names_keep_their_text(rt: HostRuntime) -> Result<(), Fail> {
+        let topic = TopicName::read(rt.alloc(), "t_1")?;
+        assert_eq!(rt; topic.as_str(), "t_1");
+        let client = ProducerName::read(rt.alloc(), "p")?;
+        assert_eq!(rt; client.as_str(), "p");
+        let producer = ProducerName::any(rt.alloc(), "pulsar.marker")?;
+        assert_eq!(rt; producer.as_str(), "pulsar.marker");
+        Ok(())
     }
 }

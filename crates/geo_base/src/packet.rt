@@ -1,4 +1,6 @@
 //! What crosses a link.
+ghost use Rattle.std.specs.Prelude.{◌≡◌};
+
 use crate::frame::Frame;
 use std::marker::Model;
 
@@ -16,6 +18,22 @@ impl Model for Stamp {
     ghost view = { λ s. s.number };
 
     ghost inverse = { λ n. record { number = n } };
+}
+
+impl Stamp {
+    /// The stamp of a number.
+    pub fn new(number: u64) -> Stamp
+        ensures { result ≡ number }
+    {
+        Stamp { number }
+    }
+
+    /// The number.
+    pub fn number(self) -> u64
+        ensures { result ≡ self }
+    {
+        self.number
+    }
 }
 
 /// A frame with the session, or a client's connection, that it was sent in.

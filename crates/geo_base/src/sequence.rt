@@ -1,5 +1,5 @@
 //! A list that owns its items.
-ghost use Rattle.std.specs.Prelude.{◌≡◌, [], ◌∷◌, ◌++◌, length, OnOk, OnErr, slice_get};
+ghost use Rattle.std.specs.Prelude.{◌≡◌, [], ◌∷◌, ◌++◌, length, OnOk, OnErr};
 
 use crate::memory::Memory;
 use std::alloc::Global;
@@ -61,5 +61,21 @@ impl<T: Drop> Sequence<T> {
             Ok(()) => Ok(()),
             Err(_) => Err(Memory),
         }
+    }
+}
+
+#[cfg(test)]
+mod tests {
+    use super::*;
+    use std::test::Fail;
+
+    #[test]
+    fn items_stand_in_order(rt: HostRuntime) -> Result<(), Fail> {
+        let mut numbers: Sequence<u64> = Sequence::new(rt.alloc());
+        numbers.push(3)?;
+        numbers.push(1)?;
+        assert_eq!(rt; numbers.as_slice(), [3, 1].as_slice());
+        assert_eq!(rt; numbers.len(), 2);
+        Ok(())
     }
 }

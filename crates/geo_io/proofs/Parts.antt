@@ -1,0 +1,43 @@
+-- What two calls moved, one after the other, and the parts of lists that a call moves.
+use Rattle.std.proofs.Common.{◌≡◌, ℕ, ◌+◌, ◌-◌, ◌≤◌, min, List, ◌++◌, take, drop, length, sym, ◌∙◌, append_assoc, ap, subst, arith}
+use Rattle.std.specs.Prelude.{Option, Some, None, Result, Ok, Err, OnErr}
+use Rattle.std.proofs.Math.Seq.{take-append-add}
+use Rattle.std.proofs.lemmas.List.{length-take-le, take-append-drop, take-append-le, take-take, take_min, drop-drop}
+use Rattle.std.specs.Io.KnownBytes.{Consumes}
+use Rattle.geo_io.specs.Sink.{Gains}
+
+pub Consumes-again : (a b c : Option (List ℕ)) (xs ys : List ℕ) → Consumes a b xs → Consumes b c ys → Consumes a c (xs ++ ys)
+Consumes-again None b c xs ys first second = tt
+Consumes-again (Some a) None c xs ys first second = absurd first
+Consumes-again (Some a) (Some b) None xs ys first second = absurd second
+Consumes-again (Some a) (Some b) (Some c) xs ys first second =
+    first ∙ (ap (λ l. xs ++ l) second ∙ sym (append_assoc xs ys c))
+
+pub Gains-again : (a b c : Option (List ℕ)) (xs ys : List ℕ) → Gains a b xs → Gains b c ys → Gains a c (xs ++ ys)
+Gains-again a b None xs ys first second = tt
+Gains-again a None (Some c) xs ys first second = absurd second
+Gains-again None (Some b) (Some c) xs ys first second = absurd first
+Gains-again (Some a) (Some b) (Some c) xs ys first second =
+    second ∙ (ap (λ l. l ++ ys) first ∙ append_assoc a xs ys)
+
+-- the n bytes that were copied from the first m of what is left, and then the rest
+pub drop_copied : (bytes to : List ℕ) (taken n m : ℕ) → n ≤ m → take n to ≡ take n (take m (drop taken bytes)) → drop taken bytes ≡ take n to ++ drop (taken + n) bytes
+drop_copied bytes to taken n m le copied =
+    sym (take-append-drop n (drop taken bytes)) ∙ (ap (λ l. l ++ drop n (drop taken bytes)) (sym (copied ∙ take-take n m (drop taken bytes) le)) ∙ ap (λ l. take n to ++ l) (drop-drop n taken bytes))
+
+-- the buffer up to where the copied bytes end, which are those of the piece that had room
+pub take-filled : (buffer room rest piece : List ℕ) (at n : ℕ) → at ≤ length buffer → length room ≡ length buffer - at → n ≡ min (length piece) (length room) → take n room ≡ take n piece → take (at + n) (take at buffer ++ (room ++ rest)) ≡ take (length buffer) (take at buffer ++ piece)
+take-filled buffer room rest piece at n within size count copied =
+    let front : length (take at buffer) ≡ at = length-take-le at buffer within in
+    let all : length (take at buffer) + (length buffer - at) ≡ length buffer = omega (arith, front) in
+    let fits : n ≤ length room = omega (arith, count) in
+    let kept : (l : List ℕ) (k : ℕ) → take (at + k) (take at buffer ++ l) ≡ take at buffer ++ take k l =
+    λ l k. subst (λ (m : ℕ). take (m + k) (take at buffer ++ l) ≡ take at buffer ++ take k l) front (take-append-add (take at buffer) l k) in
+    let moved : take n (room ++ rest) ≡ take (length buffer - at) piece =
+    take-append-le n room rest fits ∙ (copied ∙ (ap (λ k. take k piece) (count ∙ omega (arith, size)) ∙ take_min (length buffer - at) piece)) in
+    kept (room ++ rest) n ∙ (ap (λ l. take at buffer ++ l) moved ∙ (sym (kept piece (length buffer - at)) ∙ ap (λ k. take k (take at buffer ++ piece)) (omega (arith, within))))
+
+-- what holds anyway holds at an error
+pub OnErr-from : {T E P : Type 0} (r : Result T E) → P → OnErr r P
+OnErr-from (Ok _) p = tt
+OnErr-from (Err _) p = p

@@ -1,0 +1,183 @@
+//! A source and a sink over a reader and a writer of std.
+ghost use Rattle.std.specs.Prelude.{◌≡◌, ◌≤◌, ◌<◌, ℕ, Ok, None, IfOk, OnOk, OnErr, length};
+ghost use Rattle.std.specs.Io.{ReadsAtMost, WritesAtMost};
+ghost use Rattle.std.specs.Io.KnownBytes.{ReadConsumes};
+ghost use Rattle.geo_io.specs.Faults.{one_more, Rose};
+ghost use Rattle.geo_io.specs.Sink.{WriteGains};
+
+use crate::fault::Failed;
+use crate::sink::Sink;
+use crate::source::Source;
+use std::io::{Read, Write};
+use std::marker::Model;
+
+/// A source over a reader of std, such as the standard input. It tells nothing of its bytes, and
+/// counts each error of the reader, an interrupted call among them. Contracts see that count, which
+/// stops at `u64::MAX`.
+#[derive(Debug, Drop)]
+pub struct StdSource<T> {
+    input: T,
+    faults: u64,
+}
+
+impl<T> Model for StdSource<T> {
+    ghost Value = { ℕ };
+
+    ghost view = { λ s. s.faults };
+}
+
+impl<T: Read> StdSource<T> {
+    /// A source over the reader, with no fault counted.
+    pub fn new(input: T) -> StdSource<T>
+        ensures { result ≡ 0 }
+    {
+        StdSource { input, faults: 0 }
+    }
+}
+
+impl<T: Read> Source for StdSource<T> {
+    ghost left = { λ _. None };
+
+    ghost faults = { λ count. count };
+
+    fn read(&mut self, buf: &mut [u8]) -> Result<usize, Failed>
+        ensures within { ReadsAtMost result buf.new }
+        ensures bytes { ReadConsumes None None result buf.new }
+        ensures later { self.old ≤ self.new }
+        ensures cause { OnErr result (Rose self.old self.new) }
+
+        // Each error counts once, and nothing else counts.
+        ensures ok { OnOk result (self.new ≡ self.old) }
+        ensures err { OnErr result (self.new ≡ one_more self.old) }
+    {
+        match self.input.read(buf) {
+            Ok(n) => Ok(n),
+            Err(_) => {
+                self.faults = self.faults.saturating_add(1);
+                Err(Failed)
+            }
+        }
+    }
+}
+
+/// A sink over a writer of std, such as the standard output. It tells nothing of its bytes, and
+/// counts each error of the writer, and each call that takes 0 bytes of a piece that is not empty.
+/// Contracts see that count, which stops at `u64::MAX`.
+///
+/// It does not flush: give it a writer without a buffer, since an error in what a buffer keeps
+/// until it is dropped is never seen here.
+#[derive(Debug, Drop)]
+pub struct StdSink<T> {
+    output: T,
+    faults: u64,
+}
+
+impl<T> Model for StdSink<T> {
+    ghost Value = { ℕ };
+
+    ghost view = { λ s. s.faults };
+}
+
+impl<T: Write> StdSink<T> {
+    /// A sink over the writer, with no fault counted.
+    pub fn new(output: T) -> StdSink<T>
+        ensures { result ≡ 0 }
+    {
+        StdSink { output, faults: 0 }
+    }
+}
+
+impl<T: Write> Sink for StdSink<T> {
+    ghost held = { λ _. None };
+
+    ghost faults = { λ count. count };
+
+    fn write(&mut self, piece: &[u8]) -> Result<usize, Failed>
+        ensures within { WritesAtMost result piece.now }
+        ensures bytes { WriteGains None None result piece.now }
+        ensures later { self.old ≤ self.new }
+        ensures cause { OnErr result (Rose self.old self.new) }
+        ensures stalled { result ≡ Ok 0 → 0 < length piece.now → Rose self.old self.new }
+
+        // Each of the two counts once, and nothing else counts.
+        ensures ok { IfOk result (λ n. 0 < n → self.new ≡ self.old) }
+        ensures empty { length piece.now ≡ 0 → OnOk result (self.new ≡ self.old) }
+        ensures zero { result ≡ Ok 0 → 0 < length piece.now → self.new ≡ one_more self.old }
+        ensures err { OnErr result (self.new ≡ one_more self.old) }
+    {
+        let taken = self.output.write(piece).map_err(|_| Failed);
+        let is_fault = match taken {
+            Ok(n) => n == 0 && !piece.is_empty(),
+            Err(Failed) => true,
+        };
+        if is_fault {
+            self.faults = self.faults.saturating_add(1);
+        }
+        taken
+    }
+}
+
+#[cfg(test)]
+mod tests {
+    use super::{StdSink, StdSource};
+    use crate::{Failed, ReadFault, Sink, Source, WriteFault, read_all, write_all};
+    use std::io;
+    use std::io::{ErrorKind, Read, Write};
+    use std::test::Fail;
+
+    /// A reader and a writer that give only errors.
+    #[derive(Drop)]
+    struct Broken;
+
+    impl Read for Broken {
+        fn read(&mut self, _buf: &mut [u8]) -> io::Result<usize> {
+            Err(io::Error::from(ErrorKind::BrokenPipe))
+        }
+    }
+
+    impl Write for Broken {
+        fn write(&mut self, _buf: &[u8]) -> io::Result<usize> {
+            Err(io::Error::from(ErrorKind::BrokenPipe))
+        }
+
+        fn flush(&mut self) -> io::Result<()> {
+            Ok(())
+        }
+    }
+
+    #[test]
+    fn source_over_a_reader(rt: HostRuntime) -> Result<(), Fail> {
+        let mut source = StdSource::new(b"abcd".as_slice());
+        let bytes = read_all(rt.alloc(), &mut source, 4)?;
+        assert!(rt; bytes.as_slice() == b"abcd".as_slice());
+        assert_eq!(rt; source.faults, 0);
+
+        let mut source = StdSource::new(Broken);
+        let fault = read_all(rt.alloc(), &mut source, 4).err();
+        assert_eq!(rt; fault, Some(ReadFault::Failed));
+        assert_eq!(rt; source.read(&mut [0; 4]), Err(Failed));
+        assert_eq!(rt; source.faults, 2);
+        Ok(())
+    }
+
+    #[test]
+    fn sink_over_a_writer(rt: HostRuntime) -> Result<(), Fail> {
+        let mut bytes = Vec::new(rt.alloc());
+        let mut sink = StdSink::new(&mut bytes);
+        write_all(&mut sink, b"abcd")?;
+        assert_eq!(rt; sink.faults, 0);
+        assert!(rt; bytes.as_slice() == b"abcd".as_slice());
+
+        // A writer over a slice takes 0 bytes once the slice is full.
+        let mut room = [0u8; 3];
+        let mut sink = StdSink::new(&mut room[..]);
+        assert_eq!(rt; write_all(&mut sink, b"abcd"), Err(WriteFault { out: 3 }));
+        assert_eq!(rt; sink.write(b""), Ok(0));
+        assert_eq!(rt; sink.faults, 1);
+
+        let mut sink = StdSink::new(Broken);
+        assert_eq!(rt; write_all(&mut sink, b"abcd"), Err(WriteFault { out: 0 }));
+        assert_eq!(rt; sink.faults, 1);
+        Ok(())
+    }
+}

@@ -1,0 +1,109 @@
+//! A whole input read, and a whole output written.
+ghost use Rattle.std.specs.Prelude.{◌≡◌, ◌≤◌, ◌<◌, length, take, IfOk, OnOk, OnErr, IfErr, IfSome, IsErrOf};
+ghost use Rattle.std.specs.Io.KnownBytes.{IsAtEnd};
+ghost use Rattle.geo_io.specs.Faults.{Rose};
+ghost use Rattle.geo_io.specs.Source.{LongerThan, ConsumesSome};
+ghost use Rattle.geo_io.specs.Sink.{Gains};
+
+use crate::byte_buf::ByteBuf;
+use crate::fault::{Failed, Memory};
+use crate::sink::Sink;
+use crate::source::Source;
+use std::alloc::Global;
+use thiserror::Error;
+
+/// Why an input was not read whole.
+#[derive(Clone, Copy, Debug, PartialEq, Eq, Error)]
+pub enum ReadFault {
+    #[error("the source failed")]
+    Failed,
+    #[error("too many bytes came")]
+    TooLong,
+    #[error("out of memory")]
+    Memory,
+}
+
+impl From<Failed> for ReadFault {
+    ghost use Rattle.std.specs.Prelude.{◌≡◌};
+    ghost use Rattle.geo_io.specs.declared.whole.ReadFault.TheVariants as fault;
+
+    ghost from_gives = { λ _ e. e ≡ fault.Failed };
+
+    fn from(_failed: Failed) -> ReadFault {
+        ReadFault::Failed
+    }
+}
+
+impl From<Memory> for ReadFault {
+    ghost use Rattle.std.specs.Prelude.{◌≡◌};
+    ghost use Rattle.geo_io.specs.declared.whole.ReadFault.TheVariants as fault;
+
+    ghost from_gives = { λ _ e. e ≡ fault.Memory };
+
+    fn from(_memory: Memory) -> ReadFault {
+        ReadFault::Memory
+    }
+}
+
+/// How many bytes one call asks a source for.
+const CHUNK: usize = 16_384;
+
+/// Reads all bytes to the end of the input, `max` at most. `Failed` comes only where the source
+/// failed in this call, and `TooLong` exactly where more than `max` bytes came.
+pub fn read_all<S: Source>(alloc: Global, source: &mut S, max: usize) -> Result<ByteBuf, ReadFault>
+    // On Ok these are all the bytes that were left, and they are at most `max`.
+    ensures whole { IfOk result (λ bytes. IfSome (S.left source.old) (λ input. bytes ≡ input)) }
+    ensures short { IfOk result (λ bytes. length bytes ≤ max) }
+    ensures end { OnOk result (IsAtEnd (S.left source.new)) }
+
+    // When the faults come, and what they leave: some of the bytes were taken.
+    ensures long { IsErrOf result ReadFault.TooLong → LongerThan (S.left source.old) max }
+    ensures cause { IsErrOf result ReadFault.Failed
+        → Rose (S.faults source.old) (S.faults source.new) }
+    ensures rest { OnErr result (ConsumesSome (S.left source.old) (S.left source.new)) }
+
+    ensures later { S.faults source.old ≤ S.faults source.new }
+{
+    let mut bytes = ByteBuf::new(alloc);
+    let mut chunk = [0u8; CHUNK];
+    loop {
+        let n = source.read(&mut chunk)?;
+        if n == 0 {
+            return Ok(bytes);
+        }
+        if n > max - bytes.len() {
+            return Err(ReadFault::TooLong);
+        }
+        bytes.extend_from_slice(&chunk[..n])?;
+    }
+}
+
+/// An output was not written whole: the first `out` bytes of it went out.
+#[derive(Clone, Copy, Debug, PartialEq, Eq, Error)]
+#[error("the sink failed after {out} bytes")]
+pub struct WriteFault {
+    pub out: u64,
+}
+
+/// Writes all bytes, and takes no memory. A fault comes only where the sink failed in this call. A
+/// write that takes 0 bytes of those that are left ends the call so too.
+pub fn write_all<K: Sink>(sink: &mut K, bytes: &[u8]) -> Result<(), WriteFault>
+    ensures whole { OnOk result (Gains (K.held sink.old) (K.held sink.new) bytes.now) }
+
+    // A fault comes before the last byte, and leaves in the sink the bytes that it says.
+    ensures part { IfErr result (λ fault.
+        Gains (K.held sink.old) (K.held sink.new) (take fault.out bytes.now)) }
+    ensures short { IfErr result (λ fault. fault.out < length bytes.now) }
+    ensures cause { OnErr result (Rose (K.faults sink.old) (K.faults sink.new)) }
+
+    ensures later { K.faults sink.old ≤ K.faults sink.new }
+{
+    let mut out = 0;
+    while out < bytes.len() {
+        match sink.write(&bytes[out..]) {
+            Ok(n) if n > 0 => out += n,
+            _ => return Err(WriteFault { out: out as u64 }),
+        }
+    }
+    Ok(())
+}

@@ -1,0 +1,13 @@
+pub mod Types
+pub mod Walk
+pub mod Shapes
+pub mod ServeWalk
+pub mod LinkWalk
+pub mod ReadWalk
+pub mod OfferWalk
+pub mod EventWalk
+pub mod Runs
+pub mod Frames
+pub mod Appends
+pub mod Fresh
+pub mod Once

@@ -1,0 +1,9 @@
+//! Laws over every run of the written machine.
+//!
+//! A law is a public function without parameters and without an answer. Its contract is the statement, in the words of
+//! the definitions; nothing is done in its body, and its proof stands in `proofs/`.
+#![tactic(auto)]
+
+pub mod topics;
+
+pub use topics::law_once;
