@@ -14,7 +14,7 @@ import time
 
 import computed_runs
 
-# name: module of specs/, what stands there once, what is put in its place, and the same again for a second line
+# name: module of specs/, what stands there once, what is put in its place; then, where the new text needs it, the same for an import
 ERRORS = {
     'an equal sequence id is accepted': ('Topic', 'nat_lt e.ident.seq i.seq)', 'nat_lt e.ident.seq (i.seq + 1))'),
     'duplicates by the producer alone': ('Entry', 'same_stream a b = (a.origin == b.origin) && bytes_eq', 'same_stream a b = bytes_eq'),
@@ -29,7 +29,8 @@ ERRORS = {
     'a restart keeps the builder': ('Broker', '  sessions = map (λ s. None) b.sessions;\n  builder = None;', '  sessions = map (λ s. None) b.sessions;\n  builder = b.builder;'),
     'a restart keeps the consumers': ('Broker', 'subs = map cleared b.subs', 'subs = b.subs'),
     'a stop behind two writes opens no ledger': ('Plan', '(take k p.writes ++ write.Ledger ∷ [])', '(take k p.writes)'),
-    'a halt does one write more': ('Plan', 'halted per b k p = changed (all_written per b (take k', 'halted per b k p = changed (all_written per b (take (suc k)'),
+    'a halt does no write': ('Plan', '(take k p.writes ++ write.Ledger ∷ [])', '(write.Ledger ∷ [])'),
+    'a halt does all writes': ('Plan', '(take k p.writes ++ write.Ledger ∷ [])', '(p.writes ++ write.Ledger ∷ [])'),
     'twice looks at the first state': ('Plan', 'let q = f (done per b p) in', 'let q = f b in'),
     'a lost packet keeps the session': ('Forwarding', 'take_fate h b x p fate.Lost = closes x', 'take_fate h b x p fate.Lost = quiet_plan []'),
     'a packet of another session is taken': ('Forwarding', 'if is_open (receiver_at b x) p.session then', 'if is_open (Some p.session) p.session then'),
@@ -49,19 +50,16 @@ ERRORS = {
     'an eleventh snapshot is kept': ('Cache', 'most_cached = 10', 'most_cached = 11'),
     'only the passed snapshot is given up': ('Cache', 'if any_passed mark (c ∷ cs) then not_passed mark cs else c ∷ cs', 'if nat_lt c.index mark then cs else c ∷ not_passed mark cs'),
     'the first passed snapshot is told': ('Cache', 'if any_passed mark cs then last_passed mark cs else if nat_lt c.index mark then Some c.cut else None', 'if nat_lt c.index mark then Some c.cut else last_passed mark cs'),
-    'an update at an equal mark': ('Storing', 'last_passed (mark s.cursor) s.cache', 'last_passed (suc (mark s.cursor)) s.cache'),
+    'an update at an equal mark': ('Storing', 'last_passed (mark s.cursor) s.cache', 'last_passed (suc (mark s.cursor)) s.cache', 'Prelude.{', 'Prelude.{suc, '),
     'an update is judged before the acknowledgement': ('Acknowledging', 'update_after h b (with_acks (i ∷ is) sub)', 'update_after h b sub'),
     'an update is judged before the offered marker': ('Offering', 'update_after h b (with_acks (i ∷ []) (record s { cache = cached s.cache c }))', 'update_after h b s'),
     'an update stops one short': ('Updating', 'passed_over y 0 (j + 1) b.entries', 'passed_over y 0 j b.entries'),
     'an update passes over all': ('Updating', 'passes y e = not (is_data e.content) || meant_for y e', 'passes y e = true'),
     'an update creates at Latest': ('Updating', 'write.Create n sub_kind.Exclusive true false', 'write.Create n sub_kind.Exclusive true true'),
-    'an update needs no position': ('Updating', 'only_index ledgers (p ∷ q ∷ ps) = None', 'only_index ledgers (p ∷ q ∷ ps) = index_of ledgers p'),
-    'a local subscription updates': ('Storing', 'if s.replicated then last_passed', 'if not s.replicated || s.replicated then last_passed'),
     'cumulative stops one short': ('Acknowledging', 'up_to (Some i) = below (i + 1)', 'up_to (Some i) = below i'),
     'shared allows cumulative': ('Acknowledging', 'allows_cumulative sub_kind.Shared = false', 'allows_cumulative sub_kind.Shared = true'),
     'a detach drops what was due before': ('Subscription', 'due = with_indexes s.due (filter', 'due = with_indexes [] (filter'),
     'a detach drops what was out': ('Subscription', '(out_with c s.out));', '[]);'),
-    'what is acknowledged stays due': ('Subscription', 'due = filter (λ i. not (has s.cursor i)) s.due;', 'due = s.due;'),
     'consumers of two kinds': ('Subscribing', '(not (same_kind kind s.kind) || same_kind kind sub_kind.Exclusive)', 'same_kind kind sub_kind.Exclusive'),
     'two exclusive consumers': ('Subscribing', '(not (same_kind kind s.kind) || same_kind kind sub_kind.Exclusive)', 'not (same_kind kind s.kind)'),
     'a subscription stays local': ('Subscribing', 'write.Alter s.name kind (s.replicated || replicated)', 'write.Alter s.name kind s.replicated'),
@@ -74,7 +72,7 @@ ERRORS = {
     'an offered index stays due': ('Dispatcher', 'due = filter (λ j. not (j == i)) s.due;', 'due = s.due;'),
     'a seek keeps the cache': ('Broker', 'changed b (change.Cleared n) = at_sub b n cleared', 'changed b (change.Cleared n) = at_sub b n (λ s. record (cleared s) { cache = s.cache })'),
     'a seek keeps the consumers': ('Broker', 'changed b (change.Cleared n) = at_sub b n cleared', 'changed b (change.Cleared n) = at_sub b n (λ s. record (cleared s) { consumers = s.consumers })'),
-    'a seek passes the position': ('Seeking', 'seek_index b (Some p) = index_of b.ledgers p', 'seek_index b (Some p) = with_one (index_of b.ledgers p)'),
+    'a seek passes the position': ('Seeking', 'seeks_to h b s (Some i) = plan_of (write.Seek s.name i', 'seeks_to h b s (Some i) = plan_of (write.Seek s.name (suc i)', 'Prelude.{', 'Prelude.{suc, '),
     'a seek makes no update': ('Seeking', 'write.Seek s.name i ∷ update_after h b (sought i s)', 'write.Seek s.name i ∷ update_after h b (record (sought i s) { cursor = [] })'),
     'a reconnect keeps what is held': ('Client', 'connection = k.connection + 1; connected = true; held = [] }', 'connection = k.connection + 1; connected = true; held = k.held }'),
     'a reconnect sends no publish again': ('Client', 'commands_at s d k (i ∷ is) = command_at s d k (Some i) ++ commands_at s d k is', 'commands_at s d k (i ∷ is) = []'),
@@ -87,17 +85,17 @@ ERRORS = {
     'settling counts idle events': ('Run', 'goes_on limits r (record (happens s r.world e) { idle = r.world.idle })', 'goes_on limits r (happens s r.world e)'),
     'settling counts its last round': ('Run', "[ true ↦ r' | false", "[ true ↦ counting_round r' | false"),
     'settling does not reset': ('Run', '(all_settle limits s r (resets_of (pairs s)))', 'r'),
-    'a message may be a marker': ('Producing', ' && is_data e.content && ', ' && '),
     'the receipt of a halt goes out': ('Happening', '      links = taken_from p.takes w.links;\n      events = w.events + 1;\n    }\n\nabbrev pub halts', '      links = taken_from p.takes (delivered (from_broker s p.topic p.cluster) 0 p.plan.sent w.links);\n      events = w.events + 1;\n    }\n\nabbrev pub halts'),
     'a halt leaves its packet': ('Happening', '      links = taken_from p.takes w.links;\n      events = w.events + 1;\n    }\n\nabbrev pub halts', '      links = w.links;\n      events = w.events + 1;\n    }\n\nabbrev pub halts'),
     'the backlog counts markers': ('Cursor', '(if d && not (has set i) then 1 else 0)', '(if not (has set i) then 1 else 0)'),
 }
 
 def planted(text, edit):
-    old, new = edit
-    if text.count(old) != 1:
-        sys.exit('an error does not fit its module: %r stands there %d times' % (old, text.count(old)))
-    return text.replace(old, new)
+    for old, new in zip(edit[::2], edit[1::2]):
+        if text.count(old) != 1:
+            sys.exit('an error does not fit its module: %r stands there %d times' % (old, text.count(old)))
+        text = text.replace(old, new)
+    return text
 
 
 def refusing(crate, module, edit):
@@ -123,10 +121,10 @@ def main(words):
             os.makedirs(os.path.join(where, folder))
             runs = sorted(glob.glob(os.path.join(computed_runs.ROOT, folder, '*.geo')))
             copies.append(computed_runs.copy_of_crate(os.path.join(where, folder), runs, as_test=True))
-        for name, (module, old, new) in chosen.items():
+        for name, (module, *edit) in chosen.items():
             began, verdict = time.time(), 'STANDS'
             for crate in copies:
-                runs, other = refusing(crate, module, (old, new))
+                runs, other = refusing(crate, module, edit)
                 if other:
                     verdict = 'DOES NOT READ: ' + other[0]
                 elif runs:

@@ -29,22 +29,42 @@ setup = record {
   clusters = ((codes "a") ∷ (codes "b") ∷ []);
   topics = ((codes "orders") ∷ []);
   clients =
-    record { name = (codes "p"); topic = 0; cluster = 0; lines =
-      line.Produce ∷
-      line.Pub 0 targets.All None (codes "m24") ∷ [] } ∷
-    record { name = (codes "q"); topic = 0; cluster = 1; lines =
-      line.Sub (codes "s") sub_kind.Shared false true ∷
-      line.Flow 10 ∷ [] } ∷
-    record { name = (codes "r"); topic = 0; cluster = 0; lines =
-      line.Sub (codes "s") sub_kind.Shared true false ∷
-      line.Flow 5 ∷ [] } ∷
-    record { name = (codes "s"); topic = 0; cluster = 0; lines = [] } ∷
-    record { name = (codes "t"); topic = 0; cluster = 0; lines =
-      line.Produce ∷
-      line.Pub 0 targets.All None (codes "m56") ∷
-      line.Pub 1 targets.All None (codes "m30") ∷
-      line.Pub 2 targets.All None [] ∷ [] } ∷
-    [];
+      record {
+        name = (codes "p");
+        topic = 0;
+        cluster = 0;
+        lines =
+            line.Produce ∷
+            line.Pub 0 targets.All None (codes "m24") ∷ [];
+      } ∷
+      record {
+        name = (codes "q");
+        topic = 0;
+        cluster = 1;
+        lines =
+            line.Sub (codes "s") sub_kind.Shared false true ∷
+            line.Flow 10 ∷ [];
+      } ∷
+      record {
+        name = (codes "r");
+        topic = 0;
+        cluster = 0;
+        lines =
+            line.Sub (codes "s") sub_kind.Shared true false ∷
+            line.Flow 5 ∷ [];
+      } ∷
+      record { name = (codes "s"); topic = 0; cluster = 0; lines = [] } ∷
+      record {
+        name = (codes "t");
+        topic = 0;
+        cluster = 0;
+        lines =
+            line.Produce ∷
+            line.Pub 0 targets.All None (codes "m56") ∷
+            line.Pub 1 targets.All None (codes "m30") ∷
+            line.Pub 2 targets.All None [] ∷ [];
+      } ∷
+      [];
 }
 
 schedule : List Step

@@ -29,20 +29,30 @@ setup = record {
   clusters = ((codes "a") ∷ (codes "b") ∷ []);
   topics = ((codes "t") ∷ []);
   clients =
-    record { name = (codes "p"); topic = 0; cluster = 0; lines =
-      line.Produce ∷
-      line.Pub 0 targets.All None (codes "m0") ∷
-      line.Pub 1 targets.All None (codes "m1") ∷
-      line.Pub 2 targets.All None (codes "m2") ∷
-      line.Pub 3 targets.All None (codes "m3") ∷ [] } ∷
-    record { name = (codes "c"); topic = 0; cluster = 0; lines =
-      line.Sub (codes "s1") sub_kind.Exclusive true true ∷
-      line.Flow 10 ∷
-      line.Ack (record { origin = 0; producer = (codes "p"); seq = 0 }) ∷
-      line.Ack (record { origin = 0; producer = (codes "p"); seq = 2 }) ∷
-      line.Ack (record { origin = 0; producer = (codes "p"); seq = 3 }) ∷
-      line.Move 1 ∷ [] } ∷
-    [];
+      record {
+        name = (codes "p");
+        topic = 0;
+        cluster = 0;
+        lines =
+            line.Produce ∷
+            line.Pub 0 targets.All None (codes "m0") ∷
+            line.Pub 1 targets.All None (codes "m1") ∷
+            line.Pub 2 targets.All None (codes "m2") ∷
+            line.Pub 3 targets.All None (codes "m3") ∷ [];
+      } ∷
+      record {
+        name = (codes "c");
+        topic = 0;
+        cluster = 0;
+        lines =
+            line.Sub (codes "s1") sub_kind.Exclusive true true ∷
+            line.Flow 10 ∷
+            line.Ack (record { origin = 0; producer = (codes "p"); seq = 0 }) ∷
+            line.Ack (record { origin = 0; producer = (codes "p"); seq = 2 }) ∷
+            line.Ack (record { origin = 0; producer = (codes "p"); seq = 3 }) ∷
+            line.Move 1 ∷ [];
+      } ∷
+      [];
 }
 
 schedule : List Step

@@ -28,20 +28,35 @@ setup = record {
   clusters = ((codes "a") ∷ (codes "b") ∷ []);
   topics = ((codes "t") ∷ []);
   clients =
-    record { name = (codes "p"); topic = 0; cluster = 0; lines =
-      line.Produce ∷
-      line.Pub 0 targets.All (Some (codes "a")) (codes "m") ∷
-      line.Pub 1 targets.All (Some (codes "b")) (codes "m") ∷
-      line.Pub 2 targets.All (Some (codes "a")) (codes "m") ∷
-      line.Pub 3 targets.All (Some (codes "ab")) (codes "m") ∷
-      line.Pub 4 targets.All None (codes "m") ∷ [] } ∷
-    record { name = (codes "c"); topic = 0; cluster = 0; lines =
-      line.Sub (codes "s") sub_kind.KeyShared true false ∷
-      line.Flow 9 ∷ [] } ∷
-    record { name = (codes "d"); topic = 0; cluster = 0; lines =
-      line.Sub (codes "s") sub_kind.KeyShared true false ∷
-      line.Flow 9 ∷ [] } ∷
-    [];
+      record {
+        name = (codes "p");
+        topic = 0;
+        cluster = 0;
+        lines =
+            line.Produce ∷
+            line.Pub 0 targets.All (Some (codes "a")) (codes "m") ∷
+            line.Pub 1 targets.All (Some (codes "b")) (codes "m") ∷
+            line.Pub 2 targets.All (Some (codes "a")) (codes "m") ∷
+            line.Pub 3 targets.All (Some (codes "ab")) (codes "m") ∷
+            line.Pub 4 targets.All None (codes "m") ∷ [];
+      } ∷
+      record {
+        name = (codes "c");
+        topic = 0;
+        cluster = 0;
+        lines =
+            line.Sub (codes "s") sub_kind.KeyShared true false ∷
+            line.Flow 9 ∷ [];
+      } ∷
+      record {
+        name = (codes "d");
+        topic = 0;
+        cluster = 0;
+        lines =
+            line.Sub (codes "s") sub_kind.KeyShared true false ∷
+            line.Flow 9 ∷ [];
+      } ∷
+      [];
 }
 
 schedule : List Step

@@ -28,11 +28,16 @@ setup = record {
   clusters = ((codes "a") ∷ (codes "b") ∷ []);
   topics = ((codes "t") ∷ []);
   clients =
-    record { name = (codes "p"); topic = 0; cluster = 0; lines =
-      line.Produce ∷
-      line.Pub 0 targets.All None (codes "m0") ∷
-      line.Pub 1 targets.All None (codes "m1") ∷ [] } ∷
-    [];
+      record {
+        name = (codes "p");
+        topic = 0;
+        cluster = 0;
+        lines =
+            line.Produce ∷
+            line.Pub 0 targets.All None (codes "m0") ∷
+            line.Pub 1 targets.All None (codes "m1") ∷ [];
+      } ∷
+      [];
 }
 
 schedule : List Step

@@ -28,9 +28,14 @@ setup = record {
   clusters = ((codes "a") ∷ (codes "b") ∷ []);
   topics = ((codes "t") ∷ []);
   clients =
-    record { name = (codes "c"); topic = 0; cluster = 0; lines =
-      line.Sub (codes "s1") sub_kind.Exclusive true true ∷ [] } ∷
-    [];
+      record {
+        name = (codes "c");
+        topic = 0;
+        cluster = 0;
+        lines =
+            line.Sub (codes "s1") sub_kind.Exclusive true true ∷ [];
+      } ∷
+      [];
 }
 
 schedule : List Step

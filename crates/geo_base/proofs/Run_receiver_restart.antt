@@ -28,12 +28,17 @@ setup = record {
   clusters = ((codes "a") ∷ (codes "b") ∷ []);
   topics = ((codes "t") ∷ []);
   clients =
-    record { name = (codes "p"); topic = 0; cluster = 0; lines =
-      line.Produce ∷
-      line.Pub 0 targets.All None (codes "m") ∷
-      line.Pub 1 targets.All None (codes "n") ∷
-      line.Pub 2 targets.All None (codes "o") ∷ [] } ∷
-    [];
+      record {
+        name = (codes "p");
+        topic = 0;
+        cluster = 0;
+        lines =
+            line.Produce ∷
+            line.Pub 0 targets.All None (codes "m") ∷
+            line.Pub 1 targets.All None (codes "n") ∷
+            line.Pub 2 targets.All None (codes "o") ∷ [];
+      } ∷
+      [];
 }
 
 schedule : List Step

@@ -29,12 +29,22 @@ setup = record {
   clusters = ((codes "a") ∷ (codes "b") ∷ []);
   topics = ((codes "t") ∷ []);
   clients =
-    record { name = (codes "q"); topic = 0; cluster = 1; lines =
-      line.Produce ∷
-      line.Pub 0 (targets.Only 2) None (codes "own") ∷ [] } ∷
-    record { name = (codes "c"); topic = 0; cluster = 0; lines =
-      line.Sub (codes "s1") sub_kind.Exclusive true true ∷ [] } ∷
-    [];
+      record {
+        name = (codes "q");
+        topic = 0;
+        cluster = 1;
+        lines =
+            line.Produce ∷
+            line.Pub 0 (targets.Only 2) None (codes "own") ∷ [];
+      } ∷
+      record {
+        name = (codes "c");
+        topic = 0;
+        cluster = 0;
+        lines =
+            line.Sub (codes "s1") sub_kind.Exclusive true true ∷ [];
+      } ∷
+      [];
 }
 
 schedule : List Step

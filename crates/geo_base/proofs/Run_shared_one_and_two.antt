@@ -28,19 +28,34 @@ setup = record {
   clusters = ((codes "a") ∷ (codes "b") ∷ []);
   topics = ((codes "t") ∷ []);
   clients =
-    record { name = (codes "p"); topic = 0; cluster = 0; lines =
-      line.Produce ∷
-      line.Pub 0 targets.All None (codes "m") ∷
-      line.Pub 1 targets.All None (codes "m") ∷
-      line.Pub 2 targets.All None (codes "m") ∷
-      line.Pub 3 targets.All None (codes "m") ∷ [] } ∷
-    record { name = (codes "c"); topic = 0; cluster = 0; lines =
-      line.Sub (codes "s") sub_kind.Shared true false ∷
-      line.Flow 1 ∷ [] } ∷
-    record { name = (codes "d"); topic = 0; cluster = 0; lines =
-      line.Sub (codes "s") sub_kind.Shared true false ∷
-      line.Flow 2 ∷ [] } ∷
-    [];
+      record {
+        name = (codes "p");
+        topic = 0;
+        cluster = 0;
+        lines =
+            line.Produce ∷
+            line.Pub 0 targets.All None (codes "m") ∷
+            line.Pub 1 targets.All None (codes "m") ∷
+            line.Pub 2 targets.All None (codes "m") ∷
+            line.Pub 3 targets.All None (codes "m") ∷ [];
+      } ∷
+      record {
+        name = (codes "c");
+        topic = 0;
+        cluster = 0;
+        lines =
+            line.Sub (codes "s") sub_kind.Shared true false ∷
+            line.Flow 1 ∷ [];
+      } ∷
+      record {
+        name = (codes "d");
+        topic = 0;
+        cluster = 0;
+        lines =
+            line.Sub (codes "s") sub_kind.Shared true false ∷
+            line.Flow 2 ∷ [];
+      } ∷
+      [];
 }
 
 schedule : List Step

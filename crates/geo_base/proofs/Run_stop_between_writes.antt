@@ -29,14 +29,24 @@ setup = record {
   clusters = ((codes "a") ∷ (codes "b") ∷ []);
   topics = ((codes "t") ∷ []);
   clients =
-    record { name = (codes "p"); topic = 0; cluster = 0; lines =
-      line.Produce ∷
-      line.Pub 0 targets.All None (codes "m0") ∷ [] } ∷
-    record { name = (codes "c"); topic = 0; cluster = 0; lines =
-      line.Sub (codes "s1") sub_kind.Exclusive true true ∷
-      line.Flow 10 ∷
-      line.Ack (record { origin = 0; producer = (codes "p"); seq = 0 }) ∷ [] } ∷
-    [];
+      record {
+        name = (codes "p");
+        topic = 0;
+        cluster = 0;
+        lines =
+            line.Produce ∷
+            line.Pub 0 targets.All None (codes "m0") ∷ [];
+      } ∷
+      record {
+        name = (codes "c");
+        topic = 0;
+        cluster = 0;
+        lines =
+            line.Sub (codes "s1") sub_kind.Exclusive true true ∷
+            line.Flow 10 ∷
+            line.Ack (record { origin = 0; producer = (codes "p"); seq = 0 }) ∷ [];
+      } ∷
+      [];
 }
 
 schedule : List Step

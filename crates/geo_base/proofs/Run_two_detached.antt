@@ -28,17 +28,32 @@ setup = record {
   clusters = ((codes "a") ∷ (codes "b") ∷ []);
   topics = ((codes "t") ∷ []);
   clients =
-    record { name = (codes "p"); topic = 0; cluster = 0; lines =
-      line.Produce ∷
-      line.Pub 0 targets.All None (codes "m0") ∷
-      line.Pub 1 targets.All None (codes "m1") ∷ [] } ∷
-    record { name = (codes "c"); topic = 0; cluster = 0; lines =
-      line.Sub (codes "s") sub_kind.Shared true false ∷
-      line.Flow 1 ∷ [] } ∷
-    record { name = (codes "d"); topic = 0; cluster = 0; lines =
-      line.Sub (codes "s") sub_kind.Shared true false ∷
-      line.Flow 1 ∷ [] } ∷
-    [];
+      record {
+        name = (codes "p");
+        topic = 0;
+        cluster = 0;
+        lines =
+            line.Produce ∷
+            line.Pub 0 targets.All None (codes "m0") ∷
+            line.Pub 1 targets.All None (codes "m1") ∷ [];
+      } ∷
+      record {
+        name = (codes "c");
+        topic = 0;
+        cluster = 0;
+        lines =
+            line.Sub (codes "s") sub_kind.Shared true false ∷
+            line.Flow 1 ∷ [];
+      } ∷
+      record {
+        name = (codes "d");
+        topic = 0;
+        cluster = 0;
+        lines =
+            line.Sub (codes "s") sub_kind.Shared true false ∷
+            line.Flow 1 ∷ [];
+      } ∷
+      [];
 }
 
 schedule : List Step

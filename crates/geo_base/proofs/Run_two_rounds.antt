@@ -29,12 +29,22 @@ setup = record {
   clusters = ((codes "a") ∷ (codes "b") ∷ (codes "c") ∷ []);
   topics = ((codes "t") ∷ []);
   clients =
-    record { name = (codes "c"); topic = 0; cluster = 0; lines =
-      line.Sub (codes "s1") sub_kind.Exclusive true true ∷ [] } ∷
-    record { name = (codes "q"); topic = 0; cluster = 2; lines =
-      line.Produce ∷
-      line.Pub 0 targets.All None (codes "m") ∷ [] } ∷
-    [];
+      record {
+        name = (codes "c");
+        topic = 0;
+        cluster = 0;
+        lines =
+            line.Sub (codes "s1") sub_kind.Exclusive true true ∷ [];
+      } ∷
+      record {
+        name = (codes "q");
+        topic = 0;
+        cluster = 2;
+        lines =
+            line.Produce ∷
+            line.Pub 0 targets.All None (codes "m") ∷ [];
+      } ∷
+      [];
 }
 
 schedule : List Step

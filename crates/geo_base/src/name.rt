@@ -1,5 +1,5 @@
 //! Names of clusters, topics and subscriptions, and of producers.
-ghost use Rattle.std.specs.Prelude.{◌≡◌, ◌↔◌, ◌<◌, [], true, length, IfOk, OnOk, IsErrOf};
+ghost use Rattle.std.specs.Prelude.{◌≡◌, ◌↔◌, ◌<◌, [], true, false, length, IfOk, OnOk, IsErrOf, MatchOption};
 ghost use Rattle.std.specs.List.{list_all};
 ghost use Rattle.geo_base.specs.Name.{is_name, name_byte, HasBadByte};
 
@@ -100,6 +100,21 @@ impl<K> Name<K> {
         ensures is_one { is_name result.now ≡ true }
     {
         self.text.as_str()
+    }
+}
+
+/// The text of a word that is a name; None exactly where it is none.
+#[tactic(auto, using(crate::proofs::Names::name_utf8))]
+pub fn name_text(word: &[u8]) -> Option<&str>
+    ensures { MatchOption result (is_name word.now ≡ false)
+        (λ text. (text.now ≡ word.now) × (is_name word.now ≡ true)) }
+{
+    if word.is_empty() || word.len() > NAME_BYTES || !are_name_bytes(word) {
+        return None;
+    }
+    match str::from_utf8(word) {
+        Ok(text) => Some(text),
+        Err(_) => unreachable!(),
     }
 }
 

@@ -107,7 +107,7 @@ passed es e at i first le rest is s =
 pub topic_append : (es : List Entry) (e : Entry) → IsTopic es → accepts es e.ident ≡ true → IsTopic (es ++ e ∷ [])
 topic_append es e topic h = record {
   accepted = λ k d n. elim (leb_tells (length es) k) [
-      inl last ↦
+    | inl last ↦
         let here : k ≡ length es = omega (arith, length-append es (e ∷ []), last.1) in
         let before : take k (es ++ e ∷ []) ≡ es = grind (arith, common_steps) in
         let at : get_or (es ++ e ∷ []) k d ≡ e = grind (arith, common_steps) in

@@ -53,18 +53,20 @@ rises xs asc i j le n = grind (arith, asc i j)
 
 pub place_found : (xs : List ℕ) (x k : ℕ) → IsAscending xs → IsBinarySearchResult (λ y. nat_cmp y x) xs (Ok k) → IsPlace xs x k × (k < length xs) × (get_or xs k 0 ≡ x)
 place_found xs x k asc s =
-    let f = searched xs x (Ok k) s (rises xs asc) in
-    ( record {
+    let f = searched xs x (Ok k) s (rises xs asc) in (
+      record {
         within = omega (arith, f.0);
         low = λ i h. omega (arith, asc i k h f.0, f.1);
         high = λ i h n. omega (arith, rises xs asc k i h n, f.1);
-      }
-    , f.0, f.1 )
+      },
+      f.0,
+      f.1,
+    )
 
 pub place_missed : (xs : List ℕ) (x at : ℕ) → IsAscending xs → IsBinarySearchResult (λ y. nat_cmp y x) xs (Err at) → IsPlace xs x at × ((k : ℕ) → at ≤ k → k < length xs → x < get_or xs k 0)
 place_missed xs x at asc s =
     let f = searched xs x (Err at) s (rises xs asc) in
-    ( record { within = f.0; low = f.1; high = λ k h n. omega (arith, f.2 k h n) }, f.2 )
+    (record { within = f.0; low = f.1; high = λ k h n. omega (arith, f.2 k h n) }, f.2)
 
 pub with_index_found : (xs : List ℕ) (x k : ℕ) → IsAscending xs → IsBinarySearchResult (λ y. nat_cmp y x) xs (Ok k) → with_index xs x ≡ xs
 with_index_found xs x k asc s = let f = place_found xs x k asc s in with_index_there xs x k f.0 f.1 f.2

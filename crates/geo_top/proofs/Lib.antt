@@ -9,3 +9,4 @@ pub mod Cursors
 pub mod SenderTables
 pub mod Pendings
 pub mod Messages
+pub mod Refusals

@@ -36,9 +36,14 @@ abbrev pub AllChangesFit : Broker → List Change → Type 0
 AllChangesFit b [] = ⊤
 AllChangesFit b (c ∷ cs) = ChangeFits b c × AllChangesFit (changed b c) cs
 
-pub record PlanFits (per : ℕ) (b : Broker) (p : Plan) : Type 0 where
-  pub writes : AllWritesFit per b p.writes
-  pub changes : AllChangesFit (all_written per b p.writes) p.changes
+abbrev pub PlanFits : ℕ → Broker → Plan → Type 0
+PlanFits per b p = AllWritesFit per b p.writes × AllChangesFit (all_written per b p.writes) p.changes
+
+-- as many senders, receivers and sessions as before
+pub record SameShape (old new : Broker) : Type 0 where
+  pub senders : length new.senders ≡ length old.senders
+  pub receivers : length new.receivers ≡ length old.receivers
+  pub sessions : length new.sessions ≡ length old.sessions
 
 -- each write and each change takes at most one place in each table
 abbrev pub steps : Plan → ℕ

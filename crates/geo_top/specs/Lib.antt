@@ -6,3 +6,4 @@ pub mod Unsent
 pub mod Room
 pub mod Steps
 pub mod Fits
+pub mod Refusing

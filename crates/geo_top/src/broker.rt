@@ -13,5 +13,6 @@ pub mod receiving;
 pub mod sender;
 pub mod senders;
 pub mod sending;
+pub mod serving;
 pub mod site;
 pub mod topic;

@@ -1,11 +1,12 @@
 //! A broker's state, and how a prepared event becomes of it.
-ghost use Rattle.std.specs.Prelude.{◌≡◌, ◌<◌, ◌≤◌, ◌+◌, ◌++◌, true, length, IfOk, OnOk};
-ghost use Rattle.geo_base.specs.Broker.{changed, receiver_at, sender_at, written};
+ghost use Rattle.std.specs.Prelude.{◌≡◌, ◌<◌, ◌≤◌, ◌+◌, ◌++◌, None, true, length, replicate, IfOk, OnOk};
+ghost use Rattle.std.specs.Option.{option_copied};
+ghost use Rattle.geo_base.specs.Broker.{changed, new_broker, receiver_at, sender_at, session_at, written};
 ghost use Rattle.geo_base.specs.Entry.{with_origin};
 ghost use Rattle.geo_base.specs.Storing.{receipt_position, storing};
 ghost use Rattle.geo_top.specs.Message.{is_message};
 ghost use Rattle.geo_base.specs.Plan.{all_changed, all_written, done};
-ghost use Rattle.geo_top.specs.Fits.{AllChangesFit, AllWritesFit, ChangeFits, PlanFits, WriteFits, steps};
+ghost use Rattle.geo_top.specs.Fits.{AllChangesFit, AllWritesFit, ChangeFits, PlanFits, SameShape, WriteFits, steps};
 
 use crate::broker::message::Message;
 use crate::broker::prepared::Prepared;
@@ -42,8 +43,8 @@ impl Model for Book {
     ghost Value = { BrokerBook };
 
     ghost view = { λ b. record {
-        broker = record { entries = b.entries.items; ledgers = b.ledgers.items; senders = b.senders.senders; receivers = b.receivers.items; subs = []; sessions = b.sessions.items; builder = None };
-        room = b.room
+      broker = record { entries = b.entries.items; ledgers = b.ledgers.items; senders = b.senders.senders; receivers = b.receivers.items; subs = []; sessions = b.sessions.items; builder = None };
+      room = b.room;
     } };
 
     ghost invariant = { λ b. BookHolds b.room (vec_len b.entries) (vec_capacity b.entries) (vec_len b.ledgers) (vec_capacity b.ledgers) b.senders.room b.entries.items };
@@ -53,6 +54,25 @@ impl Model for Book {
 pub const STEPS: usize = 2;
 
 impl Book {
+    /// An empty topic, with closed senders and receivers for so many clusters, and no session of so many clients.
+    pub fn new(alloc: Global, clusters: usize, clients: usize) -> Result<Book, Memory>
+        ensures { IfOk result (λ b. b ≡ record { broker = new_broker clusters clients; room = 0 }) }
+    {
+        let mut ledgers = Vec::new(alloc);
+        match ledgers.push(0) {
+            Ok(()) => {}
+            Err(_) => return Err(Memory),
+        }
+        Ok(Book {
+            entries: Vec::new(alloc),
+            ledgers,
+            senders: SenderTable::new(alloc, clusters)?,
+            receivers: closed_receivers(alloc, clusters)?,
+            sessions: no_sessions(alloc, clients)?,
+            room: 0,
+        })
+    }
+
     /// The session that is open on the forward link from a cluster.
     pub fn receiver(&self, source: u32) -> Option<u64>
         requires { source < length self.now.broker.receivers }
@@ -81,6 +101,21 @@ impl Book {
         ensures { result.now.sender ≡ sender_at self.now.broker remote }
     {
         self.senders.at(remote)
+    }
+
+    /// The clients' sessions.
+    pub fn sessions(&self) -> &[Option<Session>]
+        ensures { result.now ≡ self.now.broker.sessions }
+    {
+        self.sessions.as_slice()
+    }
+
+    /// The session that a client has open.
+    pub fn session(&self, client: u32) -> Option<&Session>
+        requires { client < length self.now.broker.sessions }
+        ensures { option_copied result ≡ session_at self.now.broker client }
+    {
+        self.sessions[client as usize].as_ref()
     }
 
     /// Plans to store an entry under the origin of a cluster, unless it is a duplicate; the position is for the receipt.
@@ -125,7 +160,8 @@ impl Book {
     pub fn commit(&mut self, per_ledger: u64, prepared: Prepared)
         requires room { steps prepared ≤ self.old.room }
         requires fits { PlanFits per_ledger self.old.broker prepared }
-        ensures { self.new.broker ≡ done per_ledger self.old.broker prepared }
+        ensures broker { self.new.broker ≡ done per_ledger self.old.broker prepared }
+        ensures shape { SameShape self.old.broker self.new.broker }
     {
         let (writes, changes) = prepared.into_steps();
         self.write_all(per_ledger, writes);
@@ -136,6 +172,7 @@ impl Book {
         requires room { length writes.items ≤ self.old.room }
         requires fit { AllWritesFit per_ledger self.old.broker writes.items }
         ensures broker { self.new.broker ≡ all_written per_ledger self.old.broker writes.items }
+        ensures shape { SameShape self.old.broker self.new.broker }
         ensures room { self.new.room + length writes.items ≡ self.old.room }
     {
         let mut left = writes;
@@ -148,7 +185,8 @@ impl Book {
     fn change_all(&mut self, changes: Vec<Change>)
         requires room { length changes.items ≤ self.old.room }
         requires fit { AllChangesFit self.old.broker changes.items }
-        ensures { self.new.broker ≡ all_changed self.old.broker changes.items }
+        ensures broker { self.new.broker ≡ all_changed self.old.broker changes.items }
+        ensures shape { SameShape self.old.broker self.new.broker }
     {
         let mut left = changes;
         while !left.is_empty() {
@@ -163,6 +201,7 @@ impl Book {
         requires room { 0 < self.old.room }
         requires fits { WriteFits self.old.broker write }
         ensures broker { self.new.broker ≡ written per_ledger self.old.broker write }
+        ensures shape { SameShape self.old.broker self.new.broker }
         ensures room { self.new.room + 1 ≡ self.old.room }
     {
         self.room -= 1;
@@ -186,6 +225,7 @@ impl Book {
         requires room { 0 < self.old.room }
         requires fits { ChangeFits self.old.broker change }
         ensures broker { self.new.broker ≡ changed self.old.broker change }
+        ensures shape { SameShape self.old.broker self.new.broker }
         ensures room { self.new.room + 1 ≡ self.old.room }
     {
         self.room -= 1;
@@ -196,9 +236,39 @@ impl Book {
             Change::Opening { remote } => self.senders.step(remote, SenderStep::Reset),
             Change::Opened { remote } => self.senders.step(remote, SenderStep::Open),
             Change::Pend { remote, index } => self.senders.step(remote, SenderStep::Pend(index)),
-            Change::ReadTo { remote, index } => self.senders.step(remote, SenderStep::ReadTo(index)),
-            Change::Unpend { remote, number } => self.senders.step(remote, SenderStep::Unpend(number)),
+            Change::ReadTo { remote, index } => self
+                .senders
+                .step(remote, SenderStep::ReadTo(index)),
+            Change::Unpend { remote, number } => self
+                .senders
+                .step(remote, SenderStep::Unpend(number)),
             _ => unreachable!(),
         }
     }
+}
+
+fn closed_receivers(alloc: Global, clusters: usize) -> Result<Vec<Option<u64>>, Memory>
+    ensures { IfOk result (λ rs. rs.items ≡ replicate clusters None) }
+{
+    let mut receivers = Vec::new(alloc);
+    while receivers.len() < clusters {
+        match receivers.push(None) {
+            Ok(()) => {}
+            Err(_) => return Err(Memory),
+        }
+    }
+    Ok(receivers)
+}
+
+fn no_sessions(alloc: Global, clients: usize) -> Result<Vec<Option<Session>>, Memory>
+    ensures { IfOk result (λ ss. ss.items ≡ replicate clients None) }
+{
+    let mut sessions = Vec::new(alloc);
+    while sessions.len() < clients {
+        match sessions.push(None) {
+            Ok(()) => {}
+            Err(_) => return Err(Memory),
+        }
+    }
+    Ok(sessions)
 }

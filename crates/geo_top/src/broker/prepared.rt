@@ -1,6 +1,8 @@
 //! What an event will do at a broker.
 ghost use Rattle.std.specs.Prelude.{◌≡◌, ◌++◌, ◌∷◌, [], true, length, OnOk, IfOk};
 ghost use Rattle.geo_base.specs.Plan.{idle_plan, quiet_plan};
+ghost use Rattle.geo_top.specs.Built.{fits_link};
+ghost use Rattle.geo_top.specs.Fits.{steps};
 
 use crate::broker::packet::Outgoing;
 use geo_base::change::Change;
@@ -10,9 +12,6 @@ use geo_base::packet::{Out, Peer};
 use geo_base::write::Write;
 use std::alloc::Global;
 use std::marker::Model;
-
-ghost use Rattle.geo_top.specs.Built.{fits_link};
-ghost use Rattle.geo_top.specs.Fits.{steps};
 
 /// An event that is prepared: its writes, changes and packets hold all the memory that it takes.
 #[derive(Debug, Drop)]

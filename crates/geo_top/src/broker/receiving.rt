@@ -43,7 +43,13 @@ impl Book {
         }
     }
 
-    fn take_frame(&self, alloc: Global, site: &Site, source: u32, packet: &Packet) -> Result<Prepared, Memory>
+    fn take_frame(
+        &self,
+        alloc: Global,
+        site: &Site,
+        source: u32,
+        packet: &Packet,
+    ) -> Result<Prepared, Memory>
         requires source { source < length self.now.broker.receivers }
         requires carried { is_forward_frame packet.now.frame ≡ true }
         ensures plan { IfOk result (λ p. p ≡ take_frame site.now self.now.broker source packet.now packet.now.frame) }
@@ -53,7 +59,10 @@ impl Book {
         match &packet.frame {
             Frame::Unreadable => closing(alloc, source),
             Frame::Producer {
-                topic, id, request, ..
+                topic,
+                id,
+                request,
+                ..
             } if topic.as_bytes() == site.topic().as_bytes() && *id == packet.session => {
                 let mut plan = Prepared::quiet(alloc);
                 plan.change(Change::Receiver {
@@ -71,7 +80,13 @@ impl Book {
         }
     }
 
-    fn take_in(&self, alloc: Global, site: &Site, source: u32, packet: &Packet) -> Result<Prepared, Memory>
+    fn take_in(
+        &self,
+        alloc: Global,
+        site: &Site,
+        source: u32,
+        packet: &Packet,
+    ) -> Result<Prepared, Memory>
         requires source { source < length self.now.broker.receivers }
         requires carried { is_forward_frame packet.now.frame ≡ true }
         ensures plan { IfOk result (λ p. p ≡ take_in site.now self.now.broker source packet.now) }

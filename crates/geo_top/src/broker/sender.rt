@@ -52,8 +52,8 @@ impl Model for Sender {
     ghost Value = { SenderBook };
 
     ghost view = { λ s. record {
-        sender = record { cursor = s.cursor.items; session = s.session; state = s.state; read_index = s.read_index; next = s.next; pending = s.pending.items };
-        room = s.room
+      sender = record { cursor = s.cursor.items; session = s.session; state = s.state; read_index = s.read_index; next = s.next; pending = s.pending.items };
+      room = s.room;
     } };
 
     ghost invariant = { λ s. SenderHolds s.room (vec_len s.cursor) (vec_capacity s.cursor) (deque_len s.pending) (deque_capacity s.pending) s.cursor.items };
@@ -113,7 +113,11 @@ impl Sender {
         ensures { result ≡ index_to_read self.now.sender.state self.now.sender entries }
     {
         match self.state {
-            SenderState::Open => first_open(self.cursor.as_slice(), self.read_index, entries as u64),
+            SenderState::Open => first_open(
+                self.cursor.as_slice(),
+                self.read_index,
+                entries as u64,
+            ),
             SenderState::Opening | SenderState::Closed => None,
         }
     }

@@ -1,5 +1,5 @@
 //! The senders of a broker, one for each cluster; the own one is unused.
-ghost use Rattle.std.specs.Prelude.{◌≡◌, ◌<◌, ◌≤◌, ◌+◌, ◌^◌, length, slice_set, slice_index_or, OnOk};
+ghost use Rattle.std.specs.Prelude.{◌≡◌, ◌<◌, ◌≤◌, ◌+◌, ◌^◌, length, slice_set, slice_index_or, replicate, IfOk, OnOk};
 ghost use Rattle.geo_base.specs.Sender.{new_sender};
 ghost use Rattle.geo_top.specs.Steps.{StepFits, stepped};
 ghost use Rattle.geo_top.specs.Room.{SenderBook, SenderBooks, senders_of, AllHaveRoom};
@@ -27,19 +27,26 @@ impl Model for SenderTable {
 }
 
 impl SenderTable {
+    /// New senders to so many clusters.
+    pub fn new(alloc: Global, clusters: usize) -> Result<SenderTable, Memory>
+        ensures { IfOk result (λ t. t ≡ record { senders = replicate clusters new_sender; room = 0 }) }
+    {
+        let mut senders = Vec::new(alloc);
+        while senders.len() < clusters {
+            match senders.push(Sender::new(alloc)) {
+                Ok(()) => {}
+                Err(_) => return Err(Memory),
+            }
+        }
+        Ok(SenderTable { senders, room: 0 })
+    }
+
     /// The sender to a cluster.
     pub fn at(&self, remote: u32) -> &Sender
         requires { remote < length self.now.senders }
         ensures { result.now.sender ≡ slice_index_or self.now.senders remote new_sender }
     {
         &self.senders[remote as usize]
-    }
-
-    /// How many clusters there are.
-    pub fn len(&self) -> usize
-        ensures { result ≡ length self.now.senders }
-    {
-        self.senders.len()
     }
 
     /// Does one step of the sender to a cluster.

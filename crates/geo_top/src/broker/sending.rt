@@ -29,7 +29,12 @@ use std::alloc::Global;
 impl Book {
     /// What the begin of a new session to a cluster will do. Only room is made; an `Err` is want of memory.
     #[tactic(auto, unfolding(geo_base::specs::Forwarding::reset))]
-    pub fn prepare_reset(&mut self, alloc: Global, site: &Site, remote: u32) -> Result<Prepared, Memory>
+    pub fn prepare_reset(
+        &mut self,
+        alloc: Global,
+        site: &Site,
+        remote: u32,
+    ) -> Result<Prepared, Memory>
         requires remote { remote < length self.old.broker.senders }
         requires session { (sender_at self.old.broker remote).session + 1 < 2 ^ 64 }
         ensures plan { IfOk result (λ p. p ≡ reset site.now self.old.broker remote) }
@@ -57,7 +62,12 @@ impl Book {
 
     /// What a look at the next entry that a cluster may lack will do. Only room is made; an `Err` is want of memory.
     #[tactic(auto, unfolding(geo_base::specs::Reading::read))]
-    pub fn prepare_read(&mut self, alloc: Global, site: &Site, remote: u32) -> Result<Prepared, Memory>
+    pub fn prepare_read(
+        &mut self,
+        alloc: Global,
+        site: &Site,
+        remote: u32,
+    ) -> Result<Prepared, Memory>
         requires remote { remote < length self.old.broker.senders }
         requires next { (sender_at self.old.broker remote).next + 1 < 2 ^ 64 }
         ensures plan { IfOk result (λ p. p ≡ read site.now self.old.broker remote) }
@@ -73,7 +83,13 @@ impl Book {
         self.read_at(alloc, site, remote, index)
     }
 
-    fn read_at(&self, alloc: Global, site: &Site, remote: u32, index: Option<u64>) -> Result<Prepared, Memory>
+    fn read_at(
+        &self,
+        alloc: Global,
+        site: &Site,
+        remote: u32,
+        index: Option<u64>,
+    ) -> Result<Prepared, Memory>
         requires remote { remote < length self.now.broker.senders }
         requires next { (sender_at self.now.broker remote).next + 1 < 2 ^ 64 }
         ensures plan { IfOk result (λ p. p ≡ read_at site.now self.now.broker remote index) }
@@ -187,7 +203,12 @@ fn passing(alloc: Global, remote: u32, index: u64) -> Result<Prepared, Memory>
 }
 
 /// What a frame of the sender's session will do.
-fn receipt_command(alloc: Global, remote: u32, sender: &Sender, frame: &Frame) -> Result<Prepared, Memory>
+fn receipt_command(
+    alloc: Global,
+    remote: u32,
+    sender: &Sender,
+    frame: &Frame,
+) -> Result<Prepared, Memory>
     ensures plan { IfOk result (λ p. p ≡ receipt_command remote sender.now.sender frame.now) }
     ensures few { IfOk result (λ p. steps p ≤ STEPS) }
 {

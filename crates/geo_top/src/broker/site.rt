@@ -28,7 +28,12 @@ impl<'a> Model for Site<'a> {
 
 impl<'a> Site<'a> {
     /// The site of the broker of a topic at a cluster.
-    pub fn new(own: u32, clusters: &'a [ClusterName], topic: &'a TopicName, per_ledger: u64) -> Site<'a>
+    pub fn new(
+        own: u32,
+        clusters: &'a [ClusterName],
+        topic: &'a TopicName,
+        per_ledger: u64,
+    ) -> Site<'a>
         ensures { result ≡ record { own = own; clusters = clusters.entry.now; topic = topic.entry.now; per_ledger = per_ledger } }
     {
         Site {

@@ -10,10 +10,10 @@ returns-then-at-cursor c =
     let index = c.loop-index.index in
     let at = c.loop-index.at in
     let out : at < length xs → get_or xs at 0 ≢ index =
-        elim c.then-at-cursor.branch [
-            then-at-cursor-via-then-at-cursor w ↦ λ h. absurd (omega arith)
-          | then-at-cursor-via-else-at-cursor+then-cursor-at w ↦ λ h. w.if-cursor-at.true
-        ] in
+    elim c.then-at-cursor.branch [
+      | then-at-cursor-via-then-at-cursor w ↦ λ h. absurd (omega arith)
+      | then-at-cursor-via-else-at-cursor+then-cursor-at w ↦ λ h. w.if-cursor-at.true
+    ] in
     sym (c.loop-index.invariant.rest ∙ next_open_here xs index at (c.args.end - index) c.requires c.loop-index.invariant.place (omega arith) out)
 
 pub loop-index-preserved : goal.loop-index-preserved

@@ -18,7 +18,7 @@ returns-in-Some-clause-items c =
     let there = pending_at ps c.args.number at some (sym c.in-Some.ensures) in
     let within : at < deque_len c.args.pending.now = omega (arith, there.0, c.args.pending.now.ok.0) in
     let removes : c.remove.new.self.items ≡ remove ps at =
-        then c.remove.result (c.remove.new.self.items ≡ remove ps at) (get_or ps at some) (c.remove.ensures.succeeds some within) c.remove.ensures.items in
+    then c.remove.result (c.remove.new.self.items ≡ remove ps at) (get_or ps at some) (c.remove.ensures.succeeds some within) c.remove.ensures.items in
     removes ∙ sym there.2
 
 pub returns-in_default-clause-items : goal.returns-in_default-clause-items
