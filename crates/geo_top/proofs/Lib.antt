@@ -1,3 +1,6 @@
+pub mod EntryWords
 pub mod Getting
+pub mod Names
+pub mod Positions
 pub mod ProducerLines
 pub mod Published

@@ -2,3 +2,4 @@ pub mod Message
 pub mod Built
 pub mod ProducerLine
 pub mod Counted
+pub mod Positions

@@ -82,6 +82,34 @@ impl Client {
         self.cluster
     }
 
+    /// How many of its lines are done.
+    pub fn done(&self) -> usize
+        ensures { result ≡ self.now.done }
+    {
+        self.done
+    }
+
+    /// How many of its publishes were stored.
+    pub fn receipts(&self) -> u64
+        ensures { result ≡ self.now.receipts }
+    {
+        self.receipts
+    }
+
+    /// How many of its publishes were stored before.
+    pub fn duplicates(&self) -> u64
+        ensures { result ≡ self.now.duplicates }
+    {
+        self.duplicates
+    }
+
+    /// How many errors came.
+    pub fn errors(&self) -> u64
+        ensures { result ≡ self.now.errors }
+    {
+        self.errors
+    }
+
     /// Does what was prepared; takes no memory.
     pub fn commit(&mut self, prepared: ClientPrepared)
         ensures { self.new ≡ prepared.client }

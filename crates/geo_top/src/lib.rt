@@ -2,3 +2,4 @@
 #![tactic(auto)]
 
 pub mod client;
+pub mod report;
