@@ -1,5 +1,6 @@
 pub mod EntryWords
 pub mod Getting
+pub mod Lines
 pub mod Names
 pub mod Positions
 pub mod ProducerLines

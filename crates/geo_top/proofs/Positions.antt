@@ -22,16 +22,16 @@ nothing_stands xs index k i past same =
 pub goes_on : (xs : List ℕ) (index k i : ℕ) → IsSamePlace xs 0 index k i → IsSamePlace xs 0 (index + 1) k (i + 1)
 goes_on xs index k i same = record {
   on = λ m.
-    let before : (index + 1) + m ≡ index + (1 + m) = omega arith in
-    let after : (i + 1) + m ≡ i + (1 + m) = omega arith in
-    rw (before, after) (same.on (1 + m))
+      let before : (index + 1) + m ≡ index + (1 + m) = omega arith in
+      let after : (i + 1) + m ≡ i + (1 + m) = omega arith in
+      rw (before, after) (same.on (1 + m));
 }
 
 pub goes_on_past : (xs : List ℕ) (index k i : ℕ) → length xs ≤ k → IsSamePlace xs 0 index k i → IsSamePlace xs 0 (index + 1) k i
 goes_on_past xs index k i past same = record {
   on = λ m.
-    let before : (index + 1) + m ≡ index + (1 + m) = omega arith in
-    rw (before, drop_of_length-le xs past) (rw (drop_of_length-le xs past) at (same.on (1 + m)))
+      let before : (index + 1) + m ≡ index + (1 + m) = omega arith in
+      rw (before, drop_of_length-le xs past) (rw (drop_of_length-le xs past) at (same.on (1 + m)));
 }
 
 pub same_place_trans : (xs : List ℕ) (k i k' i' k'' i'' : ℕ) → IsSamePlace xs k i k' i' → IsSamePlace xs k' i' k'' i'' → IsSamePlace xs k i k'' i''

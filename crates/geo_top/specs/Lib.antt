@@ -3,3 +3,4 @@ pub mod Built
 pub mod ProducerLine
 pub mod Counted
 pub mod Positions
+pub mod Worlds

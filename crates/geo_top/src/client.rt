@@ -2,7 +2,7 @@
 //! nothing, and then committed, which cannot fail.
 //!
 //! Built so far are lines that produce. A client without other lines subscribes to nothing and holds no message.
-ghost use Rattle.std.specs.Prelude.{◌≡◌, IfOk};
+ghost use Rattle.std.specs.Prelude.{◌≡◌, [], IfOk};
 ghost use Rattle.geo_base.specs.Client.{new_client};
 
 pub mod commands;
@@ -82,9 +82,10 @@ impl Client {
         self.cluster
     }
 
-    /// How many of its lines are done.
+    /// How many of its lines are done. It subscribes to nothing, so no message came.
     pub fn done(&self) -> usize
-        ensures { result ≡ self.now.done }
+        ensures done { result ≡ self.now.done }
+        ensures unsubscribed { self.now.got ≡ [] }
     {
         self.done
     }

@@ -42,7 +42,7 @@ impl<'a> Positions<'a> {
     /// The next entry's position; 0:0 where the ledgers have no such entry.
     #[tactic(auto, using(crate::proofs::Positions::goes_on, crate::proofs::Positions::goes_on_past))]
     pub fn next(&mut self) -> Position
-        requires { self.old.index < 2 ^ 63 }
+        requires { self.old.index + 1 < 2 ^ 64 }
         ensures position { result ≡ position_at self.old.ledgers self.old.index }
         ensures walk { self.new ≡ record self.old { index = self.old.index + 1 } }
     {
@@ -51,7 +51,10 @@ impl<'a> Positions<'a> {
         self.ledger = ledger;
         self.entry = entry;
         if ledger >= self.ledgers.len() {
-            return Position { ledger: 0, entry: 0 };
+            return Position {
+                ledger: 0,
+                entry: 0,
+            };
         }
         self.entry += 1;
         Position {

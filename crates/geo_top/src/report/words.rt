@@ -27,11 +27,19 @@ fn printed_byte(byte: u8) -> char
     ensures shown { result ≡ (if nat_le 32 byte && nat_le byte 126 then byte else 63) }
     ensures ascii { result < 128 }
 {
-    if (b' '..=b'~').contains(&byte) { byte as char } else { '?' }
+    if (b' '..=b'~').contains(&byte) {
+        byte as char
+    } else {
+        '?'
+    }
 }
 
 /// What names an entry: its origin, its producer and its sequence id.
-pub(super) fn shown_ident(alloc: Global, clusters: &[ClusterName], ident: &Ident) -> Result<String, Memory>
+pub(super) fn shown_ident(
+    alloc: Global,
+    clusters: &[ClusterName],
+    ident: &Ident,
+) -> Result<String, Memory>
     ensures { IfOk result (λ text. string_bytes text ≡ words (shown_ident clusters.now ident.now)) }
 {
     let origin = cluster_name(clusters, ident.origin);
@@ -60,7 +68,11 @@ fn shown_key(alloc: Global, key: &Option<Text>) -> Result<String, Memory>
 }
 
 /// The names of a target list in cluster order with a comma between each two, `?` where it names none; `*` for all clusters.
-pub(super) fn shown_targets(alloc: Global, clusters: &[ClusterName], to: Targets) -> Result<String, Memory>
+pub(super) fn shown_targets(
+    alloc: Global,
+    clusters: &[ClusterName],
+    to: Targets,
+) -> Result<String, Memory>
     requires { length clusters.now ≤ CLUSTERS }
     ensures { IfOk result (λ text. string_bytes text ≡ shown_targets clusters.now to) }
 {

@@ -9,5 +9,5 @@ returns c =
     let names = c.args.clusters.now in
     let e = c.args.entry.now in
     let line : string_bytes c.in_ok-format.field-0 ≡ codes "entry " ++ (shown_position c.args.position ++ (32 ∷ (words (shown_ident names e.ident) ++ (32 ∷ (shown_targets names e.to ++ (32 ∷ (words (codes "data" ∷ shown_key e.meta.key ∷ printed e.payload ∷ []) ++ 10 ∷ [])))))))
-        = search rules in
+    = search rules in
     line ∙ message_line names c.args.position e c.requires.message

@@ -18,10 +18,11 @@ loop-number-preserved c =
     let text = string_bytes c.loop-number.text in
     let whole = commas (target_names 0 (targets.Only bits) xs) in
     elim c.if-contains.branch [
-      then-contains+in_ok-add_name w ↦
-        rw (w.text-is, w.is_first-is)
-        (with_name bits i xs d first within w.as_str.result.now text (string_bytes w.add_name.new.text) whole
+      | then-contains+in_ok-add_name w ↦
+          rw (w.text-is, w.is_first-is)
+          (with_name bits i xs d first within w.as_str.result.now text (string_bytes w.add_name.new.text) whole
           (sym c.contains.ensures ∙ w.if-contains.true) (w.as_str.ensures.text ∙ c.index-clusters-number.is) w.in_ok-add_name.ensures c.loop-number.invariant)
-    | else-contains w ↦
-        rw (w.text-is, w.is_first-is)
-        (without_name bits i xs d first within text whole (sym c.contains.ensures ∙ w.if-contains.false) c.loop-number.invariant) ]
+      | else-contains w ↦
+          rw (w.text-is, w.is_first-is)
+          (without_name bits i xs d first within text whole (sym c.contains.ensures ∙ w.if-contains.false) c.loop-number.invariant)
+    ]
