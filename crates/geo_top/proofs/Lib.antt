@@ -1,7 +1,11 @@
 pub mod SeenThrough
 pub mod Undoing
 pub mod Nodes
+pub mod EntryWords
 pub mod Getting
+pub mod Lines
+pub mod Names
+pub mod Positions
 pub mod ProducerLines
 pub mod Published
 pub mod Accepting

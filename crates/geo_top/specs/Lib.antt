@@ -7,3 +7,5 @@ pub mod Room
 pub mod Steps
 pub mod Fits
 pub mod Refusing
+pub mod Positions
+pub mod Worlds

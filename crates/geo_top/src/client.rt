@@ -2,7 +2,7 @@
 //! nothing, and then committed, which cannot fail.
 //!
 //! Built so far are lines that produce. A client without other lines subscribes to nothing and holds no message.
-ghost use Rattle.std.specs.Prelude.{◌≡◌, IfOk};
+ghost use Rattle.std.specs.Prelude.{◌≡◌, [], IfOk};
 ghost use Rattle.geo_base.specs.Client.{new_client};
 
 pub mod commands;
@@ -80,6 +80,35 @@ impl Client {
         ensures { result ≡ self.now.cluster }
     {
         self.cluster
+    }
+
+    /// How many of its lines are done. It subscribes to nothing, so no message came.
+    pub fn done(&self) -> usize
+        ensures done { result ≡ self.now.done }
+        ensures unsubscribed { self.now.got ≡ [] }
+    {
+        self.done
+    }
+
+    /// How many of its publishes were stored.
+    pub fn receipts(&self) -> u64
+        ensures { result ≡ self.now.receipts }
+    {
+        self.receipts
+    }
+
+    /// How many of its publishes were stored before.
+    pub fn duplicates(&self) -> u64
+        ensures { result ≡ self.now.duplicates }
+    {
+        self.duplicates
+    }
+
+    /// How many errors came.
+    pub fn errors(&self) -> u64
+        ensures { result ≡ self.now.errors }
+    {
+        self.errors
     }
 
     /// Does what was prepared; takes no memory.

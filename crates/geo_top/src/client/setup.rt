@@ -1,10 +1,11 @@
 //! What a script declares.
-ghost use Rattle.std.specs.Prelude.{◌≡◌, ◌<◌, ◌^◌, true, length, slice_get, OnSome};
+ghost use Rattle.std.specs.Prelude.{◌≡◌, ◌<◌, ◌≤◌, ◌^◌, true, length, slice_get, OnSome};
 ghost use Rattle.std.specs.Option.{option_copied};
 ghost use Rattle.geo_base.specs.Name.{is_name};
 ghost use Rattle.geo_base.specs.Setup.{declared_at, topic_name};
 
 use crate::client::line::ProducerLine;
+use geo_base::limits::CLUSTERS;
 use geo_base::name::{ClusterName, ProducerName, TopicName};
 use std::marker::Model;
 
@@ -87,6 +88,7 @@ impl Declaration {
 }
 
 /// All that a script declares: entries of a ledger, and clusters, topics and clients, each numbered from 0 in its order.
+/// There are no more clusters than a target list can name.
 #[derive(Debug, Drop)]
 pub struct Declarations {
     per_ledger: u64,
@@ -96,11 +98,15 @@ pub struct Declarations {
 }
 
 impl Model for Declarations {
+    ghost use Rattle.std.specs.Prelude.{◌≤◌, length};
     ghost use Rattle.geo_base.specs.Setup.{Setup};
+    ghost use Rattle.geo_base.specs.declared.limits.TheConstants.{CLUSTERS};
 
     ghost Value = { Setup };
 
     ghost view = { λ s. record { per_ledger = s.per_ledger; clusters = s.clusters.items; topics = s.topics.items; clients = s.clients.items } };
+
+    ghost invariant = { λ s. length s.clusters.items ≤ CLUSTERS };
 }
 
 impl Declarations {
@@ -111,6 +117,7 @@ impl Declarations {
         topics: Vec<TopicName>,
         clients: Vec<Declaration>,
     ) -> Declarations
+        requires { length clusters.items ≤ CLUSTERS }
         ensures { result ≡ record { per_ledger = per_ledger; clusters = clusters.items; topics = topics.items; clients = clients.items } }
     {
         Declarations {
@@ -130,7 +137,8 @@ impl Declarations {
 
     /// The clusters' names.
     pub fn clusters(&self) -> &[ClusterName]
-        ensures { result.now ≡ self.now.clusters }
+        ensures value { result.now ≡ self.now.clusters }
+        ensures few { length self.now.clusters ≤ CLUSTERS }
     {
         self.clusters.as_slice()
     }
