@@ -14,3 +14,8 @@ pub mod SenderTables
 pub mod Pendings
 pub mod Messages
 pub mod Refusals
+pub mod BookTable
+pub mod Places
+pub mod Doing
+pub mod Running
+pub mod Marks

@@ -9,3 +9,7 @@ pub mod Fits
 pub mod Refusing
 pub mod Positions
 pub mod Worlds
+pub mod Books
+pub mod Actions
+pub mod Inputs
+pub mod Machines

@@ -4,6 +4,7 @@
 //! Built so far are the events of publishing and of replication. There is no subscription, so a broker's definition is met with
 //! none, and entries are messages; the types of entries and packets say so.
 
+pub mod action;
 pub mod book;
 pub mod cursor;
 pub mod message;

@@ -14,7 +14,7 @@ pub mod prepared;
 pub mod setup;
 
 use crate::client::prepared::ClientPrepared;
-use crate::client::setup::Declaration;
+use script::ClientDecl;
 use geo_base::memory::Memory;
 use std::alloc::Global;
 use std::marker::Model;
@@ -59,7 +59,7 @@ impl Model for Client {
 
 impl Client {
     /// A client that has done nothing yet; takes no memory.
-    pub fn new(alloc: Global, declared: &Declaration) -> Client
+    pub fn new(alloc: Global, declared: &ClientDecl) -> Client
         ensures { result ≡ new_client declared.now }
     {
         Client {

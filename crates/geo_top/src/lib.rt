@@ -5,3 +5,4 @@ pub mod broker;
 pub mod client;
 pub mod links;
 pub mod report;
+pub mod world;

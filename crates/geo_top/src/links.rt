@@ -2,11 +2,13 @@
 //!
 //! A link keeps every packet that it ever carried, as the definition's does; only the count of those taken moves on. What is
 //! sent in one event goes out whole or not at all, so that want of memory leaves the links as they were.
-ghost use Rattle.std.specs.Prelude.{◌≡◌, ◌≤◌, ℕ, Some, true, length, IfOk, OnOk, OnErr};
-ghost use Rattle.std.specs.Option.{option_copied};
+ghost use Rattle.std.specs.Prelude.{◌≡◌, ◌≤◌, ℕ, true, length, IfOk, OnOk, OnErr};
+ghost use Rattle.std.specs.Option.{option_copied, option_map};
+ghost use Rattle.geo_base.specs.Happening.{stamp_of as packet_stamp};
 ghost use Rattle.geo_base.specs.Link.{next_packet};
-ghost use Rattle.geo_base.specs.World.{Back, Forward, ToBroker, ToClient, delivered, from_broker, from_client, link_at, node as node_number, table, taken_from};
+ghost use Rattle.geo_base.specs.World.{Back, Forward, ToBroker, ToClient, delivered, from_broker, from_client, link_at, node as node_number, packet_at, table, taken_from};
 ghost use Rattle.geo_top.specs.Built.{is_client_frame, is_outgoing};
+ghost use Rattle.geo_top.specs.Inputs.{input_link};
 ghost use Rattle.geo_top.specs.Unsent.{sent_out, unsent_at};
 
 pub mod link;
@@ -15,12 +17,36 @@ pub mod table;
 use crate::broker::packet::{ClientPacket, ForwardPacket, Outgoing};
 use crate::client::outgoing::ClientOut;
 use crate::client::setup::Declarations;
+use crate::links::link::Carried;
 use crate::links::table::LinkTable;
 use geo_base::limits::CLUSTERS;
 use geo_base::memory::Memory;
 use geo_base::packet::{Out, Packet, Peer, Stamp};
 use std::alloc::Global;
 use std::marker::Model;
+
+/// The link that an event takes a packet from: one between brokers by the number of the sending broker and the other cluster,
+/// one of a client by client and cluster.
+#[derive(Clone, Copy, Drop)]
+pub enum Input {
+    Nothing,
+    Forward {
+        node: usize,
+        target: u32,
+    },
+    Back {
+        node: usize,
+        target: u32,
+    },
+    ToBroker {
+        client: u32,
+        cluster: u32,
+    },
+    ToClient {
+        client: u32,
+        cluster: u32,
+    },
+}
 
 /// A link between brokers by the number of the sending broker and the other cluster, one of a client by client and cluster.
 #[derive(Drop)]
@@ -89,32 +115,30 @@ impl Links {
         self.to_client.next(client as usize, cluster as usize)
     }
 
-    /// Takes the next packet of a forward link.
-    pub fn take_forward(&mut self, node: usize, target: u32)
-        ensures { self.new ≡ taken_from (Some (Forward node target)) self.old }
+    /// The stamp of the packet that is taken next; 0 where there is none.
+    pub fn stamp(&self, input: Input) -> u64
+        ensures { result ≡ packet_stamp (packet_at self.now (input_link input)) }
     {
-        self.forward.take(node, target as usize);
+        match input {
+            Input::Nothing => 0,
+            Input::Forward { node, target } => stamp_of(self.forward.next(node, target as usize)),
+            Input::Back { node, target } => stamp_of(self.back.next(node, target as usize)),
+            Input::ToBroker { client, cluster } => stamp_of(self.to_broker.next(client as usize, cluster as usize)),
+            Input::ToClient { client, cluster } => stamp_of(self.to_client.next(client as usize, cluster as usize)),
+        }
     }
 
-    /// Takes the next packet of the link that answers a forward link.
-    pub fn take_back(&mut self, node: usize, target: u32)
-        ensures { self.new ≡ taken_from (Some (Back node target)) self.old }
+    /// Takes the next packet, if there is one.
+    pub fn take(&mut self, input: Input)
+        ensures { self.new ≡ taken_from (input_link input) self.old }
     {
-        self.back.take(node, target as usize);
-    }
-
-    /// Takes the next packet of a client to a broker.
-    pub fn take_to_broker(&mut self, client: u32, cluster: u32)
-        ensures { self.new ≡ taken_from (Some (ToBroker client cluster)) self.old }
-    {
-        self.to_broker.take(client as usize, cluster as usize);
-    }
-
-    /// Takes the next packet of a broker to a client.
-    pub fn take_to_client(&mut self, client: u32, cluster: u32)
-        ensures { self.new ≡ taken_from (Some (ToClient client cluster)) self.old }
-    {
-        self.to_client.take(client as usize, cluster as usize);
+        match input {
+            Input::Nothing => {}
+            Input::Forward { node, target } => self.forward.take(node, target as usize),
+            Input::Back { node, target } => self.back.take(node, target as usize),
+            Input::ToBroker { client, cluster } => self.to_broker.take(client as usize, cluster as usize),
+            Input::ToClient { client, cluster } => self.to_client.take(client as usize, cluster as usize),
+        }
     }
 
     /// Sends what a broker sends in an event, whole or not at all.
@@ -209,6 +233,16 @@ impl Links {
         ensures { self.new ≡ unsent_at (from_client client to) self.old }
     {
         self.to_broker.unsend(client as usize, peer_number(to) as usize);
+    }
+}
+
+/// The stamp of a packet; 0 where there is none.
+fn stamp_of<P: Carried>(next: Option<&P>) -> u64
+    ensures { result ≡ packet_stamp (option_map P.packet_of (option_copied next.entry)) }
+{
+    match next {
+        Some(carried) => carried.as_packet().stamp.number(),
+        None => 0,
     }
 }
 

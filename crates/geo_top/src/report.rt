@@ -13,7 +13,8 @@ pub mod view;
 pub mod words;
 
 use crate::client::Client;
-use crate::client::setup::{Declaration, Declarations};
+use crate::client::setup::Declarations;
+use script::ClientDecl;
 use crate::report::lines::{client_line, entry_line, head_line, place_line, sender_line};
 use crate::report::positions::Positions;
 use crate::report::view::{BrokerView, WorldView};
@@ -203,7 +204,7 @@ fn add_client(
     alloc: Global,
     lines: &mut Blob,
     setup: &Declarations,
-    declared: &Declaration,
+    declared: &ClientDecl,
     client: &Client,
     topic: usize,
 ) -> Result<(), Memory>

@@ -70,7 +70,7 @@ stamp_within : (n : ℕ) (o : Option Packet) → ((p : Packet) → o ≡ Some p 
 stamp_within n None h = omega arith
 stamp_within n (Some p) h = h p refl
 
-packet_within : (n : ℕ) (ls : Links) (o : Option LinkName) → AllStamps n ls → stamp_of (packet_at ls o) ≤ n
+pub packet_within : (n : ℕ) (ls : Links) (o : Option LinkName) → AllStamps n ls → stamp_of (packet_at ls o) ≤ n
 packet_within n ls None w = omega arith
 packet_within n ls (Some k) w = stamp_within n (next_packet (link_at ls k)) (λ p at. w k (link_at ls k).taken p at)
 

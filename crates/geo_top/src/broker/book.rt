@@ -1,5 +1,5 @@
 //! A broker's state, and how a prepared event becomes of it.
-ghost use Rattle.std.specs.Prelude.{◌≡◌, ◌<◌, ◌≤◌, ◌+◌, ◌++◌, None, true, length, replicate, IfOk, OnOk};
+ghost use Rattle.std.specs.Prelude.{◌≡◌, ◌<◌, ◌≤◌, ◌+◌, ◌++◌, None, true, length, replicate, IfOk, OnOk, []};
 ghost use Rattle.std.specs.Option.{option_copied};
 ghost use Rattle.geo_base.specs.Broker.{changed, new_broker, receiver_at, sender_at, session_at, written};
 ghost use Rattle.geo_base.specs.Entry.{with_origin};
@@ -86,6 +86,21 @@ impl Book {
         ensures { result.now ≡ self.now.broker.entries }
     {
         self.entries.as_slice()
+    }
+
+    /// How many entries there are. There is no subscription to read them.
+    pub fn len(&self) -> usize
+        ensures count { result ≡ length self.now.broker.entries }
+        ensures unsubscribed { self.now.broker.subs ≡ [] }
+    {
+        self.entries.len()
+    }
+
+    /// How many senders there are: one for each cluster.
+    pub fn senders(&self) -> usize
+        ensures { result ≡ length self.now.broker.senders }
+    {
+        self.senders.len()
     }
 
     /// The lengths of the topic's ledgers.

@@ -1,6 +1,6 @@
 //! A cursor: the acknowledged indexes in ascending order.
 ghost use Rattle.std.specs.Prelude.{◌≡◌, ◌<◌, ◌≤◌, ◌+◌, ◌-◌, ◌^◌, vec_len, vec_capacity};
-ghost use Rattle.geo_base.specs.Cursor.{next_open, with_index};
+ghost use Rattle.geo_base.specs.Cursor.{mark, next_open, with_index};
 ghost use Rattle.geo_top.specs.Room.{IsAscending, IsPlace};
 
 /// Acknowledges one more index.
@@ -46,4 +46,19 @@ pub fn first_open(cursor: &[u64], from: u64, end: u64) -> Option<u64>
         index += 1;
     }
     None
+}
+
+/// The mark-delete: how many entries from the first on are all acknowledged.
+#[tactic(auto, using(crate::proofs::Marks::mark_step, crate::proofs::Marks::mark_stop, crate::proofs::Marks::mark_end))]
+pub fn mark_of(cursor: &[u64]) -> u64
+    ensures { result ≡ mark cursor.now }
+{
+    let mut mark = 0;
+    for index in cursor {
+        if *index != mark {
+            return mark;
+        }
+        mark += 1;
+    }
+    mark
 }

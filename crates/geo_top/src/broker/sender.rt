@@ -1,11 +1,12 @@
 //! The sender of a broker to another cluster.
 ghost use Rattle.std.specs.Prelude.{◌≡◌, ◌<◌, ◌≤◌, ◌+◌, ◌-◌, ◌==◌, ◌^◌, position, OnOk, OnErr};
 ghost use Rattle.std.specs.VecDeque.{deque_len, deque_capacity};
+ghost use Rattle.geo_base.specs.Cursor.{mark};
 ghost use Rattle.geo_base.specs.Sender.{index_to_read, new_sender, pending_index, without_number};
 ghost use Rattle.geo_top.specs.Room.{SenderBook};
 ghost use Rattle.geo_top.specs.Steps.{StepFits, stepped};
 
-use crate::broker::cursor::{add_index, first_open};
+use crate::broker::cursor::{add_index, first_open, mark_of};
 use geo_base::memory::Memory;
 use geo_base::sender::{Pending, SenderState};
 use std::alloc::Global;
@@ -85,6 +86,13 @@ impl Sender {
         self.pending.reserve(room)?;
         self.room = room;
         Ok(())
+    }
+
+    /// The cursor's mark-delete.
+    pub fn mark(&self) -> u64
+        ensures { result ≡ mark self.now.sender.cursor }
+    {
+        mark_of(self.cursor.as_slice())
     }
 
     /// The session's number; 0 before the first.

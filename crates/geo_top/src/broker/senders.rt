@@ -49,6 +49,13 @@ impl SenderTable {
         &self.senders[remote as usize]
     }
 
+    /// How many senders there are.
+    pub fn len(&self) -> usize
+        ensures { result ≡ length self.now.senders }
+    {
+        self.senders.len()
+    }
+
     /// Does one step of the sender to a cluster.
     pub fn step(&mut self, remote: u32, step: SenderStep)
         requires remote { remote < length self.old.senders }

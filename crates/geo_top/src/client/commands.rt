@@ -9,7 +9,9 @@ ghost use Rattle.geo_top.specs.ProducerLine.{is_producer_line};
 use crate::client::Client;
 use crate::client::outgoing::{ClientOut, add};
 use crate::client::prepared::ClientPrepared;
-use crate::client::setup::{Declaration, Declarations};
+use crate::client::setup::Declarations;
+use crate::client::line::line_at;
+use script::ClientDecl;
 use geo_base::bytes::{Blob, Text};
 use geo_base::client::Line;
 use geo_base::entry::{Content, Entry, Ident, Metadata, Targets};
@@ -27,7 +29,7 @@ impl Client {
         &self,
         alloc: Global,
         setup: &Declarations,
-        declared: &Declaration,
+        declared: &ClientDecl,
     ) -> Result<ClientPrepared, Memory>
         requires { CanCount self.now }
         ensures { IfOk result (λ p. p ≡ reconnect setup.now declared.now self.now) }
@@ -42,7 +44,7 @@ impl Client {
         self,
         alloc: Global,
         setup: &Declarations,
-        declared: &Declaration,
+        declared: &ClientDecl,
     ) -> Result<ClientPrepared, Memory>
         ensures { IfOk result (λ p. p ≡ connects setup.now declared.now self) }
     {
@@ -57,7 +59,7 @@ impl Client {
         &self,
         alloc: Global,
         setup: &Declarations,
-        declared: &Declaration,
+        declared: &ClientDecl,
         sent: &mut Vec<ClientOut>,
     ) -> Result<(), Memory>
         ensures { OnOk result (sent.new.items ≡ sent.old.items ++ commands_at setup.now declared.now self.now self.now.unanswered) }
@@ -73,7 +75,7 @@ impl Client {
         &self,
         alloc: Global,
         setup: &Declarations,
-        declared: &Declaration,
+        declared: &ClientDecl,
         index: Option<usize>,
         sent: &mut Vec<ClientOut>,
     ) -> Result<(), Memory>
@@ -82,10 +84,10 @@ impl Client {
         let Some(index) = index else {
             return Ok(());
         };
-        match declared.line(index) {
+        match line_at(declared, index) {
             Some(line) => add(
                 sent,
-                self.command(alloc, setup, declared, index, line.line())?,
+                self.command(alloc, setup, declared, index, line)?,
             ),
             None => Ok(()),
         }
@@ -97,7 +99,7 @@ impl Client {
         &self,
         alloc: Global,
         setup: &Declarations,
-        declared: &Declaration,
+        declared: &ClientDecl,
         index: usize,
         line: &Line,
     ) -> Result<ClientOut, Memory>
@@ -150,7 +152,7 @@ impl Client {
         &self,
         alloc: Global,
         setup: &Declarations,
-        declared: &Declaration,
+        declared: &ClientDecl,
         seq: u64,
         text: &Blob,
     ) -> Result<Entry, Memory>

@@ -7,7 +7,8 @@ ghost use Rattle.geo_top.specs.Counted.{CanCount};
 
 use crate::client::Client;
 use crate::client::prepared::ClientPrepared;
-use crate::client::setup::Declaration;
+use crate::client::line::line_at;
+use script::ClientDecl;
 use geo_base::client::Line;
 use geo_base::frame::Frame;
 use geo_base::memory::Memory;
@@ -21,7 +22,7 @@ impl Client {
     pub fn prepare_get(
         &self,
         alloc: Global,
-        declared: &Declaration,
+        declared: &ClientDecl,
         input: Option<&Packet>,
     ) -> Result<ClientPrepared, Memory>
         requires { CanCount self.now }
@@ -41,7 +42,7 @@ impl Client {
 
     /// The client after a frame of its connection. A message is for no subscription, since there is none.
     #[tactic(auto, using(crate::proofs::Getting::unsubscribed))]
-    fn with_frame(self, declared: &Declaration, frame: &Frame) -> Client
+    fn with_frame(self, declared: &ClientDecl, frame: &Frame) -> Client
         requires { CanCount self }
         ensures { result ≡ got_frame declared.now self frame.now }
     {
@@ -56,7 +57,7 @@ impl Client {
     }
 
     /// The receipt of a publish came: of a stored entry, or of a duplicate.
-    fn with_receipt(self, declared: &Declaration, seq: u64, position: Option<Position>) -> Client
+    fn with_receipt(self, declared: &ClientDecl, seq: u64, position: Option<Position>) -> Client
         requires { CanCount self }
         ensures { result ≡ answered declared.now self seq (with_receipt self (is_duplicate position)) }
     {
@@ -74,7 +75,7 @@ impl Client {
     }
 
     /// A publish was refused.
-    fn with_refusal(self, declared: &Declaration, seq: u64) -> Client
+    fn with_refusal(self, declared: &ClientDecl, seq: u64) -> Client
         requires { CanCount self }
         ensures { result ≡ answered declared.now self seq (with_error self) }
     {
@@ -111,29 +112,26 @@ fn is_duplicate(position: Option<Position>) -> bool
 }
 
 /// The place of the first publish of a sequence id among indexes of lines.
-fn first_publish(declared: &Declaration, unanswered: &[usize], seq: u64) -> Option<usize>
+fn first_publish(declared: &ClientDecl, unanswered: &[usize], seq: u64) -> Option<usize>
     ensures within { IfSome result (λ at. at < length unanswered.now) }
     ensures found { IfSome result (λ at. list_any (publishes declared.now seq) unanswered.now ≡ true) }
     ensures rest { IfSome result (λ at. without_seq declared.now unanswered.now seq ≡ remove unanswered.now at) }
     ensures none { IfNone result (list_any (publishes declared.now seq) unanswered.now ≡ false) }
 {
     for (at, index) in unanswered.iter().enumerate() {
-        if declared.publishes(*index, seq) {
+        if publishes(declared, *index, seq) {
             return Some(at);
         }
     }
     None
 }
 
-impl Declaration {
-    /// Whether the line at an index publishes a sequence id.
-    fn publishes(&self, index: usize, seq: u64) -> bool
-        ensures { result ≡ publishes self.now seq index }
-    {
-        match self.line(index) {
-            Some(line) =>
-                matches!(line.line(), Line::Pub { seq: published, .. } if *published == seq),
-            None => false,
-        }
+/// Whether a client's line at an index publishes a sequence id.
+fn publishes(declared: &ClientDecl, index: usize, seq: u64) -> bool
+    ensures { result ≡ publishes declared.now seq index }
+{
+    match line_at(declared, index) {
+        Some(line) => matches!(line, Line::Pub { seq: published, .. } if *published == seq),
+        None => false,
     }
 }

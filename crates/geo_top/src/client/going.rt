@@ -6,7 +6,9 @@ ghost use Rattle.geo_top.specs.ProducerLine.{is_producer_line, is_publish};
 use crate::client::Client;
 use crate::client::outgoing::{ClientOut, add};
 use crate::client::prepared::ClientPrepared;
-use crate::client::setup::{Declaration, Declarations};
+use crate::client::setup::Declarations;
+use crate::client::line::line_at;
+use script::ClientDecl;
 use geo_base::client::Line;
 use geo_base::limits::UNANSWERED;
 use geo_base::memory::Memory;
@@ -20,7 +22,7 @@ impl Client {
         &self,
         alloc: Global,
         setup: &Declarations,
-        declared: &Declaration,
+        declared: &ClientDecl,
     ) -> Result<ClientPrepared, Memory>
         ensures { IfOk result (λ p. p ≡ go setup.now declared.now self.now) }
     {
@@ -28,8 +30,8 @@ impl Client {
         if !client.is_connected {
             return Ok(ClientPrepared::stays(alloc, client));
         }
-        match declared.line(client.done) {
-            Some(line) => client.goes(alloc, setup, declared, line.line()),
+        match line_at(declared, client.done) {
+            Some(line) => client.goes(alloc, setup, declared, line),
             None => Ok(ClientPrepared::stays(alloc, client)),
         }
     }
@@ -38,7 +40,7 @@ impl Client {
         self,
         alloc: Global,
         setup: &Declarations,
-        declared: &Declaration,
+        declared: &ClientDecl,
         line: &Line,
     ) -> Result<ClientPrepared, Memory>
         requires built { is_producer_line line.now ≡ true }
@@ -56,7 +58,7 @@ impl Client {
         self,
         alloc: Global,
         setup: &Declarations,
-        declared: &Declaration,
+        declared: &ClientDecl,
         line: &Line,
     ) -> Result<ClientPrepared, Memory>
         requires produce { line.now ≡ Line.Produce }
@@ -79,7 +81,7 @@ impl Client {
         self,
         alloc: Global,
         setup: &Declarations,
-        declared: &Declaration,
+        declared: &ClientDecl,
         line: &Line,
     ) -> Result<ClientPrepared, Memory>
         requires built { is_producer_line line.now ≡ true }

@@ -1,42 +1,20 @@
 //! Lines of a client that produces.
-ghost use Rattle.std.specs.Prelude.{◌≡◌, true};
+ghost use Rattle.std.specs.Prelude.{◌≡◌, ◌<◌, ◌^◌, true, slice_get, IfSome, OnSome};
+ghost use Rattle.std.specs.Option.{option_copied};
 ghost use Rattle.geo_top.specs.ProducerLine.{is_producer_line};
 
 use geo_base::client::Line;
-use std::marker::Model;
+use script::ClientDecl;
 
-/// A line of a client that only produces: `produce`, or `pub` of a text to all clusters, without a key.
-#[derive(Debug, Drop)]
-pub struct ProducerLine {
-    line: Line,
-}
-
-impl Model for ProducerLine {
-    ghost use Rattle.std.specs.Prelude.{◌≡◌, true};
-    ghost use Rattle.geo_base.specs.declared.client.Line.{Line};
-    ghost use Rattle.geo_top.specs.ProducerLine.{is_producer_line};
-
-    ghost Value = { Line };
-
-    ghost view = { λ l. l.line };
-
-    ghost invariant = { λ l. is_producer_line l.line ≡ true };
-}
-
-impl ProducerLine {
-    /// The producer's line that a line is.
-    pub fn new(line: Line) -> ProducerLine
-        requires { is_producer_line line ≡ true }
-        ensures { result ≡ line }
-    {
-        ProducerLine { line }
-    }
-
-    /// The line.
-    pub fn line(&self) -> &Line
-        ensures value { result.now ≡ self.now }
-        ensures is_one { is_producer_line self.now ≡ true }
-    {
-        &self.line
+/// A client's line at an index. A list in memory has fewer than 2 ^ 63 lines.
+#[tactic(auto, using(crate::proofs::ProducerLines::is_built))]
+pub fn line_at(declared: &ClientDecl, index: usize) -> Option<&Line>
+    ensures value { option_copied result ≡ slice_get declared.now.lines index }
+    ensures built { IfSome result (λ l. is_producer_line l.now ≡ true) }
+    ensures within { OnSome result (index < 2 ^ 63) }
+{
+    match declared.lines().get(index) {
+        Some(line) => Some(line.line()),
+        None => None,
     }
 }

@@ -3,7 +3,8 @@ ghost use Rattle.std.specs.Prelude.{◌≡◌, ◌≤◌, ◌++◌, ◌∷◌, [
 ghost use Rattle.geo_base.specs.Report.{client_line, entry_line, shown_state, words};
 
 use crate::client::Client;
-use crate::client::setup::{Declaration, Declarations};
+use crate::client::setup::Declarations;
+use script::ClientDecl;
 use crate::report::words::{
     cluster_name, shown_done, shown_ident, shown_message, shown_position, shown_state,
     shown_targets,
@@ -71,7 +72,7 @@ pub(super) fn sender_line(
 pub(super) fn client_line(
     alloc: Global,
     setup: &Declarations,
-    declared: &Declaration,
+    declared: &ClientDecl,
     client: &Client,
 ) -> Result<String, Memory>
     ensures line { IfOk result (λ line. string_bytes line ≡ client_line setup.now declared.now client.now ++ 10 ∷ []) }
@@ -79,7 +80,7 @@ pub(super) fn client_line(
 {
     let name = declared.name().as_str();
     let cluster = cluster_name(setup.clusters(), client.cluster());
-    let done = shown_done(alloc, client.done(), declared.lines())?;
+    let done = shown_done(alloc, client.done(), declared.lines().len())?;
     let receipts = client.receipts();
     let duplicates = client.duplicates();
     let errors = client.errors();
