@@ -1,6 +1,5 @@
 -- What a message's parts are, which its test says.
 use Rattle.std.proofs.Common.{◌≡◌, ℕ, ◌+◌, ◌≤◌, ◌==◌, Bool, true, false, List, [], length, refl, ap, sym, ◌∙◌}
-use Rattle.std.proofs.lemmas.Bool.{false≢true}
 use Rattle.std.specs.Prelude.{◌&&◌, nat_le, if◌then◌else◌, Option, Some, None, is_none, is_some, not}
 use Rattle.std.specs.Str.{bytes_eq}
 use Rattle.geo_base.specs.declared.entry.Content.{Content}
@@ -80,13 +79,3 @@ sound h n seq source e r m names s =
     absent source r s
     ∙ sym (rest_sound (bytes_eq n e.ident.producer && (seq == e.ident.seq)) (is_none source) (is_data e.content) (nat_le (entry_size h.clusters e) most_entry_size)
     names (first (is_data e.content) (nat_le (metadata_size e + length e.payload) most_entry_size) m) (message_fits h.clusters e m))
-
--- a message is no marker
-no_marker : (c : Content) → is_data c ≡ true → c ≡ content.Data
-no_marker content.Data h = refl
-no_marker (content.Marked m) h = absurd (false≢true h)
-no_marker (content.Unread k) h = absurd (false≢true h)
-
-pub message_is_data : (e : Entry) → is_message e ≡ true → e.content ≡ content.Data
-unfolding is_message
-message_is_data e h = no_marker e.content (first (is_data e.content) (nat_le (metadata_size e + length e.payload) most_entry_size) h)

@@ -14,7 +14,7 @@ impl BrokerView for Book {
         self.len()
     }
 
-    #[tactic(auto, using(crate::proofs::Messages::message_is_data))]
+    #[tactic(auto, using(crate::proofs::Messages::message_data))]
     fn entry(&self, index: usize) -> &Entry {
         self.entries()[index].entry()
     }
