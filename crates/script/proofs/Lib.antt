@@ -1,0 +1,10 @@
+pub mod Cuts
+pub mod Numbers
+pub mod Printable
+pub mod Distinct
+pub mod LineCounts
+pub mod Kept
+pub mod Parts
+pub mod KeptLines
+pub mod Judged
+pub mod Accepted

@@ -1,0 +1,10 @@
+pub mod Lines
+pub mod Numbers
+pub mod Kinds
+pub mod Words
+pub mod Script
+pub mod Declaring
+pub mod Happenings
+pub mod Rules
+pub mod Scenario
+pub mod Drafts

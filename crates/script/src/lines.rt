@@ -1,0 +1,117 @@
+//! The lines of a script.
+ghost use Rattle.std.specs.Prelude.{◌≡◌, [], ◌∷◌, MatchOption, length};
+ghost use Rattle.std.specs.List.{list_all};
+ghost use Rattle.script.specs.Lines.{lines_of, is_skipped, is_printable, words_of};
+
+use crate::cut::cut_at;
+use crate::words::Words;
+use std::marker::Model;
+
+/// A line of a script.
+#[derive(Debug, Drop)]
+pub(crate) struct TextLine<'a> {
+    bytes: &'a [u8],
+    ended: bool,
+}
+
+impl<'a> Model for TextLine<'a> {
+    ghost use Rattle.script.specs.Lines.{TextLine};
+
+    ghost Value = { TextLine };
+
+    ghost view = { λ l. record { bytes = l.bytes.now; ended = l.ended } };
+}
+
+impl<'a> TextLine<'a> {
+    /// The line's bytes, without its line feed.
+    pub(crate) fn bytes(&self) -> &'a [u8]
+        ensures { result.now ≡ self.now.bytes }
+    {
+        self.bytes
+    }
+
+    /// Whether a line feed ends it.
+    pub(crate) fn is_ended(&self) -> bool
+        ensures { result ≡ self.now.ended }
+    {
+        self.ended
+    }
+
+    /// Whether it is empty or a comment.
+    pub(crate) fn is_skipped(&self) -> bool
+        ensures { result ≡ is_skipped self.now.bytes }
+    {
+        match self.bytes {
+            [] => true,
+            [first, ..] => *first == b'#',
+        }
+    }
+
+    /// Whether each of its bytes is printable.
+    pub(crate) fn is_printable(&self) -> bool
+        ensures { result ≡ list_all is_printable self.now.bytes }
+    {
+        self.bytes.iter().all(|b| is_printable_byte(*b))
+    }
+
+    /// Its words.
+    pub(crate) fn words(&self) -> Words<'a>
+        ensures { result ≡ words_of self.now.bytes }
+    {
+        Words::new(self.bytes)
+    }
+}
+
+fn is_printable_byte(byte: u8) -> bool
+    ensures { result ≡ is_printable byte }
+{
+    matches!(byte, b' '..=b'~')
+}
+
+/// The lines of a script that are left.
+#[derive(Debug, Drop)]
+pub(crate) struct Lines<'a> {
+    rest: &'a [u8],
+}
+
+impl<'a> Model for Lines<'a> {
+    ghost use Rattle.std.specs.Prelude.{List};
+    ghost use Rattle.script.specs.Lines.{TextLine, lines_of};
+
+    ghost Value = { List TextLine };
+
+    ghost view = { λ l. lines_of l.rest.now };
+}
+
+impl<'a> Lines<'a> {
+    /// The lines of a script.
+    pub(crate) fn new(bytes: &'a [u8]) -> Lines<'a>
+        ensures { result ≡ lines_of bytes.now }
+    {
+        Lines { rest: bytes }
+    }
+
+    /// The next line.
+    #[tactic(auto, using(crate::proofs::Cuts::lines_cut, crate::proofs::Cuts::lines_uncut))]
+    pub(crate) fn next_line(&mut self) -> Option<TextLine<'a>>
+        ensures { MatchOption result (self.old ≡ []) (λ line. self.old ≡ line ∷ self.new) }
+    {
+        if self.rest.is_empty() {
+            return None;
+        }
+        match cut_at(self.rest, b'\n') {
+            Some((bytes, rest)) => {
+                self.rest = rest;
+                Some(TextLine { bytes, ended: true })
+            }
+            None => {
+                let bytes = self.rest;
+                self.rest = &[];
+                Some(TextLine {
+                    bytes,
+                    ended: false,
+                })
+            }
+        }
+    }
+}

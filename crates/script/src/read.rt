@@ -1,0 +1,95 @@
+//! The reader of a script.
+ghost use Rattle.std.specs.Prelude.{◌≡◌, ℕ, ◌<◌, ◌^◌, ◌⊎◌, length, Err, Ok, IfOk};
+ghost use Rattle.script.specs.Drafts.{Declares, Judges};
+ghost use Rattle.script.specs.Rules.{declared, judged, script_of};
+ghost use Rattle.script.specs.Scenario.{IsScenario};
+ghost use Rattle.script.specs.Script.{Script};
+
+use crate::draft::Draft;
+use crate::fault::{LineFault, OUT_OF_FORM, Rule, ScriptFault};
+use crate::kind::Kind;
+use crate::lines::{Lines, TextLine};
+use crate::scenario::Scenario;
+use crate::words::Words;
+use std::alloc::Global;
+
+/// Reads a script of fewer than 2^32 bytes.
+///
+/// `ScriptFault::Rule` comes exactly for a script with an offending line, and names the first one and the lowest rule
+/// that it breaks. `ScriptFault::Memory` may come at any script.
+#[tactic(auto, using(crate::proofs::LineCounts::length_lines_of))]
+pub fn read_script(alloc: Global, bytes: &[u8]) -> Result<Scenario, ScriptFault>
+    requires { length bytes.now < 2 ^ 32 }
+
+    // What is answered is what the script says.
+    ensures ok { IfOk result (λ scenario. script_of bytes.now ≡ Ok scenario) }
+    ensures rule { (line rule : ℕ) → result ≡ Err (ScriptFault.Rule line rule)
+        → script_of bytes.now ≡ Err (record { line = line; rule = rule }) }
+    ensures known { IfOk result IsScenario }
+
+    // What the script says is answered, unless memory is wanting.
+    ensures accepts { (script : Script) → script_of bytes.now ≡ Ok script
+        → (result ≡ Ok script) ⊎ (result ≡ Err ScriptFault.Memory) }
+    ensures refuses { (line rule : ℕ) → script_of bytes.now ≡ Err (record { line = line; rule = rule })
+        → (result ≡ Err (ScriptFault.Rule line rule)) ⊎ (result ≡ Err ScriptFault.Memory) }
+{
+    let mut draft = Draft::new(alloc);
+    let mut lines = Lines::new(bytes);
+    let mut number = 1;
+    while let Some(line) = lines.next_line() {
+        match draft.read_line(alloc, &line) {
+            Ok(()) => number += 1,
+            Err(LineFault::Broken(rule)) => {
+                return Err(ScriptFault::Rule {
+                    line: number,
+                    rule: rule.number(),
+                });
+            }
+            Err(LineFault::Memory) => return Err(ScriptFault::Memory),
+        }
+    }
+    match draft.finish() {
+        Ok(scenario) => Ok(scenario),
+        Err(rule) => Err(ScriptFault::Rule {
+            line: number,
+            rule: rule.number(),
+        }),
+    }
+}
+
+impl Draft {
+    /// Takes the next line in, unless it breaks a rule.
+    fn read_line(&mut self, alloc: Global, line: &TextLine<'_>) -> Result<(), LineFault>
+        ensures { Judges result self.new (judged self.old line.now) }
+    {
+        if line.is_skipped() {
+            return Ok(());
+        }
+        if !(line.is_printable() && line.is_ended()) {
+            return Err(LineFault::Broken(Rule::Bytes));
+        }
+        if !self.is_begun() && line.bytes() != b"geo 1".as_slice() {
+            return Err(LineFault::Broken(Rule::Head));
+        }
+        self.declare(alloc, line.words())
+    }
+
+    /// Takes in what a line of these words declares.
+    fn declare(&mut self, alloc: Global, mut words: Words<'_>) -> Result<(), LineFault>
+        ensures { Declares result self.new (declared self.old words.entry) }
+    {
+        let word = words.next_word().ok_or(OUT_OF_FORM)?;
+        let kind = Kind::of(word).ok_or(OUT_OF_FORM)?;
+        if !self.asks_for(kind) {
+            return Err(OUT_OF_FORM);
+        }
+        match kind {
+            Kind::Geo => self.geo_line(words),
+            Kind::Cluster => self.cluster_line(alloc, words),
+            Kind::Topic => self.topic_line(alloc, words),
+            Kind::Client => self.client_line(alloc, words),
+            Kind::Do => self.do_line(alloc, words),
+            Kind::Event(kind) => self.event_line(kind, words),
+        }
+    }
+}

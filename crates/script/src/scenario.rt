@@ -1,0 +1,222 @@
+//! What an accepted script says.
+ghost use Rattle.std.specs.Prelude.{◌≡◌, ◌<◌, ◌≤◌, ◌^◌, [], ◌∷◌, ◌++◌, length, All, OnOk, OnErr};
+ghost use Rattle.geo_base.specs.Scripted.{is_produce, IsScripted};
+ghost use Rattle.geo_base.specs.Setup.{Declared};
+ghost use Rattle.script.specs.Scenario.{IsClientLine, IsClient, IsStep, IsScenario};
+ghost use Rattle.script.specs.Script.{script_with};
+
+use geo_base::{Blob, ClusterName, Line, Memory, ProducerName, Sequence, Step, Targets, TopicName};
+use std::alloc::Global;
+use std::marker::Model;
+
+/// A line of a client: `produce`, or a publish to all clusters, without a key, of at most 1,024 bytes.
+#[derive(Debug, Drop)]
+pub struct ScriptLine {
+    line: Line,
+}
+
+impl Model for ScriptLine {
+    ghost use Rattle.geo_base.specs.declared.client.Line.{Line};
+    ghost use Rattle.script.specs.Scenario.{IsClientLine};
+
+    ghost Value = { Line };
+
+    ghost view = { λ l. l.line };
+
+    ghost invariant = { λ l. IsClientLine l.line };
+}
+
+impl ScriptLine {
+    /// `produce`
+    pub(crate) fn produce() -> ScriptLine
+        ensures { result ≡ Line.Produce }
+    {
+        ScriptLine {
+            line: Line::Produce,
+        }
+    }
+
+    /// `pub SEQ * - TEXT`
+    pub(crate) fn publish(seq: u64, text: Blob) -> ScriptLine
+        requires id { seq < 2 ^ 63 }
+        requires short { length text ≤ 1024 }
+        ensures { result ≡ Line.Pub seq Targets.All None text }
+    {
+        ScriptLine {
+            line: Line::Pub {
+                seq,
+                to: Targets::All,
+                key: None,
+                text,
+            },
+        }
+    }
+
+    /// Whether it is `produce`.
+    pub fn is_produce(&self) -> bool
+        ensures { result ≡ is_produce self.now }
+    {
+        matches!(self.line, Line::Produce)
+    }
+
+    /// The line in the machine's words.
+    pub fn line(&self) -> &Line
+        ensures line { result.now ≡ self.now }
+        ensures known { IsClientLine self.now }
+    {
+        &self.line
+    }
+}
+
+/// A client of a script: its name, which is its producer's, the topic that it works on, the cluster that it is at
+/// first, and its lines.
+#[derive(Debug, Drop)]
+pub struct ClientDecl {
+    name: ProducerName,
+    topic: u32,
+    cluster: u32,
+    lines: Sequence<ScriptLine>,
+}
+
+impl Model for ClientDecl {
+    ghost use Rattle.geo_base.specs.Setup.{Declared};
+
+    ghost Value = { Declared };
+
+    ghost view = { λ c. record { name = c.name; topic = c.topic; cluster = c.cluster; lines = c.lines } };
+}
+
+impl ClientDecl {
+    /// A client without lines; takes no memory.
+    pub(crate) fn new(alloc: Global, name: ProducerName, topic: u32, cluster: u32) -> ClientDecl
+        ensures { result ≡ record { name = name; topic = topic; cluster = cluster; lines = [] } }
+    {
+        ClientDecl {
+            name,
+            topic,
+            cluster,
+            lines: Sequence::new(alloc),
+        }
+    }
+
+    /// One more line; unchanged where memory is wanting.
+    pub(crate) fn push_line(&mut self, line: ScriptLine) -> Result<(), Memory>
+        ensures ok { OnOk result (self.new
+            ≡ record self.old { lines = self.old.lines ++ line ∷ [] }) }
+        ensures err { OnErr result (self.new ≡ self.old) }
+    {
+        self.lines.push(line)
+    }
+
+    /// The client's name.
+    pub fn name(&self) -> &ProducerName
+        ensures { result.now ≡ self.now.name }
+    {
+        &self.name
+    }
+
+    /// The number of its topic.
+    pub fn topic(&self) -> u32
+        ensures { result ≡ self.now.topic }
+    {
+        self.topic
+    }
+
+    /// The number of the cluster that it is at first.
+    pub fn cluster(&self) -> u32
+        ensures { result ≡ self.now.cluster }
+    {
+        self.cluster
+    }
+
+    /// Its lines in order.
+    pub fn lines(&self) -> &[ScriptLine]
+        ensures { result.now ≡ self.now.lines }
+    {
+        self.lines.as_slice()
+    }
+}
+
+/// An accepted script: clusters, topics and clients, each numbered from 0 in the script's order, and the schedule.
+/// Contracts see it as the definition's script.
+#[derive(Debug, Drop)]
+pub struct Scenario {
+    per_ledger: u64,
+    clusters: Sequence<ClusterName>,
+    topics: Sequence<TopicName>,
+    clients: Sequence<ClientDecl>,
+    steps: Sequence<Step>,
+}
+
+impl Model for Scenario {
+    ghost use Rattle.script.specs.Script.{Script, script_with};
+    ghost use Rattle.script.specs.Scenario.{IsScenario};
+
+    ghost Value = { Script };
+
+    ghost view = { λ s. script_with s.per_ledger s.clusters s.topics s.clients s.steps };
+
+    ghost invariant = { λ s. IsScenario (script_with s.per_ledger s.clusters s.topics s.clients s.steps) };
+}
+
+impl Scenario {
+    /// The script of its parts.
+    pub(crate) fn new(
+        per_ledger: u64,
+        clusters: Sequence<ClusterName>,
+        topics: Sequence<TopicName>,
+        clients: Sequence<ClientDecl>,
+        steps: Sequence<Step>,
+    ) -> Scenario
+        requires { IsScenario (script_with per_ledger clusters topics clients steps) }
+        ensures { result ≡ script_with per_ledger clusters topics clients steps }
+    {
+        Scenario {
+            per_ledger,
+            clusters,
+            topics,
+            clients,
+            steps,
+        }
+    }
+
+    /// How many entries a ledger takes.
+    pub fn per_ledger(&self) -> u64
+        ensures { result ≡ self.now.setup.per_ledger }
+    {
+        self.per_ledger
+    }
+
+    /// The clusters' names.
+    pub fn clusters(&self) -> &[ClusterName]
+        ensures names { result.now ≡ self.now.setup.clusters }
+        ensures known { IsScripted self.now.setup }
+    {
+        self.clusters.as_slice()
+    }
+
+    /// The topics' names.
+    pub fn topics(&self) -> &[TopicName]
+        ensures names { result.now ≡ self.now.setup.topics }
+        ensures known { IsScripted self.now.setup }
+    {
+        self.topics.as_slice()
+    }
+
+    /// The clients.
+    pub fn clients(&self) -> &[ClientDecl]
+        ensures clients { result.now ≡ self.now.setup.clients }
+        ensures known { IsScripted self.now.setup }
+        ensures each { All IsClient self.now.setup.clients }
+    {
+        self.clients.as_slice()
+    }
+
+    /// The schedule.
+    pub fn steps(&self) -> &[Step]
+        ensures steps { result.now ≡ self.now.steps }
+        ensures each { All (IsStep self.now.setup) self.now.steps }
+    {
+        self.steps.as_slice()
+    }
+}
