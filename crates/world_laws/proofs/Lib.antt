@@ -31,3 +31,6 @@ pub mod Sizes
 pub mod PairWorlds
 pub mod PairMoments
 pub mod Pairs
+pub mod Calm
+pub mod Places
+pub mod Bounds

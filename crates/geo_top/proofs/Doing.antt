@@ -1,0 +1,100 @@
+-- What is prepared at a node and done there is the event.
+use Rattle.std.proofs.Common.{◌≡◌, ℕ, ◌<◌, Bool, true, [], length, sym, ◌∙◌, ap}
+use Rattle.std.proofs.lemmas.Bool.{lt-ltb}
+use Rattle.std.specs.Prelude.{Option, Some, None, ◌&&◌, if◌then◌else◌, nat_lt}
+use Rattle.geo_base.specs.declared.event.Event.{Event}
+use Rattle.geo_base.specs.declared.event.Event.TheVariants as event
+use Rattle.geo_base.specs.declared.event.Fate.TheVariants as fate
+use Rattle.geo_base.specs.Client.{Acted, Client, reconnect}
+use Rattle.geo_base.specs.Forwarding.{receipt, reset, take_packet}
+use Rattle.geo_base.specs.Getting.{get}
+use Rattle.geo_base.specs.Going.{go}
+use Rattle.geo_base.specs.Happening.{broker_does, client_does, does_planned, happens}
+use Rattle.geo_base.specs.Link.{next_packet}
+use Rattle.geo_base.specs.Plan.{Plan}
+use Rattle.geo_base.specs.Planned.{Planned, in_range, planned, planned_in}
+use Rattle.geo_base.specs.Reading.{read}
+use Rattle.geo_base.specs.Serving.{serve}
+use Rattle.geo_base.specs.declared.packet.Packet.{Packet}
+use Rattle.geo_base.specs.Setup.{Declared, Setup, declared_at}
+use Rattle.geo_base.specs.World.{Back, Forward, LinkName, ToBroker, ToClient, World, client_at, link_at, node, site, topic_at}
+
+-- an event in range has its plan
+in_plan : (s : Setup) (w : World) (e : Event) → in_range s e ≡ true → planned s w e ≡ planned_in s w e
+unfolding planned
+in_plan s w e h = ap (λ (b : Bool). if b then planned_in s w e else None) h
+
+abbrev pub at_node : ℕ → ℕ → Option LinkName → Plan → Planned
+at_node t x k p = record { topic = t; cluster = x; takes = k; plan = p }
+
+both : (a b : Bool) → a ≡ true → b ≡ true → (a && b) ≡ true
+both a b h k = ap (λ (c : Bool). c && b) h ∙ k
+
+pair_in : (s : Setup) (t x y : ℕ) → t < length s.topics → x < length s.clusters → y < length s.clusters
+    → (nat_lt t (length s.topics) && nat_lt x (length s.clusters) && nat_lt y (length s.clusters)) ≡ true
+pair_in s t x y a b c =
+    both (nat_lt t (length s.topics) && nat_lt x (length s.clusters)) (nat_lt y (length s.clusters))
+    (both (nat_lt t (length s.topics)) (nat_lt x (length s.clusters)) (lt-ltb t (length s.topics) a) (lt-ltb x (length s.clusters) b))
+    (lt-ltb y (length s.clusters) c)
+
+-- at brokers
+pub served : (s : Setup) (w : World) (x c : ℕ) (p : Plan) → x < length s.clusters
+    → p ≡ serve (site s (declared_at s c).topic x) (topic_at s w (declared_at s c).topic x) c (next_packet (link_at w.links (ToBroker c x)))
+    → broker_does s w (at_node (declared_at s c).topic x (Some (ToBroker c x)) p) ≡ happens s w (event.Serve x c)
+unfolding happens
+served s w x c p h is =
+    ap (λ (p : Plan). broker_does s w (at_node (declared_at s c).topic x (Some (ToBroker c x)) p)) is
+    ∙ sym (ap (does_planned s w) (in_plan s w (event.Serve x c) (lt-ltb x (length s.clusters) h)))
+
+pub was_reset : (s : Setup) (w : World) (t x y : ℕ) (p : Plan) → t < length s.topics → x < length s.clusters → y < length s.clusters
+    → p ≡ reset (site s t x) (topic_at s w t x) y
+    → broker_does s w (at_node t x None p) ≡ happens s w (event.Reset t x y)
+unfolding happens
+was_reset s w t x y p a b c is =
+    ap (λ (p : Plan). broker_does s w (at_node t x None p)) is ∙ sym (ap (does_planned s w) (in_plan s w (event.Reset t x y) (pair_in s t x y a b c)))
+
+pub was_read : (s : Setup) (w : World) (t x y : ℕ) (p : Plan) → t < length s.topics → x < length s.clusters → y < length s.clusters
+    → p ≡ read (site s t x) (topic_at s w t x) y
+    → broker_does s w (at_node t x None p) ≡ happens s w (event.Read t x y)
+unfolding happens
+was_read s w t x y p a b c is =
+    ap (λ (p : Plan). broker_does s w (at_node t x None p)) is ∙ sym (ap (does_planned s w) (in_plan s w (event.Read t x y) (pair_in s t x y a b c)))
+
+pub was_taken : (s : Setup) (w : World) (t x y : ℕ) (p : Plan) → t < length s.topics → x < length s.clusters → y < length s.clusters
+    → p ≡ take_packet (site s t y) (topic_at s w t y) x fate.Good (next_packet (link_at w.links (Forward (node s t x) y)))
+    → broker_does s w (at_node t y (Some (Forward (node s t x) y)) p) ≡ happens s w (event.Take t x y fate.Good)
+unfolding happens
+was_taken s w t x y p a b c is =
+    ap (λ (p : Plan). broker_does s w (at_node t y (Some (Forward (node s t x) y)) p)) is
+    ∙ sym (ap (does_planned s w) (in_plan s w (event.Take t x y fate.Good) (pair_in s t x y a b c)))
+
+pub was_received : (s : Setup) (w : World) (t x y : ℕ) (p : Plan) → t < length s.topics → x < length s.clusters → y < length s.clusters
+    → p ≡ receipt (site s t x) (topic_at s w t x) y fate.Good (next_packet (link_at w.links (Back (node s t x) y)))
+    → broker_does s w (at_node t x (Some (Back (node s t x) y)) p) ≡ happens s w (event.Receipt t x y fate.Good)
+unfolding happens
+was_received s w t x y p a b c is =
+    ap (λ (p : Plan). broker_does s w (at_node t x (Some (Back (node s t x) y)) p)) is
+    ∙ sym (ap (does_planned s w) (in_plan s w (event.Receipt t x y fate.Good) (pair_in s t x y a b c)))
+
+-- at clients
+pub went : (s : Setup) (w : World) (c : ℕ) (a : Acted) → a ≡ go s (declared_at s c) (client_at s w c)
+    → client_does s w c None a ≡ happens s w (event.Go c)
+unfolding happens
+went s w c a is = ap (λ (a : Acted). client_does s w c None a) is
+
+pub reconnected : (s : Setup) (w : World) (c : ℕ) (a : Acted) → a ≡ reconnect s (declared_at s c) (client_at s w c)
+    → client_does s w c None a ≡ happens s w (event.Reconnect c)
+unfolding happens
+reconnected s w c a is = ap (λ (a : Acted). client_does s w c None a) is
+
+pub got : (s : Setup) (w : World) (c : ℕ) (a : Acted)
+    → a ≡ get (declared_at s c) (client_at s w c) (next_packet (link_at w.links (ToClient c (client_at s w c).cluster)))
+    → client_does s w c (Some (ToClient c (client_at s w c).cluster)) a ≡ happens s w (event.Get c)
+unfolding happens
+got s w c a is = ap (λ (a : Acted). client_does s w c (Some (ToClient c (client_at s w c).cluster)) a) is
+
+-- a client answers nothing to what it takes
+pub got_silently : (d : Declared) (k : Client) (o : Option Packet) (a : Acted) → a ≡ get d k o → a.sent ≡ []
+unfolding get
+got_silently d k None a is = ap (λ (a : Acted). a.sent) is
+got_silently d k (Some p) a is = ap (λ (a : Acted). a.sent) is

@@ -1,0 +1,15 @@
+pub mod Message
+pub mod Built
+pub mod ProducerLine
+pub mod Counted
+pub mod Unsent
+pub mod Room
+pub mod Steps
+pub mod Fits
+pub mod Refusing
+pub mod Positions
+pub mod Worlds
+pub mod Books
+pub mod Actions
+pub mod Inputs
+pub mod Machines
