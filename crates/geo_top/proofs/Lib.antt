@@ -19,3 +19,5 @@ pub mod Places
 pub mod Doing
 pub mod Running
 pub mod Marks
+pub mod Reporting
+pub mod Answering

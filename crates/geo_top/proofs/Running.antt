@@ -16,6 +16,7 @@ use Rattle.world_laws.specs.Within.{WorldPlaces, WorldWithin}
 use Rattle.world_laws.proofs.Bounds.{event_within, opening_within, within_more}
 use Rattle.world_laws.proofs.Places.{event_places, opening_places}
 use Rattle.script.specs.Scenario.{IsStep}
+use Rattle.geo_top.specs.Worlds.{IsWorldOf}
 use Rattle.geo_top.specs.Machines.{IsRun, WorldFits, IsStepOf, done_steps, uncounted}
 
 -- what happens is the same, whatever the sum was
@@ -137,3 +138,6 @@ take_whole [] zero h = refl
 take_whole [] (suc i) h = refl
 take_whole (e ∷ es) zero h = absurd (omega arith)
 take_whole (e ∷ es) (suc i) h = ap (λ (fs : List Step). e ∷ fs) (take_whole es i (omega arith))
+
+pub world_of : (s : Setup) (w : World) → WorldPlaces s w → IsWorldOf s w
+world_of s w p = record { brokers = p.brokers; clients = p.clients }

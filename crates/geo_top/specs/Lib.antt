@@ -13,3 +13,6 @@ pub mod Books
 pub mod Actions
 pub mod Inputs
 pub mod Machines
+pub mod Commands
+pub mod Statuses
+pub mod Outputs

@@ -1,5 +1,6 @@
 //! What an accepted script says.
-ghost use Rattle.std.specs.Prelude.{◌≡◌, ◌<◌, ◌≤◌, ◌^◌, [], ◌∷◌, ◌++◌, length, All, OnOk, OnErr};
+ghost use Rattle.std.specs.Prelude.{◌≡◌, ◌<◌, ◌≤◌, ◌^◌, true, [], ◌∷◌, ◌++◌, length, All, OnOk, OnErr};
+ghost use Rattle.geo_base.specs.Name.{is_name};
 ghost use Rattle.geo_base.specs.Scripted.{is_produce, IsScripted};
 ghost use Rattle.geo_base.specs.Setup.{Declared};
 ghost use Rattle.script.specs.Scenario.{IsClientLine, IsClient, IsStep, IsScenario};
@@ -79,16 +80,21 @@ pub struct ClientDecl {
 }
 
 impl Model for ClientDecl {
+    ghost use Rattle.std.specs.Prelude.{◌≡◌, true};
+    ghost use Rattle.geo_base.specs.Name.{is_name};
     ghost use Rattle.geo_base.specs.Setup.{Declared};
 
     ghost Value = { Declared };
 
     ghost view = { λ c. record { name = c.name; topic = c.topic; cluster = c.cluster; lines = c.lines } };
+
+    ghost invariant = { λ c. is_name c.name ≡ true };
 }
 
 impl ClientDecl {
     /// A client without lines; takes no memory.
     pub(crate) fn new(alloc: Global, name: ProducerName, topic: u32, cluster: u32) -> ClientDecl
+        requires { is_name name ≡ true }
         ensures { result ≡ record { name = name; topic = topic; cluster = cluster; lines = [] } }
     {
         ClientDecl {
@@ -110,7 +116,8 @@ impl ClientDecl {
 
     /// The client's name.
     pub fn name(&self) -> &ProducerName
-        ensures { result.now ≡ self.now.name }
+        ensures name { result.now ≡ self.now.name }
+        ensures is_one { is_name self.now.name ≡ true }
     {
         &self.name
     }

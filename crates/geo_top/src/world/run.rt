@@ -3,6 +3,7 @@ ghost use Rattle.std.specs.Prelude.{◌≡◌, All, IfOk, OnOk};
 ghost use Rattle.geo_base.specs.Run.{run as run_of};
 ghost use Rattle.geo_base.specs.Scripted.{IsScripted};
 ghost use Rattle.geo_top.specs.Machines.{IsStepOf, WorldFits, uncounted};
+ghost use Rattle.geo_top.specs.Worlds.{IsWorldOf};
 ghost use Rattle.script.specs.Scenario.{IsStep};
 
 use crate::client::setup::Declarations;
@@ -12,11 +13,12 @@ use geo_base::memory::Memory;
 use std::alloc::Global;
 
 /// The world after a schedule.
-#[tactic(auto, using(crate::proofs::Running::run_begins, crate::proofs::Running::run_ends))]
+#[tactic(auto, using(crate::proofs::Running::run_begins))]
 pub fn run(alloc: Global, setup: &Declarations, steps: &[Step]) -> Result<World, Memory>
     requires setup { IsScripted setup.now }
     requires scripted { All (IsStep setup.now) steps.now }
-    ensures { IfOk result (λ w. w.world ≡ uncounted (run_of setup.now steps.now)) }
+    ensures world { IfOk result (λ w. w.world ≡ uncounted (run_of setup.now steps.now)) }
+    ensures places { IfOk result (λ w. IsWorldOf setup.now w.world) }
 {
     let mut world = World::new(alloc, setup)?;
     for step in steps {

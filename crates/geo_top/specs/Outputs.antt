@@ -1,0 +1,83 @@
+-- What the program is to write.
+use Rattle.std.specs.Prelude.{◌≡◌, ◌⊎◌, ℕ, nat_lt, ⊤, if◌then◌else◌, List, [], length, take, Option, Some, None, IfSome, Result, Ok, Err, slice_get}
+use Rattle.geo_base.specs.declared.event.Event.{Event}
+use Rattle.geo_base.specs.declared.event.Step.TheVariants as step
+use Rattle.geo_base.specs.Planned.{planned}
+use Rattle.geo_base.specs.Report.{report}
+use Rattle.geo_base.specs.Run.{run}
+use Rattle.geo_base.specs.Safe.{IsOnce}
+use Rattle.geo_base.specs.World.{World, broker_at}
+use Rattle.geo_io.specs.Faults.{Rose}
+use Rattle.geo_io.specs.Sink.{Gains}
+use Rattle.geo_io.specs.Source.{LongerThan}
+use Rattle.script.specs.Rules.{script_of}
+use Rattle.script.specs.Script.{Fault, Script}
+use Rattle.world_laws.specs.Moments.{partly_written}
+use Rattle.geo_top.specs.declared.top.answer.Answer.{Answer}
+use Rattle.geo_top.specs.declared.top.command.Command.{Command}
+use Rattle.geo_top.specs.declared.top.command.Command.TheVariants as command
+use Rattle.geo_top.specs.declared.top.status.Status.{Status}
+use Rattle.geo_top.specs.declared.top.status.Status.TheVariants as status
+use Rattle.geo_top.specs.Statuses.{refusal_line}
+
+-- the bytes of the report of a script's run
+abbrev pub report_of : Script → List ℕ
+report_of n = report n.setup (run n.setup n.steps)
+
+abbrev pub refused : Status → Answer
+refused s = record { status = s; bytes = refusal_line s }
+
+abbrev pub answer_to : Result Script Fault → Answer
+answer_to (Ok n) = record { status = status.Ok; bytes = report_of n }
+answer_to (Err f) = refused (status.BadScript f.line f.rule)
+
+-- to an input: 67,108,864 bytes at most are read (limit 1; own, so that reading ends)
+abbrev pub answer_for : Option Command → List ℕ → Answer
+answer_for None input = refused status.Usage
+answer_for (Some command.Run) input = if nat_lt 67108864 (length input) then refused (status.TooLarge 1) else answer_to (script_of input)
+
+-- what went out: the whole of an answer, nothing for want of memory, and where the sink failed a beginning
+abbrev pub WentOut : Answer → Status → Option (List ℕ) → Option (List ℕ) → Type 0
+WentOut due status.ReadFault old new = Gains old new (refusal_line status.ReadFault)
+WentOut due status.OutOfMemory old new = Gains old new []
+WentOut due status.WriteFault old new =
+    (n : ℕ) × (Gains old new (take n due.bytes) ⊎ Gains old new (take n (refusal_line status.ReadFault)))
+WentOut due s old new = Gains old new due.bytes
+
+-- a refusal writes its line
+abbrev pub WritesLine : Status → Option (List ℕ) → Option (List ℕ) → Type 0
+WritesLine status.Ok old new = ⊤
+WritesLine status.WriteFault old new = ⊤
+WritesLine s old new = Gains old new (refusal_line s)
+
+-- Once and in order at every moment of the run of a script: in the topic of every broker, when a beginning of the steps is done,
+-- and when a beginning of the durable writes of the next event is done too.
+pub record IsAlwaysOnce (n : Script) : Type 0 where
+  pub between : (k z : ℕ) → IsOnce (broker_at (run n.setup (take k n.steps)) z)
+  pub within : (k j z : ℕ) (e : Event) → slice_get n.steps k ≡ Some (step.Plain e)
+      → let w : World = run n.setup (take k n.steps) in IsOnce (broker_at (partly_written n.setup w j (planned n.setup w e)) z)
+
+-- What is known of an answer that was made, by its status: which words and which faults of the source it had for its cause, and
+-- that a refusal is its line.
+abbrev pub IsCaused : Option Command → ℕ → ℕ → Option (List ℕ) → Status → Type 0
+IsCaused c before now left status.Ok = c ≡ Some command.Run
+IsCaused c before now left status.Usage = c ≡ None
+IsCaused c before now left (status.BadScript line rule) = c ≡ Some command.Run
+IsCaused c before now left status.ReadFault = (c ≡ Some command.Run) × Rose before now
+IsCaused c before now left (status.TooLarge limit) = (c ≡ Some command.Run) × (limit ≡ 1) × LongerThan left 67108864
+IsCaused c before now left status.WriteFault = ⊥
+IsCaused c before now left status.OutOfMemory = ⊥
+
+abbrev pub IsLine : Status → List ℕ → Type 0
+IsLine status.Ok bytes = ⊤
+IsLine s bytes = bytes ≡ refusal_line s
+
+abbrev pub UnlessReadFault : Status → Type 0 → Type 0
+UnlessReadFault status.ReadFault P = ⊤
+UnlessReadFault s P = P
+
+-- whatever the source held
+pub record IsFounded (c : Option Command) (before now : ℕ) (left : Option (List ℕ)) (a : Answer) : Type 0 where
+  pub cause : IsCaused c before now left a.status
+  pub line : IsLine a.status a.bytes
+  pub due : IfSome left (λ input. UnlessReadFault a.status (a ≡ answer_for c input))

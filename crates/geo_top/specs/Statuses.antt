@@ -1,0 +1,31 @@
+-- How the program ends (own).
+use Rattle.std.specs.Prelude.{◌≡◌, ℕ, ⊤, List, [], ◌∷◌, ◌++◌, codes, decimal}
+use Rattle.geo_top.specs.declared.top.status.Status.{Status}
+use Rattle.geo_top.specs.declared.top.status.Status.TheVariants as status
+
+-- the number that the program ends with
+abbrev pub status_number : Status → ℕ
+status_number status.Ok = 0
+status_number status.Usage = 2
+status_number (status.BadScript line rule) = 3
+status_number status.ReadFault = 4
+status_number status.WriteFault = 5
+status_number (status.TooLarge limit) = 6
+status_number status.OutOfMemory = 8
+
+-- the one line that a refusal writes. Want of memory writes nothing, and a write fault has no line of its own
+abbrev pub refusal_line : Status → List ℕ
+refusal_line status.Ok = []
+refusal_line status.Usage = codes "usage: geo run, live WORKERS TURNS, big NUMBER, save, resume, audit\n"
+refusal_line (status.BadScript line rule) = codes "bad script line " ++ (decimal line ++ (codes " rule " ++ (decimal rule ++ 10 ∷ [])))
+refusal_line status.ReadFault = codes "read fault\n"
+refusal_line status.WriteFault = []
+refusal_line (status.TooLarge limit) = codes "too large " ++ (decimal limit ++ 10 ∷ [])
+refusal_line status.OutOfMemory = []
+
+-- a status is the one that is due, unless the source, the sink or memory failed
+abbrev pub IsDue : Status → Status → Type 0
+IsDue due status.ReadFault = ⊤
+IsDue due status.WriteFault = ⊤
+IsDue due status.OutOfMemory = ⊤
+IsDue due s = s ≡ due

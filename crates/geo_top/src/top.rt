@@ -1,0 +1,5 @@
+//! The program, as one call over a source and a sink.
+pub mod alone;
+pub mod answer;
+pub mod command;
+pub mod status;

@@ -1,0 +1,59 @@
+//! The top call.
+ghost use Rattle.std.specs.Prelude.{◌≡◌, ℕ, Some, None, Err, IfSome, IsOkAnd};
+ghost use Rattle.geo_base.specs.Report.{report};
+ghost use Rattle.geo_base.specs.Run.{run};
+ghost use Rattle.geo_io.specs.Faults.{Rose};
+ghost use Rattle.geo_io.specs.Sink.{Gains};
+ghost use Rattle.geo_io.specs.Source.{LongerThan};
+ghost use Rattle.geo_top.specs.Commands.{command_of};
+ghost use Rattle.geo_top.specs.Outputs.{IsAlwaysOnce, WentOut, WritesLine, answer_for};
+ghost use Rattle.geo_top.specs.Statuses.{IsDue};
+ghost use Rattle.geo_top.specs.declared.top.command.Command.TheVariants as command;
+ghost use Rattle.script.specs.Rules.{script_of};
+
+use crate::top::answer::answer_to_words;
+use crate::top::command::Word;
+use crate::top::status::Status;
+use geo_io::{Sink, Source, write_all};
+use std::alloc::Global;
+
+/// The whole program but for the words of `live`: it reads a script from the source, does its run, and writes the report to the
+/// sink, or the one line of a refusal. It takes no runtime and starts no thread.
+///
+/// The whole output is made before its first byte is written. The first of these refusals wins: words that are no command; a
+/// fault of the source, or more than 67,108,864 bytes; a line of the script that breaks a rule; a fault of the sink.
+#[tactic(auto, using(crate::proofs::Answering::ok_report, crate::proofs::Answering::ok_once, crate::proofs::Answering::caused, crate::proofs::Answering::bad_script, crate::proofs::Answering::no_command, crate::proofs::Answering::due, crate::proofs::Answering::whole_out, crate::proofs::Answering::part_out, crate::proofs::Answering::nothing_out, crate::proofs::Answering::nothing_gained, crate::proofs::Answering::free_due, crate::proofs::Answering::written_due, crate::proofs::Answering::line_out))]
+pub fn geo_alone<S: Source, K: Sink>(alloc: Global, words: &[Word], source: &mut S, sink: &mut K) -> Status
+    // With Ok, what went out is the report of the written machine's run over the script that the source held,
+    ensures report { result ≡ Status.Ok → IfSome (S.left source.old) (λ input. IsOkAnd (script_of input) (λ n.
+        Gains (K.held sink.old) (K.held sink.new) (report n.setup (run n.setup n.steps)))) }
+
+    // and at every moment of that run each topic has its messages once and in order.
+    ensures once { result ≡ Status.Ok → IfSome (S.left source.old) (λ input. IsOkAnd (script_of input) IsAlwaysOnce) }
+
+    // Each refusal comes only for its cause.
+    ensures usage { result ≡ Status.Usage → command_of words.now ≡ None }
+    ensures read { result ≡ Status.ReadFault
+        → (command_of words.now ≡ Some command.Run) × Rose (S.faults source.old) (S.faults source.new) }
+    ensures large { (limit : ℕ) → result ≡ Status.TooLarge limit → (limit ≡ 1) × LongerThan (S.left source.old) 67108864 }
+    ensures script { (line rule : ℕ) → result ≡ Status.BadScript line rule
+        → IfSome (S.left source.old) (λ input. script_of input ≡ Err (record { line = line; rule = rule })) }
+    ensures write { result ≡ Status.WriteFault → Rose (K.faults sink.old) (K.faults sink.new) }
+
+    // What is due comes, unless the source, the sink or memory fails.
+    ensures no_command { command_of words.now ≡ None → IsDue Status.Usage result }
+    ensures due { IfSome (S.left source.old) (λ input. IsDue (answer_for (command_of words.now) input).status result) }
+
+    // What goes out.
+    ensures out { IfSome (S.left source.old) (λ input.
+        WentOut (answer_for (command_of words.now) input) result (K.held sink.old) (K.held sink.new)) }
+    ensures line { WritesLine result (K.held sink.old) (K.held sink.new) }
+{
+    let Ok(answer) = answer_to_words(alloc, words, source) else {
+        return Status::OutOfMemory;
+    };
+    match write_all(sink, answer.bytes.as_slice()) {
+        Ok(()) => answer.status,
+        Err(_) => Status::WriteFault,
+    }
+}

@@ -1,0 +1,42 @@
+//! How the program ends.
+ghost use Rattle.std.specs.Prelude.{◌≡◌};
+ghost use Rattle.geo_top.specs.Statuses.{status_number};
+
+/// How the program ends: with its output, or with a refusal.
+#[derive(Clone, Copy, Debug, Drop, PartialEq, Eq)]
+pub enum Status {
+    /// The whole output went out.
+    Ok,
+    /// The words are no command.
+    Usage,
+    /// The first line of the script that breaks a rule, counted from 1, and the lowest rule that it breaks.
+    BadScript {
+        line: u64,
+        rule: u32,
+    },
+    /// The source failed.
+    ReadFault,
+    /// The sink failed: the output went out in part.
+    WriteFault,
+    /// The limit of this number is passed: 1 is that of the bytes of an input.
+    TooLarge(u32),
+    /// A growth of memory was refused, and nothing went out.
+    OutOfMemory,
+}
+
+impl Status {
+    /// The number that the program ends with (own).
+    pub fn number(self) -> u8
+        ensures { result ≡ status_number self }
+    {
+        match self {
+            Status::Ok => 0,
+            Status::Usage => 2,
+            Status::BadScript { .. } => 3,
+            Status::ReadFault => 4,
+            Status::WriteFault => 5,
+            Status::TooLarge(_) => 6,
+            Status::OutOfMemory => 8,
+        }
+    }
+}
