@@ -50,9 +50,6 @@ pub stands_here : {X : Type 0} (xs ys : List X) (x : X) → Stands (xs ++ x ∷ 
 stands_here [] ys x = record { place = zero; is = refl }
 stands_here (a ∷ xs) ys x = stands_next a (xs ++ x ∷ ys) x (stands_here xs ys x)
 
-pub stands_head : {X : Type 0} (xs : List X) (x : X) → Stands (x ∷ xs) x
-stands_head xs x = record { place = zero; is = refl }
-
 -- a list about one of its places
 pub record IsSplit {X : Type 0} (xs : List X) (i : ℕ) (x : X) : Type 0 where
   pub before : List X

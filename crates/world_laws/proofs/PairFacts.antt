@@ -74,9 +74,6 @@ same_grows es = record { more = []; is = sym (append-nil es) }
 pub grows_get : (es es' : List Entry) (g : Grows es es') (i : ℕ) (e : Entry) → slice_get es i ≡ Some e → slice_get es' i ≡ Some e
 grows_get es es' g i e h = let P : List Entry → Type 0 = λ l. slice_get l i ≡ Some e in subst P (sym g.is) (get_left es g.more i e h)
 
-pub grows_stands : (es es' : List Entry) → Grows es es' → (e : Entry) → Stands es e → Stands es' e
-grows_stands es es' g e s = record { place = s.place; is = grows_get es es' g s.place e s.is }
-
 pub grows_within : (es es' : List Entry) (g : Grows es es') (i : ℕ) (e : Entry) → i < length es → slice_get es' i ≡ Some e → slice_get es i ≡ Some e
 grows_within es es' g i e lt h =
     let P : List Entry → Type 0 = λ l. slice_get l i ≡ Some e in sym (get_within es g.more i lt) ∙ subst P g.is h
