@@ -22,7 +22,7 @@ use Rattle.world_laws.specs.Within.{ClientWithin, SenderWithin, SendersWithin, S
 use Rattle.world_laws.proofs.Calm.{sender_more, shape_raises}
 use Rattle.world_laws.proofs.EventWalk.{HasShape, planned_shape}
 use Rattle.world_laws.proofs.Frames.{at_copies, at_set, cell_set}
-use Rattle.world_laws.proofs.Once.{get_push}
+use Rattle.world_laws.proofs.Members.{get_push}
 use Rattle.world_laws.proofs.Shapes.{Shape}
 use Rattle.world_laws.proofs.Walk.{on_if}
 
