@@ -240,6 +240,6 @@ founded_script b n left bytes a is short told =
     due_of (Some input) told =
         let small : nat_lt 67108864 (length bytes) ≡ false = grind (arith, nat_tests, short) in
         let same : answer_to (script_of bytes) ≡ answer_for (Some command.Run) bytes =
-          ap (λ (t : Bool). if t then refused (status.TooLarge 1) else answer_to (script_of bytes)) (sym small) in
+        ap (λ (t : Bool). if t then refused (status.TooLarge 1) else answer_to (script_of bytes)) (sym small) in
         subst (λ (input : List ℕ). UnlessReadFault (answer_to (script_of bytes)).status (answer_to (script_of bytes) ≡ answer_for (Some command.Run) input)) told
         (due_answer (script_of bytes) (answer_for (Some command.Run) bytes) same)

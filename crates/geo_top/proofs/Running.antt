@@ -109,9 +109,9 @@ run_begins s w is =
 goes_on_by : (s : Setup) (es : List Step) (w w' : World) (e : Event) → IsRun s es w → w' ≡ uncounted (happens s w e) → IsRun s (es ++ step.Plain e ∷ []) w'
 goes_on_by s es w w' e r is = subst (λ (w : World). IsRun s (es ++ step.Plain e ∷ []) w) (sym is) (record {
   world = ap (λ (w : World). uncounted (happens s w e)) r.world
-    ∙ (happens_uncounted s (done_steps s (opening_world s) es) e ∙ ap uncounted (sym (done_push s (opening_world s) es e)));
+      ∙ (happens_uncounted s (done_steps s (opening_world s) es) e ∙ ap uncounted (sym (done_push s (opening_world s) es e)));
   within = uncounted_within s _ (happens s w e)
-    (within_more s (length es + 1) (length (es ++ step.Plain e ∷ [])) (happens s w e) (omega (arith, length-append es (step.Plain e ∷ []))) (event_within s (length es) w e r.within));
+      (within_more s (length es + 1) (length (es ++ step.Plain e ∷ [])) (happens s w e) (omega (arith, length-append es (step.Plain e ∷ []))) (event_within s (length es) w e r.within));
   places = uncounted_places s (happens s w e) (event_places s w e r.places);
 })
 

@@ -28,7 +28,7 @@ cell_back : (m : List (List Link)) (i j : ℕ) (p : Packet)
 cell_back m i j p =
     let row = slice_index_or m i [] in
     set_back m i (slice_set row j (sent_on (slice_index_or row j no_link) p)) [] (λ r. slice_set r j (unsent (slice_index_or r j no_link)))
-      (set_back row j (sent_on (slice_index_or row j no_link) p) no_link unsent (back_one (slice_index_or row j no_link) p))
+    (set_back row j (sent_on (slice_index_or row j no_link) p) no_link unsent (back_one (slice_index_or row j no_link) p))
 
 pub undone : (k : LinkName) (stamp : ℕ) (o : Out) (ls : Links) → unsent_at k (sent_out k stamp o ls) ≡ ls
 undone (Forward n y) stamp o ls = ap (λ m. record ls { forward = m }) (cell_back ls.forward n y (stamped stamp o))

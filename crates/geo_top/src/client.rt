@@ -14,8 +14,8 @@ pub mod prepared;
 pub mod setup;
 
 use crate::client::prepared::ClientPrepared;
-use script::ClientDecl;
 use geo_base::memory::Memory;
+use script::ClientDecl;
 use std::alloc::Global;
 use std::marker::Model;
 

@@ -30,22 +30,10 @@ use std::marker::Model;
 #[derive(Clone, Copy, Drop)]
 pub enum Input {
     Nothing,
-    Forward {
-        node: usize,
-        target: u32,
-    },
-    Back {
-        node: usize,
-        target: u32,
-    },
-    ToBroker {
-        client: u32,
-        cluster: u32,
-    },
-    ToClient {
-        client: u32,
-        cluster: u32,
-    },
+    Forward { node: usize, target: u32 },
+    Back { node: usize, target: u32 },
+    ToBroker { client: u32, cluster: u32 },
+    ToClient { client: u32, cluster: u32 },
 }
 
 /// A link between brokers by the number of the sending broker and the other cluster, one of a client by client and cluster.
@@ -67,12 +55,17 @@ impl Model for Links {
 
 impl Links {
     /// Empty links of so many brokers, clusters and clients.
-    pub fn new(alloc: Global, nodes: usize, clusters: usize, clients: usize) -> Result<Links, Memory>
+    pub fn new(
+        alloc: Global,
+        nodes: usize,
+        clusters: usize,
+        clients: usize,
+    ) -> Result<Links, Memory>
         ensures { IfOk result (λ l. l ≡ record {
-            forward = table nodes clusters;
-            back = table nodes clusters;
-            to_broker = table clients clusters;
-            to_client = table clients clusters
+          forward = table nodes clusters;
+          back = table nodes clusters;
+          to_broker = table clients clusters;
+          to_client = table clients clusters;
         }) }
     {
         Ok(Links {
@@ -123,8 +116,12 @@ impl Links {
             Input::Nothing => 0,
             Input::Forward { node, target } => stamp_of(self.forward.next(node, target as usize)),
             Input::Back { node, target } => stamp_of(self.back.next(node, target as usize)),
-            Input::ToBroker { client, cluster } => stamp_of(self.to_broker.next(client as usize, cluster as usize)),
-            Input::ToClient { client, cluster } => stamp_of(self.to_client.next(client as usize, cluster as usize)),
+            Input::ToBroker { client, cluster } => stamp_of(
+                self.to_broker.next(client as usize, cluster as usize),
+            ),
+            Input::ToClient { client, cluster } => stamp_of(
+                self.to_client.next(client as usize, cluster as usize),
+            ),
         }
     }
 
@@ -136,14 +133,25 @@ impl Links {
             Input::Nothing => {}
             Input::Forward { node, target } => self.forward.take(node, target as usize),
             Input::Back { node, target } => self.back.take(node, target as usize),
-            Input::ToBroker { client, cluster } => self.to_broker.take(client as usize, cluster as usize),
-            Input::ToClient { client, cluster } => self.to_client.take(client as usize, cluster as usize),
+            Input::ToBroker { client, cluster } => self
+                .to_broker
+                .take(client as usize, cluster as usize),
+            Input::ToClient { client, cluster } => self
+                .to_client
+                .take(client as usize, cluster as usize),
         }
     }
 
     /// Sends what a broker sends in an event, whole or not at all.
     #[tactic(auto, using(crate::proofs::Undoing::undone))]
-    pub fn deliver_from_broker(&mut self, setup: &Declarations, topic: u32, cluster: u32, stamp: Stamp, mut sent: Vec<Outgoing>) -> Result<(), Memory>
+    pub fn deliver_from_broker(
+        &mut self,
+        setup: &Declarations,
+        topic: u32,
+        cluster: u32,
+        stamp: Stamp,
+        mut sent: Vec<Outgoing>,
+    ) -> Result<(), Memory>
         requires { length setup.now.clusters ≤ CLUSTERS }
         ensures ok { OnOk result (self.new ≡ delivered (from_broker setup.now topic cluster) stamp sent.items self.old) }
         ensures err { OnErr result (self.new ≡ self.old) }
@@ -163,7 +171,14 @@ impl Links {
         }
     }
 
-    fn send_from_broker(&mut self, setup: &Declarations, topic: u32, cluster: u32, stamp: Stamp, out: Out) -> Result<(), Memory>
+    fn send_from_broker(
+        &mut self,
+        setup: &Declarations,
+        topic: u32,
+        cluster: u32,
+        stamp: Stamp,
+        out: Out,
+    ) -> Result<(), Memory>
         requires clusters { length setup.now.clusters ≤ CLUSTERS }
         requires fits { is_outgoing out ≡ true }
         ensures ok { OnOk result (self.new ≡ sent_out (from_broker setup.now topic cluster out.to) stamp out self.old) }
@@ -176,10 +191,18 @@ impl Links {
         };
         match out.to {
             Peer::Forward(target) | Peer::Broker(target) => {
-                self.forward.send(node(setup, topic, cluster), target as usize, ForwardPacket::new(packet))
+                self.forward.send(
+                    node(setup, topic, cluster),
+                    target as usize,
+                    ForwardPacket::new(packet),
+                )
             }
-            Peer::Back(source) => self.back.send(node(setup, topic, source), cluster as usize, packet),
-            Peer::Client(client) => self.to_client.send(client as usize, cluster as usize, packet),
+            Peer::Back(source) => self
+                .back
+                .send(node(setup, topic, source), cluster as usize, packet),
+            Peer::Client(client) => self
+                .to_client
+                .send(client as usize, cluster as usize, packet),
         }
     }
 
@@ -188,15 +211,24 @@ impl Links {
         ensures { self.new ≡ unsent_at (from_broker setup.now topic cluster to) self.old }
     {
         match to {
-            Peer::Forward(target) | Peer::Broker(target) => self.forward.unsend(node(setup, topic, cluster), target as usize),
-            Peer::Back(source) => self.back.unsend(node(setup, topic, source), cluster as usize),
+            Peer::Forward(target) | Peer::Broker(target) => self
+                .forward
+                .unsend(node(setup, topic, cluster), target as usize),
+            Peer::Back(source) => self
+                .back
+                .unsend(node(setup, topic, source), cluster as usize),
             Peer::Client(client) => self.to_client.unsend(client as usize, cluster as usize),
         }
     }
 
     /// Sends what a client sends in an event, whole or not at all.
     #[tactic(auto, using(crate::proofs::Undoing::undone))]
-    pub fn deliver_from_client(&mut self, client: u32, stamp: Stamp, mut sent: Vec<ClientOut>) -> Result<(), Memory>
+    pub fn deliver_from_client(
+        &mut self,
+        client: u32,
+        stamp: Stamp,
+        mut sent: Vec<ClientOut>,
+    ) -> Result<(), Memory>
         ensures ok { OnOk result (self.new ≡ delivered (from_client client) stamp sent.items self.old) }
         ensures err { OnErr result (self.new ≡ self.old) }
     {
@@ -232,7 +264,8 @@ impl Links {
     fn unsend_from_client(&mut self, client: u32, to: Peer)
         ensures { self.new ≡ unsent_at (from_client client to) self.old }
     {
-        self.to_broker.unsend(client as usize, peer_number(to) as usize);
+        self.to_broker
+            .unsend(client as usize, peer_number(to) as usize);
     }
 }
 
@@ -251,7 +284,8 @@ fn peer_number(peer: Peer) -> u32
     ensures { (c : ℕ) → from_client c peer ≡ ToBroker c result }
 {
     match peer {
-        Peer::Forward(number) | Peer::Back(number) | Peer::Client(number) | Peer::Broker(number) => number,
+        Peer::Forward(number) | Peer::Back(number) | Peer::Client(number) | Peer::Broker(number) =>
+            number,
     }
 }
 

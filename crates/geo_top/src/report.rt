@@ -14,7 +14,6 @@ pub mod words;
 
 use crate::client::Client;
 use crate::client::setup::Declarations;
-use script::ClientDecl;
 use crate::report::lines::{client_line, entry_line, head_line, place_line, sender_line};
 use crate::report::positions::Positions;
 use crate::report::view::{BrokerView, WorldView};
@@ -22,6 +21,7 @@ use geo_base::bytes::Blob;
 use geo_base::limits::CLUSTERS;
 use geo_base::memory::Memory;
 use geo_base::name::ClusterName;
+use script::ClientDecl;
 use std::alloc::Global;
 
 /// Appends the report of a world; nothing where memory is wanting.

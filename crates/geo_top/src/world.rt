@@ -47,18 +47,18 @@ impl Model for World {
     ghost Value = { Machine };
 
     ghost view = { λ w. record {
-        world = record {
-          brokers = w.books.brokers;
-          clients = w.clients.items;
-          links = w.links;
-          broker_clocks = w.broker_clocks.items;
-          client_clocks = w.client_clocks.items;
-          events = w.events;
-          idle = w.idle;
-          rounds = w.rounds;
-          frame_bytes = 0;
-        };
-        rooms = w.books.rooms;
+      world = record {
+        brokers = w.books.brokers;
+        clients = w.clients.items;
+        links = w.links;
+        broker_clocks = w.broker_clocks.items;
+        client_clocks = w.client_clocks.items;
+        events = w.events;
+        idle = w.idle;
+        rounds = w.rounds;
+        frame_bytes = 0;
+      };
+      rooms = w.books.rooms;
     } };
 }
 
@@ -169,7 +169,8 @@ impl World {
         let taken = self.links.stamp(input);
         let stamp = next_stamp(self.broker_clocks[node], taken);
         let sent = prepared.take_sent(alloc);
-        self.links.deliver_from_broker(setup, topic, cluster, Stamp::new(stamp), sent)?;
+        self.links
+            .deliver_from_broker(setup, topic, cluster, Stamp::new(stamp), sent)?;
         self.links.take(input);
         self.books.commit(node, setup.per_ledger(), prepared);
         self.broker_clocks[node] = stamp;
@@ -197,7 +198,8 @@ impl World {
         }
         let stamp = next_stamp(self.client_clocks[client as usize], 0);
         let sent = prepared.take_sent(alloc);
-        self.links.deliver_from_client(client, Stamp::new(stamp), sent)?;
+        self.links
+            .deliver_from_client(client, Stamp::new(stamp), sent)?;
         self.clients[client as usize].commit(prepared);
         self.client_clocks[client as usize] = stamp;
         self.events += 1;
@@ -206,7 +208,13 @@ impl World {
 
     /// Does at a client what was prepared there, which sends nothing, and takes the next packet from the broker at a cluster.
     #[tactic(auto, unfolding(geo_base::specs::Happening::client_does))]
-    fn finish_taking(&mut self, setup: &Declarations, client: u32, cluster: u32, prepared: ClientPrepared)
+    fn finish_taking(
+        &mut self,
+        setup: &Declarations,
+        client: u32,
+        cluster: u32,
+        prepared: ClientPrepared,
+    )
         requires world { WorldFits setup.now self.old.world }
         requires client { client < length setup.now.clients }
         requires silent { prepared.sent ≡ [] }
@@ -245,5 +253,10 @@ fn site<'a>(setup: &'a Declarations, topic: u32, cluster: u32) -> Site<'a>
     requires { topic < length setup.now.topics }
     ensures { result ≡ site_at setup.now topic cluster }
 {
-    Site::new(cluster, setup.clusters(), &setup.topics()[topic as usize], setup.per_ledger())
+    Site::new(
+        cluster,
+        setup.clusters(),
+        &setup.topics()[topic as usize],
+        setup.per_ledger(),
+    )
 }

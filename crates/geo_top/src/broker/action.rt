@@ -36,7 +36,12 @@ pub enum Action<'a> {
 
 impl Book {
     /// What an event will do. Only room is made; an `Err` is want of memory.
-    pub fn prepare(&mut self, alloc: Global, site: &Site, action: Action) -> Result<Prepared, Memory>
+    pub fn prepare(
+        &mut self,
+        alloc: Global,
+        site: &Site,
+        action: Action,
+    ) -> Result<Prepared, Memory>
         requires { ActionFits self.old.broker action }
         ensures plan { IfOk result (λ p. p ≡ action_plan site.now self.old.broker action.entry) }
         ensures fits { IfOk result (λ p. PlanFits site.now.per_ledger self.old.broker p) }

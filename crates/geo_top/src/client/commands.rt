@@ -7,11 +7,10 @@ ghost use Rattle.geo_top.specs.Message.{is_message};
 ghost use Rattle.geo_top.specs.ProducerLine.{is_producer_line};
 
 use crate::client::Client;
+use crate::client::line::line_at;
 use crate::client::outgoing::{ClientOut, add};
 use crate::client::prepared::ClientPrepared;
 use crate::client::setup::Declarations;
-use crate::client::line::line_at;
-use script::ClientDecl;
 use geo_base::bytes::{Blob, Text};
 use geo_base::client::Line;
 use geo_base::entry::{Content, Entry, Ident, Metadata, Targets};
@@ -19,6 +18,7 @@ use geo_base::frame::Frame;
 use geo_base::memory::Memory;
 use geo_base::packet::{Out, Peer};
 use geo_base::sequence::Sequence;
+use script::ClientDecl;
 use std::alloc::Global;
 
 impl Client {
@@ -85,10 +85,7 @@ impl Client {
             return Ok(());
         };
         match line_at(declared, index) {
-            Some(line) => add(
-                sent,
-                self.command(alloc, setup, declared, index, line)?,
-            ),
+            Some(line) => add(sent, self.command(alloc, setup, declared, index, line)?),
             None => Ok(()),
         }
     }

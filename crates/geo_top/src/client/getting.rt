@@ -6,14 +6,14 @@ ghost use Rattle.geo_base.specs.Getting.{answered, get, got_frame, is_duplicate,
 ghost use Rattle.geo_top.specs.Counted.{CanCount};
 
 use crate::client::Client;
-use crate::client::prepared::ClientPrepared;
 use crate::client::line::line_at;
-use script::ClientDecl;
+use crate::client::prepared::ClientPrepared;
 use geo_base::client::Line;
 use geo_base::frame::Frame;
 use geo_base::memory::Memory;
 use geo_base::packet::Packet;
 use geo_base::position::Position;
+use script::ClientDecl;
 use std::alloc::Global;
 
 impl Client {

@@ -4,14 +4,14 @@ ghost use Rattle.geo_base.specs.Going.{go, go_line};
 ghost use Rattle.geo_top.specs.ProducerLine.{is_producer_line, is_publish};
 
 use crate::client::Client;
+use crate::client::line::line_at;
 use crate::client::outgoing::{ClientOut, add};
 use crate::client::prepared::ClientPrepared;
 use crate::client::setup::Declarations;
-use crate::client::line::line_at;
-use script::ClientDecl;
 use geo_base::client::Line;
 use geo_base::limits::UNANSWERED;
 use geo_base::memory::Memory;
+use script::ClientDecl;
 use std::alloc::Global;
 
 impl Client {

@@ -4,7 +4,6 @@ ghost use Rattle.geo_base.specs.Report.{client_line, entry_line, shown_state, wo
 
 use crate::client::Client;
 use crate::client::setup::Declarations;
-use script::ClientDecl;
 use crate::report::words::{
     cluster_name, shown_done, shown_ident, shown_message, shown_position, shown_state,
     shown_targets,
@@ -15,6 +14,7 @@ use geo_base::memory::Memory;
 use geo_base::name::ClusterName;
 use geo_base::position::Position;
 use geo_base::sender::SenderState;
+use script::ClientDecl;
 use std::alloc::Global;
 
 /// The counts of a run.

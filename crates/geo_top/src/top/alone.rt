@@ -23,7 +23,12 @@ use std::alloc::Global;
 /// The whole output is made before its first byte is written. The first of these refusals wins: words that are no command; a
 /// fault of the source, or more than 67,108,864 bytes; a line of the script that breaks a rule; a fault of the sink.
 #[tactic(auto, using(crate::proofs::Answering::ok_report, crate::proofs::Answering::ok_once, crate::proofs::Answering::caused, crate::proofs::Answering::bad_script, crate::proofs::Answering::no_command, crate::proofs::Answering::due, crate::proofs::Answering::whole_out, crate::proofs::Answering::part_out, crate::proofs::Answering::nothing_out, crate::proofs::Answering::nothing_gained, crate::proofs::Answering::free_due, crate::proofs::Answering::written_due, crate::proofs::Answering::line_out))]
-pub fn geo_alone<S: Source, K: Sink>(alloc: Global, words: &[Word], source: &mut S, sink: &mut K) -> Status
+pub fn geo_alone<S: Source, K: Sink>(
+    alloc: Global,
+    words: &[Word],
+    source: &mut S,
+    sink: &mut K,
+) -> Status
     // With Ok, what went out is the report of the written machine's run over the script that the source held,
     ensures report { result ≡ Status.Ok → IfSome (S.left source.old) (λ input. IsOkAnd (script_of input) (λ n.
         Gains (K.held sink.old) (K.held sink.new) (report n.setup (run n.setup n.steps)))) }

@@ -28,7 +28,11 @@ pub struct Answer {
 
 /// The answer to words, which may read what a source holds.
 #[tactic(auto, using(crate::proofs::Answering::founded_usage))]
-pub fn answer_to_words<S: Source>(alloc: Global, words: &[Word], source: &mut S) -> Result<Answer, Memory>
+pub fn answer_to_words<S: Source>(
+    alloc: Global,
+    words: &[Word],
+    source: &mut S,
+) -> Result<Answer, Memory>
     ensures { IfOk result (IsFounded (command_of words.now) (S.faults source.old) (S.faults source.new) (S.left source.old)) }
 {
     match Command::read(words) {
@@ -98,7 +102,9 @@ fn refusal_line(alloc: Global, status: Status) -> Result<String, Memory>
             alloc,
             "usage: geo run, live WORKERS TURNS, big NUMBER, save, resume, audit\n",
         )?),
-        Status::BadScript { line, rule } => Ok(format!(in alloc; "bad script line {line} rule {rule}\n")?),
+        Status::BadScript { line, rule } => Ok(format!(in alloc;
+            "bad script line {line} rule {rule}\n"
+        )?),
         Status::ReadFault => Ok(String::from_str(alloc, "read fault\n")?),
         Status::TooLarge(limit) => Ok(format!(in alloc; "too large {limit}\n")?),
         Status::Ok | Status::WriteFault | Status::OutOfMemory => Ok(String::new(alloc)),

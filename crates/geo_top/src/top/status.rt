@@ -10,10 +10,7 @@ pub enum Status {
     /// The words are no command.
     Usage,
     /// The first line of the script that breaks a rule, counted from 1, and the lowest rule that it breaks.
-    BadScript {
-        line: u64,
-        rule: u32,
-    },
+    BadScript { line: u64, rule: u32 },
     /// The source failed.
     ReadFault,
     /// The sink failed: the output went out in part.

@@ -31,7 +31,12 @@ impl Model for Books {
 impl Books {
     /// So many empty brokers.
     #[tactic(auto, using(crate::proofs::SeenThrough::map_push))]
-    pub fn new(alloc: Global, nodes: usize, clusters: usize, clients: usize) -> Result<Books, Memory>
+    pub fn new(
+        alloc: Global,
+        nodes: usize,
+        clusters: usize,
+        clients: usize,
+    ) -> Result<Books, Memory>
         ensures { IfOk result (λ b. b.brokers ≡ replicate nodes (new_broker clusters clients)) }
     {
         let mut books = Vec::new(alloc);
@@ -55,7 +60,13 @@ impl Books {
 
     /// What an event will do at a broker. Only room is made; an `Err` is want of memory.
     #[tactic(auto, using(crate::proofs::BookTable::broker_is, crate::proofs::BookTable::many, crate::proofs::BookTable::same_brokers, crate::proofs::BookTable::room_set))]
-    pub fn prepare(&mut self, node: usize, alloc: Global, site: &Site, action: Action) -> Result<Prepared, Memory>
+    pub fn prepare(
+        &mut self,
+        node: usize,
+        alloc: Global,
+        site: &Site,
+        action: Action,
+    ) -> Result<Prepared, Memory>
         requires node { node < length self.old.brokers }
         requires fits { ActionFits (slice_index_or self.old.brokers node no_broker) action }
         ensures plan { IfOk result (λ p. p ≡ action_plan site.now (slice_index_or self.old.brokers node no_broker) action.entry) }

@@ -29,10 +29,28 @@ impl World {
             Event::Get { client } => self.get(alloc, setup, client),
             Event::Reconnect { client } => self.reconnect(alloc, setup, client),
             Event::Serve { cluster, client } => self.serve(alloc, setup, cluster, client),
-            Event::Reset { topic, source, target } => self.reset(alloc, setup, topic, source, target),
-            Event::Read { topic, source, target } => self.read(alloc, setup, topic, source, target),
-            Event::Take { topic, source, target, fate: _ } => self.take(alloc, setup, topic, source, target),
-            Event::Receipt { topic, source, target, fate: _ } => self.receipt(alloc, setup, topic, source, target),
+            Event::Reset {
+                topic,
+                source,
+                target,
+            } => self.reset(alloc, setup, topic, source, target),
+            Event::Read {
+                topic,
+                source,
+                target,
+            } => self.read(alloc, setup, topic, source, target),
+            Event::Take {
+                topic,
+                source,
+                target,
+                fate: _,
+            } => self.take(alloc, setup, topic, source, target),
+            Event::Receipt {
+                topic,
+                source,
+                target,
+                fate: _,
+            } => self.receipt(alloc, setup, topic, source, target),
             _ => unreachable!(),
         }
     }
@@ -45,7 +63,9 @@ impl World {
         ensures ok { OnOk result (self.new.world ≡ uncounted (happens setup.now self.old.world (event.Go client))) }
         ensures err { OnErr result (self.new.world ≡ self.old.world) }
     {
-        let prepared = self.client(setup, client).prepare_go(alloc, setup, setup.client(client))?;
+        let prepared = self
+            .client(setup, client)
+            .prepare_go(alloc, setup, setup.client(client))?;
         self.finish_sending(alloc, setup, client, prepared)
     }
 
@@ -57,7 +77,9 @@ impl World {
         ensures ok { OnOk result (self.new.world ≡ uncounted (happens setup.now self.old.world (event.Reconnect client))) }
         ensures err { OnErr result (self.new.world ≡ self.old.world) }
     {
-        let prepared = self.client(setup, client).prepare_reconnect(alloc, setup, setup.client(client))?;
+        let prepared = self
+            .client(setup, client)
+            .prepare_reconnect(alloc, setup, setup.client(client))?;
         self.finish_sending(alloc, setup, client, prepared)
     }
 
@@ -79,7 +101,13 @@ impl World {
 
     /// A broker takes the next packet of a client.
     #[tactic(auto, using(crate::proofs::Doing::served, crate::proofs::Places::topic_in, crate::proofs::Places::node_in, crate::proofs::Places::session_in))]
-    fn serve(&mut self, alloc: Global, setup: &Declarations, cluster: u32, client: u32) -> Result<(), Memory>
+    fn serve(
+        &mut self,
+        alloc: Global,
+        setup: &Declarations,
+        cluster: u32,
+        client: u32,
+    ) -> Result<(), Memory>
         requires setup { IsScripted setup.now }
         requires world { WorldFits setup.now self.old.world }
         requires cluster { cluster < length setup.now.clusters }
@@ -93,13 +121,29 @@ impl World {
             client,
             input: self.links.next_to_broker(client, cluster),
         };
-        let prepared = self.books.prepare(node(setup, topic, cluster), alloc, &site, action)?;
-        self.finish(alloc, setup, topic, cluster, Input::ToBroker { client, cluster }, prepared)
+        let prepared = self
+            .books
+            .prepare(node(setup, topic, cluster), alloc, &site, action)?;
+        self.finish(
+            alloc,
+            setup,
+            topic,
+            cluster,
+            Input::ToBroker { client, cluster },
+            prepared,
+        )
     }
 
     /// A broker begins a new session of its forward link to another cluster.
     #[tactic(auto, using(crate::proofs::Doing::was_reset, crate::proofs::Places::node_in, crate::proofs::Places::sender_in, crate::proofs::Places::session_more))]
-    fn reset(&mut self, alloc: Global, setup: &Declarations, topic: u32, source: u32, target: u32) -> Result<(), Memory>
+    fn reset(
+        &mut self,
+        alloc: Global,
+        setup: &Declarations,
+        topic: u32,
+        source: u32,
+        target: u32,
+    ) -> Result<(), Memory>
         requires setup { IsScripted setup.now }
         requires world { WorldFits setup.now self.old.world }
         requires link { IsLink setup.now topic source target }
@@ -108,13 +152,22 @@ impl World {
     {
         let site = site(setup, topic, source);
         let action = Action::Reset { remote: target };
-        let prepared = self.books.prepare(node(setup, topic, source), alloc, &site, action)?;
+        let prepared = self
+            .books
+            .prepare(node(setup, topic, source), alloc, &site, action)?;
         self.finish(alloc, setup, topic, source, Input::Nothing, prepared)
     }
 
     /// A broker looks at the next entry for another cluster.
     #[tactic(auto, using(crate::proofs::Doing::was_read, crate::proofs::Places::node_in, crate::proofs::Places::sender_in, crate::proofs::Places::next_more))]
-    fn read(&mut self, alloc: Global, setup: &Declarations, topic: u32, source: u32, target: u32) -> Result<(), Memory>
+    fn read(
+        &mut self,
+        alloc: Global,
+        setup: &Declarations,
+        topic: u32,
+        source: u32,
+        target: u32,
+    ) -> Result<(), Memory>
         requires setup { IsScripted setup.now }
         requires world { WorldFits setup.now self.old.world }
         requires link { IsLink setup.now topic source target }
@@ -123,13 +176,22 @@ impl World {
     {
         let site = site(setup, topic, source);
         let action = Action::Read { remote: target };
-        let prepared = self.books.prepare(node(setup, topic, source), alloc, &site, action)?;
+        let prepared = self
+            .books
+            .prepare(node(setup, topic, source), alloc, &site, action)?;
         self.finish(alloc, setup, topic, source, Input::Nothing, prepared)
     }
 
     /// The broker at the target takes the next packet of a forward link.
     #[tactic(auto, using(crate::proofs::Doing::was_taken, crate::proofs::Places::node_in, crate::proofs::Places::receiver_in))]
-    fn take(&mut self, alloc: Global, setup: &Declarations, topic: u32, source: u32, target: u32) -> Result<(), Memory>
+    fn take(
+        &mut self,
+        alloc: Global,
+        setup: &Declarations,
+        topic: u32,
+        source: u32,
+        target: u32,
+    ) -> Result<(), Memory>
         requires setup { IsScripted setup.now }
         requires world { WorldFits setup.now self.old.world }
         requires link { IsLink setup.now topic source target }
@@ -142,7 +204,9 @@ impl World {
             source,
             input: self.links.next_forward(sender, target),
         };
-        let prepared = self.books.prepare(node(setup, topic, target), alloc, &site, action)?;
+        let prepared = self
+            .books
+            .prepare(node(setup, topic, target), alloc, &site, action)?;
         let input = Input::Forward {
             node: sender,
             target,
@@ -152,7 +216,14 @@ impl World {
 
     /// The broker at the source takes the next answer on a forward link.
     #[tactic(auto, using(crate::proofs::Doing::was_received, crate::proofs::Places::node_in, crate::proofs::Places::sender_in))]
-    fn receipt(&mut self, alloc: Global, setup: &Declarations, topic: u32, source: u32, target: u32) -> Result<(), Memory>
+    fn receipt(
+        &mut self,
+        alloc: Global,
+        setup: &Declarations,
+        topic: u32,
+        source: u32,
+        target: u32,
+    ) -> Result<(), Memory>
         requires setup { IsScripted setup.now }
         requires world { WorldFits setup.now self.old.world }
         requires link { IsLink setup.now topic source target }
