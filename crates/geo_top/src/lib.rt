@@ -8,6 +8,8 @@ mod broker;
 mod client;
 mod links;
 mod report;
+#[cfg(test)]
+mod tests;
 mod top;
 mod world;
 

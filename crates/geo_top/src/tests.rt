@@ -1,0 +1,180 @@
+use crate::{Status, Word, geo_alone};
+use geo_io::{MemSink, MemSource};
+use std::alloc::Global;
+use std::test::Fail;
+
+/// What `run` does with a script and a sink, read seven bytes at a time.
+fn run(alloc: Global, script: &[u8], sink: &mut MemSink) -> Result<Status, Fail> {
+    let words = vec![in alloc; Word::from_str(alloc, "run")?]?;
+    let mut source = MemSource::new(alloc, script, 7, &[])?;
+    Ok(geo_alone(alloc, words.as_slice(), &mut source, sink))
+}
+
+/// A sink that takes all.
+fn open_sink(alloc: Global) -> Result<MemSink, Fail> {
+    Ok(MemSink::new(alloc, 1_000_000, &[])?)
+}
+
+const ONE_MESSAGE: &[u8] =
+    b"geo 1\ncluster a\ncluster b\ntopic t\nclient p t a\ndo p produce\ndo p pub 0 * - hi\n\
+reconnect p\nserve a p\ngo p\nserve a p\ngo p\nserve a p\nget p\nget p\nget p\n\
+reset t a b\ntake t a b good\nreceipt t a b good\nread t a b\ntake t a b good\nreceipt t a b good\n";
+
+const ONE_MESSAGE_REPORT: &[u8] = b"events 15 idle 0 rounds 0\n\
+topic t at a\nentry 0:0 a p 0 * data - hi\nsender b session 1 open mark 1\n\
+topic t at b\nentry 0:0 a p 0 * data - hi\nsender a session 0 closed mark 0\n\
+client p at a lines 2/2 receipts 1 duplicates 0 errors 0\n";
+
+const DUPLICATE_PUBLISH: &[u8] = b"geo 1\ncluster a\ncluster b\ntopic t\nclient p t a\n\
+do p produce\ndo p pub 0 * - hi\ndo p pub 0 * - again\n\
+reconnect p\nserve a p\ngo p\nserve a p\ngo p\nserve a p\ngo p\nserve a p\nget p\nget p\nget p\nget p\n";
+
+const DUPLICATE_PUBLISH_REPORT: &[u8] = b"events 12 idle 0 rounds 0\n\
+topic t at a\nentry 0:0 a p 0 * data - hi\nsender b session 0 closed mark 0\n\
+topic t at b\nsender a session 0 closed mark 0\n\
+client p at a lines 3/3 receipts 1 duplicates 1 errors 0\n";
+
+#[test]
+fn scripts_are_reported(rt: HostRuntime) -> Result<(), Fail> {
+    let scripts = [
+        (ONE_MESSAGE, ONE_MESSAGE_REPORT),
+        (DUPLICATE_PUBLISH, DUPLICATE_PUBLISH_REPORT),
+    ];
+    for (script, report) in scripts {
+        let mut sink = open_sink(rt.alloc())?;
+        assert_eq!(rt; run(rt.alloc(), script, &mut sink)?, Status::Ok);
+        assert_eq!(rt; sink.bytes(), report);
+    }
+    Ok(())
+}
+
+/// Each script with the first line that breaks a rule, and the lowest rule that it breaks.
+#[test]
+fn bad_scripts_are_refused_at_their_first_bad_line(rt: HostRuntime) -> Result<(), Fail> {
+    let scripts: [(&[u8], &[u8]); 17] = [
+        // Nothing at all, and a script that begins with another line.
+        (b"", b"bad script line 1 rule 2\n"),
+        (b"cluster a\n", b"bad script line 1 rule 2\n"),
+        (b"geo 2\n", b"bad script line 1 rule 2\n"),
+        // A form that is not complete: the line behind the last one.
+        (b"geo 1\n", b"bad script line 2 rule 3\n"),
+        (
+            b"geo 1\ncluster a\ncluster b\ntopic t\nclient p t a\n",
+            b"bad script line 6 rule 3\n",
+        ),
+        (b"# a comment\n\ngeo 1\n", b"bad script line 4 rule 3\n"),
+        // A wrong word where all before is good.
+        (
+            b"geo 1\ncluster a\ncluster b\ntopic t\nclient p t a\ndo p produce\ndo p publish\n",
+            b"bad script line 7 rule 3\n",
+        ),
+        (
+            b"geo 1\ncluster a\ncluster b\ntopic t\nclient p t a\ndo p produce\nwait p\n",
+            b"bad script line 7 rule 3\n",
+        ),
+        // No last line feed, and bytes that do not print.
+        (b"geo 1\ncluster a", b"bad script line 2 rule 1\n"),
+        (b"geo 1\ncluster \xe9\n", b"bad script line 2 rule 1\n"),
+        (b"geo 1\r\n", b"bad script line 1 rule 1\n"),
+        (b"wrong\x1f", b"bad script line 1 rule 1\n"),
+        // Numbers with a sign, a leading zero, or above their range.
+        (
+            b"geo 1\ncluster a\ncluster b\ntopic t\nclient p t a\ndo p produce\ndo p pub +1 * - hi\n",
+            b"bad script line 7 rule 3\n",
+        ),
+        (
+            b"geo 1\ncluster a\ncluster b\ntopic t\nclient p t a\ndo p produce\ndo p pub 01 * - hi\n",
+            b"bad script line 7 rule 3\n",
+        ),
+        (
+            b"geo 1\ncluster a\ncluster b\ntopic t\nclient p t a\ndo p produce\ndo p pub 9223372036854775808 * - hi\n",
+            b"bad script line 7 rule 3\n",
+        ),
+        // Several lines, and several rules in one.
+        (
+            b"geo 1\ncluster a\ncluster a\nwrong\n",
+            b"bad script line 3 rule 3\n",
+        ),
+        (b"geo 1\nwrong\nwrong \xff", b"bad script line 2 rule 3\n"),
+    ];
+    for (script, line) in scripts {
+        let mut sink = open_sink(rt.alloc())?;
+        let status = run(rt.alloc(), script, &mut sink)?;
+        assert_eq!(rt; status.number(), 3);
+        assert_eq!(rt; sink.bytes(), line);
+    }
+    Ok(())
+}
+
+#[test]
+fn words_that_are_no_command(rt: HostRuntime) -> Result<(), Fail> {
+    let lines: [&[&str]; 6] = [
+        &[],
+        &["run", "x"],
+        &["--help"],
+        &["Run"],
+        &[""],
+        &["live", "1", "1"],
+    ];
+    for line in lines {
+        let mut words = Vec::new(rt.alloc());
+        for word in line {
+            words.push(Word::from_str(rt.alloc(), word)?)?;
+        }
+        let mut source = MemSource::new(rt.alloc(), ONE_MESSAGE, 7, &[1])?;
+        let mut sink = open_sink(rt.alloc())?;
+        let status = geo_alone(rt.alloc(), words.as_slice(), &mut source, &mut sink);
+        assert_eq!(rt; status, Status::Usage);
+        assert_eq!(rt;
+            sink.bytes(),
+            b"usage: geo run, live WORKERS TURNS, big NUMBER, save, resume, audit\n".as_slice()
+        );
+    }
+    Ok(())
+}
+
+/// The sink takes ten bytes in a call: what went out before it failed is a part of the report, or of a refusal's line.
+#[test]
+fn each_write_fails_in_turn(rt: HostRuntime) -> Result<(), Fail> {
+    let calls: [(u64, &[u8]); 3] = [(1, b""), (2, b"events 15 "), (3, b"events 15 idle 0 rou")];
+    for (call, out) in calls {
+        let mut sink = MemSink::new(rt.alloc(), 10, &[call])?;
+        let status = run(rt.alloc(), ONE_MESSAGE, &mut sink)?;
+        assert_eq!(rt; status, Status::WriteFault);
+        assert_eq!(rt; status.number(), 5);
+        assert_eq!(rt; sink.bytes(), out);
+    }
+    let mut sink = MemSink::new(rt.alloc(), 10, &[2])?;
+    assert_eq!(rt; run(rt.alloc(), b"geo", &mut sink)?, Status::WriteFault);
+    assert_eq!(rt; sink.bytes(), b"bad script".as_slice());
+    Ok(())
+}
+
+#[test]
+fn each_read_fails_in_turn(rt: HostRuntime) -> Result<(), Fail> {
+    let words = vec![in rt.alloc(); Word::from_str(rt.alloc(), "run")?]?;
+    // The script comes in three calls, and the fourth sees its end.
+    for call in 1..5 {
+        let mut source = MemSource::new(rt.alloc(), ONE_MESSAGE, 100, &[call])?;
+        let mut sink = open_sink(rt.alloc())?;
+        let status = geo_alone(rt.alloc(), words.as_slice(), &mut source, &mut sink);
+        assert_eq!(rt; status, Status::ReadFault);
+        assert_eq!(rt; status.number(), 4);
+        assert_eq!(rt; sink.bytes(), b"read fault\n".as_slice());
+    }
+    Ok(())
+}
+
+/// One byte more than is read.
+#[test]
+fn an_input_that_is_too_large(rt: HostRuntime) -> Result<(), Fail> {
+    let words = vec![in rt.alloc(); Word::from_str(rt.alloc(), "run")?]?;
+    let input = vec![in rt.alloc(); b'\n'; 67_108_865]?;
+    let mut source = MemSource::new(rt.alloc(), input.as_slice(), 1_000_000, &[])?;
+    let mut sink = open_sink(rt.alloc())?;
+    let status = geo_alone(rt.alloc(), words.as_slice(), &mut source, &mut sink);
+    assert_eq!(rt; status, Status::TooLarge(1));
+    assert_eq!(rt; status.number(), 6);
+    assert_eq!(rt; sink.bytes(), b"too large 1\n".as_slice());
+    Ok(())
+}
