@@ -41,3 +41,6 @@ pub mod Safe
 pub mod Cuts
 pub mod Scripted
 pub mod Laws
+pub mod Message
+pub mod Built
+pub mod Worlds

@@ -4,7 +4,7 @@ use Rattle.std.specs.Prelude.{◌==◌, if◌then◌else◌, map, codes}
 use Rattle.geo_base.specs.Report.{broker_lines, client_line, client_lines, cluster_lines, got_line, head_line, report, report_lines, topic_lines, with_line_feeds, words}
 use Rattle.geo_base.specs.Setup.{Declared, Setup}
 use Rattle.geo_base.specs.World.{World, client_at, topic_at}
-use Rattle.geo_top.specs.Machines.{uncounted}
+use Rattle.world_core.specs.Machines.{uncounted}
 
 same_clusters : (s : Setup) (w : World) (t : ℕ) (topic : List ℕ) (x : ℕ) (ns : List (List ℕ)) → cluster_lines s (uncounted w) t topic x ns ≡ cluster_lines s w t topic x ns
 same_clusters s w t topic x [] = refl

@@ -4,14 +4,10 @@
 //! at its node, its packets go out whole or not at all, and then it is committed.
 #![tactic(auto)]
 
-mod broker;
-mod client;
-mod links;
-mod report;
 #[cfg(test)]
 mod tests;
 mod top;
-mod world;
+mod world_report;
 
 pub use top::alone::geo_alone;
 pub use top::command::Word;

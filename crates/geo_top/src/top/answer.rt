@@ -7,17 +7,17 @@ ghost use Rattle.geo_top.specs.declared.top.command.Command.TheVariants as comma
 ghost use Rattle.script.specs.Rules.{script_of};
 ghost use Rattle.script.specs.Scenario.{IsScenario};
 
-use crate::client::setup::Declarations;
-use crate::report::append_report;
 use crate::top::command::{Command, Word};
 use crate::top::status::Status;
-use crate::world::run::run;
+use crate::world_report::append_report;
+use client_core::setup::Declarations;
 use geo_base::bytes::Blob;
 use geo_base::limits::INPUT_BYTES;
 use geo_base::memory::Memory;
 use geo_io::{ReadFault, Source, read_all};
 use script::{Scenario, ScriptFault, read_script};
 use std::alloc::Global;
+use world_core::world::run::run;
 
 /// How the program is to end, and what goes out.
 #[derive(Debug, Drop)]

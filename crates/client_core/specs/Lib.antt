@@ -1,0 +1,2 @@
+pub mod ProducerLine
+pub mod Counted

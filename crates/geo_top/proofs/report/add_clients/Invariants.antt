@@ -1,8 +1,0 @@
-use Rattle.std.proofs.Common.{◌≡◌, ◌++◌, drop}
-use Rattle.geo_base.specs.Report.{client_lines, with_line_feeds}
-use Rattle.geo_top.proofs.report.add_clients.Given as goal
-
--- the lines so far and the rest make the whole
-abbrev pub invariant-loop-number : goal.invariant-loop-number
-invariant-loop-number g l =
-    l.lines ++ with_line_feeds (client_lines l.setup (g.W.WorldView.world l.world) l.topic l.number (drop l.number l.declarations)) ≡ l.initial.lines ++ with_line_feeds (client_lines l.setup (g.W.WorldView.world l.world) l.topic 0 l.declarations)

@@ -1,8 +1,0 @@
-use Rattle.std.proofs.Common.{◌≡◌, ◌++◌, drop}
-use Rattle.geo_base.specs.Report.{topic_lines, with_line_feeds}
-use Rattle.geo_top.proofs.report.add_topics.Given as goal
-
--- the lines so far and the rest make the whole
-abbrev pub invariant-loop-number : goal.invariant-loop-number
-invariant-loop-number g l =
-    l.lines ++ with_line_feeds (topic_lines l.setup (g.W.WorldView.world l.world) l.number (drop l.number l.topics)) ≡ l.initial.lines ++ with_line_feeds (topic_lines l.setup (g.W.WorldView.world l.world) 0 l.topics)

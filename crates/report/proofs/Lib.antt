@@ -1,0 +1,4 @@
+pub mod EntryWords
+pub mod AddedLines
+pub mod Names
+pub mod Walking

@@ -1,0 +1,50 @@
+-- Plans that a broker can commit: their numbers name what is there, and what they append is accepted.
+use Rattle.std.specs.Prelude.{◌≡◌, ℕ, ◌+◌, ◌<◌, ◌^◌, true, List, [], ◌∷◌, length, ⊤}
+use Rattle.geo_base.specs.declared.change.Change.{Change}
+use Rattle.geo_base.specs.declared.write.Write.{Write}
+use Rattle.geo_base.specs.declared.change.Change.TheVariants as change
+use Rattle.geo_base.specs.declared.write.Write.TheVariants as write
+use Rattle.geo_base.specs.Broker.{Broker, changed, sender_at, written}
+use Rattle.geo_base.specs.Plan.{Plan, all_written}
+use Rattle.geo_base.specs.Topic.{accepts}
+use Rattle.geo_base.specs.Message.{is_message}
+
+-- subscriptions, and ledgers that a restart opens, are not built yet
+abbrev pub WriteFits : Broker → Write → Type 0
+WriteFits b (write.Append e) = (is_message e ≡ true) × (accepts b.entries e.ident ≡ true)
+WriteFits b (write.SenderAck y i) = y < length b.senders
+WriteFits b (write.SessionNumber y n) = y < length b.senders
+WriteFits b w = ⊥
+
+abbrev pub AllWritesFit : ℕ → Broker → List Write → Type 0
+AllWritesFit per b [] = ⊤
+AllWritesFit per b (w ∷ ws) = WriteFits b w × AllWritesFit per (written per b w) ws
+
+-- a pending entry takes the session's next number, and the index behind it is a number too
+abbrev pub ChangeFits : Broker → Change → Type 0
+ChangeFits b (change.Receiver x r) = x < length b.receivers
+ChangeFits b (change.Client c s) = c < length b.sessions
+ChangeFits b (change.Detach c) = ⊤
+ChangeFits b (change.Opening y) = y < length b.senders
+ChangeFits b (change.Opened y) = y < length b.senders
+ChangeFits b (change.Pend y i) = (y < length b.senders) × (i + 1 < 2 ^ 64) × ((sender_at b y).next + 1 < 2 ^ 64)
+ChangeFits b (change.ReadTo y i) = y < length b.senders
+ChangeFits b (change.Unpend y n) = y < length b.senders
+ChangeFits b c = ⊥
+
+abbrev pub AllChangesFit : Broker → List Change → Type 0
+AllChangesFit b [] = ⊤
+AllChangesFit b (c ∷ cs) = ChangeFits b c × AllChangesFit (changed b c) cs
+
+abbrev pub PlanFits : ℕ → Broker → Plan → Type 0
+PlanFits per b p = AllWritesFit per b p.writes × AllChangesFit (all_written per b p.writes) p.changes
+
+-- as many senders, receivers and sessions as before
+pub record SameShape (old new : Broker) : Type 0 where
+  pub senders : length new.senders ≡ length old.senders
+  pub receivers : length new.receivers ≡ length old.receivers
+  pub sessions : length new.sessions ≡ length old.sessions
+
+-- each write and each change takes at most one place in each table
+abbrev pub steps : Plan → ℕ
+steps p = length p.writes + length p.changes

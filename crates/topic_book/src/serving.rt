@@ -1,0 +1,367 @@
+//! A broker and its clients: CONNECT, PRODUCER and SEND.
+ghost use Rattle.std.specs.Prelude.{◌≡◌, ◌≢◌, ◌==◌, ◌&&◌, ◌<◌, ◌≤◌, ◌++◌, ◌∷◌, [], true, length, IfOk};
+ghost use Rattle.std.specs.List.{list_any};
+ghost use Rattle.std.specs.Option.{option_copied};
+ghost use Rattle.std.specs.Str.{bytes_eq};
+ghost use Rattle.geo_base.specs.Answers.{answers, refuses, unknown_error};
+ghost use Rattle.geo_base.specs.Broker.{Site, session_at};
+ghost use Rattle.geo_base.specs.Entry.{with_origin};
+ghost use Rattle.geo_base.specs.Producing.{attaches, is_sound, is_taken, may_attach, name_with, stores, uses_name, without_producer};
+ghost use Rattle.geo_base.specs.Serving.{serve, serve_command, serve_frame, serve_in};
+ghost use Rattle.geo_base.specs.declared.frame.Frame.TheVariants as frame;
+ghost use Rattle.geo_base.specs.Built.{is_client_frame};
+ghost use Rattle.topic_book.specs.Fits.{PlanFits, steps};
+ghost use Rattle.geo_base.specs.Message.{is_message};
+ghost use Rattle.topic_book.specs.Refusing.{refusal};
+
+use crate::book::{Book, STEPS};
+use crate::packet::ClientPacket;
+use crate::prepared::Prepared;
+use crate::site::Site;
+use geo_base::bytes::Text;
+use geo_base::change::Change;
+use geo_base::entry::Entry;
+use geo_base::frame::Frame;
+use geo_base::marker::Place;
+use geo_base::memory::Memory;
+use geo_base::packet::{Packet, Peer};
+use geo_base::sequence::Sequence;
+use geo_base::session::{AttachedProducer, Session};
+use std::alloc::Global;
+
+/// UnknownError of ServerError in PulsarApi.proto.
+const UNKNOWN_ERROR: u64 = 0;
+
+/// ProducerBusy of ServerError in PulsarApi.proto.
+const PRODUCER_BUSY: u64 = 16;
+
+/// The longest name that a producer may have, in bytes (own).
+const PRODUCER_NAME_BYTES: usize = 1024;
+
+impl Book {
+    /// What the next packet of a client will do. Only room is made; an `Err` is want of memory.
+    #[tactic(auto, unfolding(geo_base::specs::Serving::serve))]
+    pub fn prepare_serve(
+        &mut self,
+        alloc: Global,
+        site: &Site,
+        client: u32,
+        input: Option<&ClientPacket>,
+    ) -> Result<Prepared, Memory>
+        requires client { client < length self.old.broker.sessions }
+        ensures plan { IfOk result (λ p. p ≡ serve site.now self.old.broker client (option_copied input.entry)) }
+        ensures fits { IfOk result (λ p. PlanFits site.now.per_ledger self.old.broker p) }
+        ensures room { IfOk result (λ p. steps p ≤ self.new.room) }
+        ensures kept { self.new.broker ≡ self.old.broker }
+    {
+        self.reserve(STEPS)?;
+        match input {
+            None => Ok(Prepared::idle(alloc)),
+            Some(input) => self.serve_frame(alloc, site, client, input.packet()),
+        }
+    }
+
+    fn serve_frame(
+        &self,
+        alloc: Global,
+        site: &Site,
+        client: u32,
+        packet: &Packet,
+    ) -> Result<Prepared, Memory>
+        requires client { client < length self.now.broker.sessions }
+        requires carried { is_client_frame packet.now.frame ≡ true }
+        ensures plan { IfOk result (λ p. p ≡ serve_frame site.now self.now.broker client packet.now packet.now.frame) }
+        ensures fits { IfOk result (λ p. PlanFits site.now.per_ledger self.now.broker p) }
+        ensures few { IfOk result (λ p. steps p ≤ STEPS) }
+    {
+        match &packet.frame {
+            Frame::Connect => {
+                let session = Session {
+                    number: packet.session,
+                    producers: Sequence::new(alloc),
+                };
+                let mut plan = Prepared::quiet(alloc);
+                plan.change(Change::Detach { client })?;
+                plan.change(Change::Client {
+                    client,
+                    session: Some(session),
+                })?;
+                plan.send(Peer::Client(client), packet.session, Frame::Connected)?;
+                Ok(plan)
+            }
+            _ => self.serve_in(alloc, site, client, packet),
+        }
+    }
+
+    fn serve_in(
+        &self,
+        alloc: Global,
+        site: &Site,
+        client: u32,
+        packet: &Packet,
+    ) -> Result<Prepared, Memory>
+        requires client { client < length self.now.broker.sessions }
+        requires carried { is_client_frame packet.now.frame ≡ true }
+        requires opened { packet.now.frame ≢ frame.Connect }
+        ensures plan { IfOk result (λ p. p ≡ serve_in site.now self.now.broker client packet.now (session_at self.now.broker client)) }
+        ensures fits { IfOk result (λ p. PlanFits site.now.per_ledger self.now.broker p) }
+        ensures few { IfOk result (λ p. steps p ≤ STEPS) }
+    {
+        match self.session(client) {
+            Some(session) if session.number == packet.session => {
+                self.serve_command(alloc, site, client, session, &packet.frame)
+            }
+            _ => Ok(Prepared::quiet(alloc)),
+        }
+    }
+
+    #[tactic(auto, using(crate::proofs::Refusals::producer_served))]
+    fn serve_command(
+        &self,
+        alloc: Global,
+        site: &Site,
+        client: u32,
+        session: &Session,
+        command: &Frame,
+    ) -> Result<Prepared, Memory>
+        requires client { client < length self.now.broker.sessions }
+        requires carried { is_client_frame command.now ≡ true }
+        requires opened { command.now ≢ frame.Connect }
+        ensures plan { IfOk result (λ p. p ≡ serve_command site.now self.now.broker client session.now command.now) }
+        ensures fits { IfOk result (λ p. PlanFits site.now.per_ledger self.now.broker p) }
+        ensures few { IfOk result (λ p. steps p ≤ STEPS) }
+    {
+        match command {
+            Frame::Producer {
+                topic,
+                id,
+                request,
+                name: Some(name),
+            } => match self.refusal(site, client, topic, name) {
+                Some(code) => refusing(alloc, client, session, *request, code),
+                None => attaching(alloc, client, session, *id, *request, name),
+            },
+            Frame::Producer { request, .. } => refusing(
+                alloc,
+                client,
+                session,
+                *request,
+                UNKNOWN_ERROR,
+            ),
+            Frame::Send {
+                id,
+                seq,
+                source,
+                entry,
+            } => match name_with(*id, session.producers.as_slice()) {
+                Some(name) if is_sound(name, *seq, source, entry) => {
+                    self.publish(alloc, site, client, session, *id, *seq, entry)
+                }
+                _ => failing(alloc, client, session, *id, *seq),
+            },
+            _ => unreachable!(),
+        }
+    }
+
+    /// Why a producer may not attach, as a ServerError, if it may not.
+    fn refusal(&self, site: &Site, client: u32, topic: &Text, name: &Text) -> Option<u64>
+        ensures { result ≡ refusal site.now self.now.broker client topic.now name.now }
+    {
+        if topic.as_bytes() != site.topic().as_bytes() || !may_attach(name.as_bytes()) {
+            return Some(UNKNOWN_ERROR);
+        }
+        if is_taken(name.as_bytes(), client, self.sessions()) {
+            return Some(PRODUCER_BUSY);
+        }
+        None
+    }
+
+    /// A sound message is stored, or is a duplicate, and is answered either way.
+    fn publish(
+        &self,
+        alloc: Global,
+        site: &Site,
+        client: u32,
+        session: &Session,
+        id: u64,
+        seq: u64,
+        entry: &Entry,
+    ) -> Result<Prepared, Memory>
+        requires message { is_message entry.now ≡ true }
+        ensures plan { IfOk result (λ p. p ≡ stores site.now self.now.broker client session.now id seq (with_origin site.now.own entry.now)) }
+        ensures fits { IfOk result (λ p. PlanFits site.now.per_ledger self.now.broker p) }
+        ensures few { IfOk result (λ p. steps p ≤ STEPS) }
+    {
+        let mut plan = Prepared::quiet(alloc);
+        let position = self.store(alloc, site, site.own(), entry, &mut plan)?;
+        let receipt = Frame::SendReceipt {
+            id,
+            seq,
+            position: Some(position),
+        };
+        plan.send(Peer::Client(client), session.number, receipt)?;
+        Ok(plan)
+    }
+}
+
+/// An answer that changes nothing.
+fn answering(
+    alloc: Global,
+    client: u32,
+    session: &Session,
+    frame: Frame,
+) -> Result<Prepared, Memory>
+    ensures { IfOk result (λ p. p ≡ answers client session.now frame) }
+{
+    let mut plan = Prepared::quiet(alloc);
+    plan.send(Peer::Client(client), session.number, frame)?;
+    Ok(plan)
+}
+
+/// A request is refused.
+fn refusing(
+    alloc: Global,
+    client: u32,
+    session: &Session,
+    request: u64,
+    code: u64,
+) -> Result<Prepared, Memory>
+    ensures { IfOk result (λ p. p ≡ refuses client session.now request code) }
+{
+    answering(alloc, client, session, Frame::Error { request, code })
+}
+
+/// A SEND is refused.
+fn failing(
+    alloc: Global,
+    client: u32,
+    session: &Session,
+    id: u64,
+    seq: u64,
+) -> Result<Prepared, Memory>
+    ensures { IfOk result (λ p. p ≡ answers client session.now (frame.SendError id seq unknown_error)) }
+{
+    let error = Frame::SendError {
+        id,
+        seq,
+        code: UNKNOWN_ERROR,
+    };
+    answering(alloc, client, session, error)
+}
+
+/// A producer attaches.
+fn attaching(
+    alloc: Global,
+    client: u32,
+    session: &Session,
+    id: u64,
+    request: u64,
+    name: &Text,
+) -> Result<Prepared, Memory>
+    ensures { IfOk result (λ p. p ≡ attaches client session.now id request name.now) }
+{
+    let attached = Session {
+        number: session.number,
+        producers: with_producer(alloc, session.producers.as_slice(), id, name)?,
+    };
+    let success = Frame::ProducerSuccess {
+        request,
+        name: name.copy(alloc)?,
+    };
+    let mut plan = Prepared::quiet(alloc);
+    plan.change(Change::Client {
+        client,
+        session: Some(attached),
+    })?;
+    plan.send(Peer::Client(client), session.number, success)?;
+    Ok(plan)
+}
+
+/// The producers of a session after one attached, which takes the place of one with its id.
+fn with_producer(
+    alloc: Global,
+    producers: &[AttachedProducer],
+    id: u64,
+    name: &Text,
+) -> Result<Sequence<AttachedProducer>, Memory>
+    ensures { IfOk result (λ ps. ps ≡ without_producer id producers.now ++ record { id = id; name = name.now } ∷ []) }
+{
+    let mut kept = Sequence::new(alloc);
+    for producer in producers {
+        if producer.id != id {
+            kept.push(AttachedProducer {
+                id: producer.id,
+                name: producer.name.copy(alloc)?,
+            })?;
+        }
+    }
+    kept.push(AttachedProducer {
+        id,
+        name: name.copy(alloc)?,
+    })?;
+    Ok(kept)
+}
+
+/// Whether a name may be a producer's: it is not too long, and none of the system's own.
+fn may_attach(name: &[u8]) -> bool
+    ensures { result ≡ may_attach name.now }
+{
+    name.len() <= PRODUCER_NAME_BYTES && !name.starts_with(b"pulsar.")
+}
+
+/// Whether another client's open session has a producer of this name.
+fn is_taken(name: &[u8], client: u32, sessions: &[Option<Session>]) -> bool
+    ensures { result ≡ is_taken name.now client 0 sessions.now }
+{
+    for (other, session) in sessions.iter().enumerate() {
+        if other != client as usize && uses_name(name, session) {
+            return true;
+        }
+    }
+    false
+}
+
+fn uses_name(name: &[u8], session: &Option<Session>) -> bool
+    ensures { result ≡ uses_name name.now session.now }
+{
+    match session {
+        None => false,
+        Some(session) => has_name(name, session.producers.as_slice()),
+    }
+}
+
+fn has_name(name: &[u8], producers: &[AttachedProducer]) -> bool
+    ensures { result ≡ list_any (λ p. bytes_eq p.name name.now) producers.now }
+{
+    producers
+        .iter()
+        .any(|producer| producer.name.as_bytes() == name)
+}
+
+/// The name of the producer of an id.
+fn name_with(id: u64, producers: &[AttachedProducer]) -> Option<&Text>
+    ensures { option_copied result ≡ name_with id producers.now }
+{
+    for producer in producers {
+        if producer.id == id {
+            return Some(&producer.name);
+        }
+    }
+    None
+}
+
+/// Whether the producer of a name may publish a message: metadata and command agree, and no cluster stored it before. A
+/// message is no marker and is not too large for any names of clusters, so neither is asked.
+fn is_sound(name: &Text, seq: u64, source: &Option<Place>, entry: &Entry) -> bool
+    requires { is_message entry.now ≡ true }
+    ensures { (h : Site) → result ≡ is_sound h name.now seq source.now entry.now }
+{
+    agrees(name, seq, entry) && source.is_none()
+}
+
+/// Whether a command names the producer and the sequence id that its entry's metadata name.
+fn agrees(name: &Text, seq: u64, entry: &Entry) -> bool
+    ensures { result ≡ (bytes_eq name.now entry.now.ident.producer && (seq == entry.now.ident.seq)) }
+{
+    name.as_bytes() == entry.ident.producer.as_bytes() && seq == entry.ident.seq
+}

@@ -1,0 +1,4 @@
+pub mod Unsent
+pub mod Books
+pub mod Inputs
+pub mod Machines
