@@ -1,0 +1,5 @@
+pub mod Sets
+pub mod Covered
+pub mod OneList
+pub mod Places
+pub mod Edited

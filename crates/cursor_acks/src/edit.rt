@@ -12,6 +12,7 @@ use crate::search::{holds, place_of};
 fn begin(ranges: &[IndexRange], at: usize, index: u64) -> (usize, u64)
     requires kept { AreKept ranges.now }
     requires place { IsPlace ranges.now index at }
+    requires new { covers ranges.now index ≡ false }
     ensures { Begins ranges.now index at result.0 result.1 }
 {
     if at > 0 && ranges[at - 1].last + 1 == index {
