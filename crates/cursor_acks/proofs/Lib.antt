@@ -3,3 +3,5 @@ pub mod Covered
 pub mod OneList
 pub mod Places
 pub mod Edited
+pub mod Added
+pub mod Reading

@@ -115,10 +115,11 @@ impl Cursor {
     pub fn mark_delete(&self) -> u64
         ensures { result ≡ mark self.now.indexes }
     {
-        match self.ranges.as_slice().first() {
-            Some(range) if range.first == 0 => range.last + 1,
-            _ => 0,
+        let ranges = self.ranges.as_slice();
+        if !ranges.is_empty() && ranges[0].first == 0 {
+            return ranges[0].last + 1;
         }
+        0
     }
 
     /// Whether an index is acknowledged.

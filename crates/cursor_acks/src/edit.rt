@@ -66,7 +66,7 @@ impl RangeList {
         ensures spare { self.old.spare ≤ self.new.spare + 1 }
         ensures grown { stands_alone (indexes_of self.old.list) index ≡ false → self.old.spare ≤ self.new.spare }
     {
-        let ranges = self.items.as_slice();
+        let ranges = self.as_slice();
         let at = place_of(ranges, index);
         if holds(ranges, at, index) {
             return;
@@ -85,7 +85,7 @@ impl RangeList {
         ensures indexes { indexes_of self.new.list ≡ with_indexes (indexes_of self.old.list) (below (index + 1)) }
         ensures spare { self.old.spare ≤ self.new.spare + 1 }
     {
-        let ranges = self.items.as_slice();
+        let ranges = self.as_slice();
         let at = place_of(ranges, index + 1);
         let (to, last) = end(ranges, at, index);
         self.replace(0, to, IndexRange { first: 0, last });
