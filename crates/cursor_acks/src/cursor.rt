@@ -87,9 +87,7 @@ impl Cursor {
         ensures past_end { IfErr result (λ e. (len ≤ index) × (e ≡ record { index = index; len = len })) }
         ensures err { OnErr result (self.new ≡ self.old) }
     {
-        if index >= len {
-            return Err(PastEnd { index, len });
-        }
+        test_below(index, len)?;
         self.ranges.add(index);
         Ok(())
     }
@@ -104,16 +102,15 @@ impl Cursor {
         ensures past_end { IfErr result (λ e. (len ≤ index) × (e ≡ record { index = index; len = len })) }
         ensures err { OnErr result (self.new ≡ self.old) }
     {
-        if index >= len {
-            return Err(PastEnd { index, len });
-        }
+        test_below(index, len)?;
         self.ranges.add_to(index);
         Ok(())
     }
 
     /// The mark-delete: how many indexes from 0 on are all acknowledged.
     pub fn mark_delete(&self) -> u64
-        ensures { result ≡ mark self.now.indexes }
+        ensures mark { result ≡ mark self.now.indexes }
+        ensures least { IsFirstOpen self.now.indexes 0 result }
     {
         let ranges = self.ranges.as_slice();
         if !ranges.is_empty() && ranges[0].first == 0 {
@@ -159,4 +156,15 @@ impl Cursor {
             Err(_) => Err(Memory),
         }
     }
+}
+
+/// Whether an index has an entry in a topic of `len` entries.
+fn test_below(index: u64, len: u64) -> Result<(), PastEnd>
+    ensures ok { OnOk result (index < len) }
+    ensures past_end { IfErr result (λ e. (len ≤ index) × (e ≡ record { index = index; len = len })) }
+{
+    if index >= len {
+        return Err(PastEnd { index, len });
+    }
+    Ok(())
 }

@@ -1,8 +1,8 @@
-use Rattle.std.proofs.Common.{◌≡◌, ◌+◌, ◌<◌, ℕ, false, get_or, length, sym, ◌∙◌, arith}
+use Rattle.std.proofs.Common.{◌≡◌, ◌+◌, ◌<◌, false, get_or, length, arith}
 use Rattle.std.proofs.lemmas.List.{get_or_default}
 use Rattle.cursor_acks.specs.declared.range.IndexRange.{IndexRange}
 use Rattle.cursor_acks.specs.Acks.{IsFirstOpen}
-use Rattle.cursor_acks.specs.Places.{AreKept, IsPlace}
+use Rattle.cursor_acks.specs.Places.{AreKept}
 use Rattle.cursor_acks.specs.Ranges.{covers, indexes_of}
 use Rattle.cursor_acks.proofs.Places.{place_out}
 use Rattle.cursor_acks.proofs.Reading.{open_behind, open_here, open_is}
