@@ -60,8 +60,7 @@ open_behind rs i at e h p n le =
       least = λ j a b. has_indexes rs j ∙ covers_at rs at e j n (omega arith) (omega arith);
     }
 
--- the machine looks for it among so many indexes
-pub open_is : (set : List ℕ) (from i more : ℕ) → IsFirstOpen set from i → next_open set from more ≡ if_below i (from + more)
+open_is : (set : List ℕ) (from i more : ℕ) → IsFirstOpen set from i → next_open set from more ≡ if_below i (from + more)
 open_is set from i zero h =
     let past : nat_lt i (from + 0) ≡ false = grind (arith, nat_tests, h.reached) in
     rw past refl
@@ -80,6 +79,19 @@ open_is set from i (suc more) h =
           let out : has set from ≡ false = rw same at h.outside in
           let below : nat_lt from (from + suc more) ≡ true = grind (arith, nat_tests) in
           rw (same, out, below) refl
+    ]
+
+-- the machine looks for it below an end
+pub open_below : (set : List ℕ) (from i end : ℕ) → IsFirstOpen set from i → next_open set from (end - from) ≡ if_below i end
+open_below set from i end h =
+    elim (cases_lt end from) [
+      | inl lt ↦
+          let none : end - from ≡ 0 = omega arith in
+          let past : nat_lt i end ≡ false = grind (arith, nat_tests, h.reached) in
+          rw (none, past) refl
+      | inr le ↦
+          let same : from + (end - from) ≡ end = omega arith in
+          rw same at (open_is set from i (end - from) h)
     ]
 
 -- the first range tells where the mark-delete is

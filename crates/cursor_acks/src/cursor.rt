@@ -1,5 +1,5 @@
 //! A cursor.
-ghost use Rattle.std.specs.Prelude.{◌≡◌, ◌≤◌, ◌<◌, ◌+◌, ℕ, [], true, false, IfOk, OnOk, IfErr, OnErr};
+ghost use Rattle.std.specs.Prelude.{◌≡◌, ◌≤◌, ◌<◌, ◌+◌, ◌-◌, ℕ, [], true, false, IfOk, OnOk, IfErr, OnErr};
 ghost use Rattle.geo_base.specs.Cursor.{below, has, mark, next_open, with_index, with_indexes};
 ghost use Rattle.cursor_acks.specs.Acks.{IsFirstOpen, if_below, stands_alone};
 ghost use Rattle.cursor_acks.specs.Ranges.{AreRangesOf};
@@ -130,7 +130,7 @@ impl Cursor {
     /// The least index at or after `from` that is not acknowledged; it may be the topic's length or past it.
     pub fn next_open(&self, from: u64) -> u64
         ensures least { IsFirstOpen self.now.indexes from result }
-        ensures machine { (more : ℕ) → next_open self.now.indexes from more ≡ if_below result (from + more) }
+        ensures below { (end : ℕ) → next_open self.now.indexes from (end - from) ≡ if_below result end }
     {
         let ranges = self.ranges.as_slice();
         let at = place_of(ranges, from);
