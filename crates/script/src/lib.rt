@@ -28,14 +28,19 @@
 //! mean. [`read_script`] reads one, and a [`Scenario`] is what an accepted one says.
 #![tactic(auto)]
 
+mod adding;
 mod cut;
 mod draft;
-mod event_line;
 mod fault;
 mod kind;
 mod lines;
+mod name_list;
 mod number;
+mod parse;
+mod place;
 mod read;
+mod row;
+mod ruling;
 mod scenario;
 #[cfg(test)]
 mod tests;
