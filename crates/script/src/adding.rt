@@ -25,7 +25,11 @@ impl Draft {
             Row::Geo => self.begun = true,
             Row::Cluster(name) => self.add_cluster(alloc, name)?,
             Row::Topic(name) => self.add_topic(alloc, name)?,
-            Row::Client { name, topic, cluster } => self.add_client(alloc, name, topic, cluster)?,
+            Row::Client {
+                name,
+                topic,
+                cluster,
+            } => self.add_client(alloc, name, topic, cluster)?,
             Row::Do { client, act } => self.add_line(alloc, client, act)?,
             Row::Event(happening) => {
                 let event = self.event(happening);
@@ -86,7 +90,12 @@ impl Draft {
     }
 
     /// `do C ..`
-    fn add_line(&mut self, alloc: Global, client: &NameWord<'_>, act: &Act<'_>) -> Result<(), Memory>
+    fn add_line(
+        &mut self,
+        alloc: Global,
+        client: &NameWord<'_>,
+        act: &Act<'_>,
+    ) -> Result<(), Memory>
         requires known { client_number self.old.setup client.now < length self.old.setup.clients }
         requires fits { IsClientLine (line_named self.old.setup act.now) }
         ensures { OnOk result (self.new ≡ with_line self.old (client_number self.old.setup client.now)

@@ -83,7 +83,11 @@ impl<'a> Row<'a> {
         match kind {
             Kind::Geo => {
                 let version = words.one()?;
-                if version == b"1".as_slice() { Some(Row::Geo) } else { None }
+                if version == b"1".as_slice() {
+                    Some(Row::Geo)
+                } else {
+                    None
+                }
             }
             Kind::Cluster => Some(Row::Cluster(NameWord::read(words.one()?)?)),
             Kind::Topic => Some(Row::Topic(NameWord::read(words.one()?)?)),

@@ -1,11 +1,11 @@
 //! The rows of the table: what stands in a line, by its kind.
+ghost use Rattle.std.specs.Prelude.{◌≡◌};
+ghost use Rattle.script.specs.Adding.{stage_of};
+
 use crate::kind::Stage;
 use crate::name_list::NameList;
 use crate::place::{NameWord, TextWord};
 use geo_base::Fate;
-
-ghost use Rattle.std.specs.Prelude.{◌≡◌};
-ghost use Rattle.script.specs.Adding.{stage_of};
 
 /// `T X Y`: a topic and the two ends of a link.
 #[derive(Debug, Drop)]
@@ -69,7 +69,10 @@ pub(crate) enum Row<'a> {
         cluster: NameWord<'a>,
     },
     /// `do C ..`
-    Do { client: NameWord<'a>, act: Act<'a> },
+    Do {
+        client: NameWord<'a>,
+        act: Act<'a>,
+    },
     /// an event line
     Event(Happening<'a>),
 }

@@ -131,7 +131,10 @@ impl Draft {
         ensures { result ≡ has_stranger self.now.setup.clusters (act_clusters act.now) }
     {
         match act {
-            Act::Pub { to: Some(names), .. } => names.has_stranger(self.clusters.as_slice()),
+            Act::Pub {
+                to: Some(names),
+                ..
+            } => names.has_stranger(self.clusters.as_slice()),
             Act::Produce | Act::Pub { to: None, .. } => false,
         }
     }
@@ -219,7 +222,10 @@ impl Row<'_> {
     {
         match self {
             Row::Do {
-                act: Act::Pub { to: Some(names), .. },
+                act: Act::Pub {
+                    to: Some(names),
+                    ..
+                },
                 ..
             } => names.has_repeat(),
             _ => false,

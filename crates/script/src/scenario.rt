@@ -6,7 +6,9 @@ ghost use Rattle.geo_base.specs.Setup.{Declared};
 ghost use Rattle.script.specs.Scenario.{IsClientLine, IsClient, IsPublish, IsStep, IsScenario};
 ghost use Rattle.script.specs.Script.{script_with};
 
-use geo_base::{Blob, ClusterName, Line, Memory, ProducerName, Sequence, Step, Targets, Text, TopicName};
+use geo_base::{
+    Blob, ClusterName, Line, Memory, ProducerName, Sequence, Step, Targets, Text, TopicName,
+};
 use std::alloc::Global;
 use std::marker::Model;
 
