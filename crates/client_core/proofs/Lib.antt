@@ -1,3 +1,4 @@
+pub mod BuiltLines
 pub mod Getting
-pub mod ProducerLines
+pub mod HeldLists
 pub mod Published

@@ -1,2 +1,3 @@
-pub mod ProducerLine
+pub mod BuiltLine
 pub mod Counted
+pub mod Changing

@@ -1,25 +1,36 @@
-//! A client: its lines, what it keeps, and its three events. Each event is prepared, which takes all its memory and changes
-//! nothing, and then committed, which cannot fail.
+//! A client: its lines, what it keeps, and its three events. `go` and `reconnect` are prepared, which takes all their memory and
+//! changes nothing, and then committed, which cannot fail. `get` sends nothing, so that it is done at once.
 //!
-//! Built so far are lines that produce. A client without other lines subscribes to nothing and holds no message.
-ghost use Rattle.std.specs.Prelude.{◌≡◌, [], IfOk};
+//! What is prepared is a change of the client and no copy of it: what it holds and got grows with the run.
+ghost use Rattle.std.specs.Prelude.{◌≡◌, ◌<◌, ◌+◌, ◌^◌, IfOk};
 ghost use Rattle.geo_base.specs.Client.{new_client};
+ghost use Rattle.geo_base.specs.Going.{past};
+ghost use Rattle.client_core.specs.Changing.{ChangeFits, ClientFits, acted, changed};
 
+pub mod acknowledging;
 pub mod commands;
+pub mod connecting;
 pub mod getting;
 pub mod going;
+pub mod held;
 pub mod line;
 pub mod outgoing;
 pub mod prepared;
 
-use crate::client::prepared::ClientPrepared;
+use crate::client::held::{forget_first, forget_to};
+use crate::client::outgoing::Connection;
+use crate::client::prepared::{ClientChange, ClientPrepared};
+use geo_base::client::Held;
+use geo_base::entry::Ident;
+use geo_base::limits::{ACKED_AT_ONCE, UNANSWERED};
 use geo_base::memory::Memory;
 use script::ClientDecl;
 use std::alloc::Global;
 use std::marker::Model;
 
-/// The connection to the current cluster, how many lines are done, the index of the produce line in force, the indexes of
-/// the publishes that wait for their receipts, and what receipts came.
+/// The connection to the current cluster, how many lines are done, the indexes of the lines in force, the indexes of the
+/// publishes that wait for their receipts, what receipts came, the messages that came on this subscription and were not
+/// acknowledged, and all that came.
 #[derive(Debug, Drop)]
 pub struct Client {
     cluster: u32,
@@ -27,14 +38,18 @@ pub struct Client {
     is_connected: bool,
     done: usize,
     produce: Option<usize>,
+    sub: Option<usize>,
+    flow: Option<usize>,
     unanswered: Vec<usize>,
+    held: Vec<Held>,
     receipts: u64,
     duplicates: u64,
     errors: u64,
+    got: Vec<Ident>,
 }
 
 impl Model for Client {
-    ghost use Rattle.std.specs.Prelude.{[], None};
+    ghost use Rattle.std.specs.Prelude.{◌≤◌, vec_capacity};
     ghost use Rattle.geo_base.specs.Client.{Client};
 
     ghost Value = { Client };
@@ -45,33 +60,39 @@ impl Model for Client {
       connected = k.is_connected;
       done = k.done;
       produce = k.produce;
-      sub = None;
-      flow = None;
+      sub = k.sub;
+      flow = k.flow;
       unanswered = k.unanswered.items;
-      held = [];
+      held = k.held.items;
       receipts = k.receipts;
       duplicates = k.duplicates;
       errors = k.errors;
-      got = [];
+      got = k.got.items;
     } };
+
+    ghost invariant = { λ k. 256 ≤ vec_capacity k.unanswered };
 }
 
 impl Client {
-    /// A client that has done nothing yet; takes no memory.
-    pub fn new(alloc: Global, declared: &ClientDecl) -> Client
-        ensures { result ≡ new_client declared.now }
+    /// A client that has done nothing yet. Its window of unanswered publishes has its memory from here on.
+    pub fn new(alloc: Global, declared: &ClientDecl) -> Result<Client, Memory>
+        ensures { IfOk result (λ k. k ≡ new_client declared.now) }
     {
-        Client {
+        Ok(Client {
             cluster: declared.cluster(),
             connection: 0,
             is_connected: false,
             done: 0,
             produce: None,
-            unanswered: Vec::new(alloc),
+            sub: None,
+            flow: None,
+            unanswered: Vec::with_capacity(alloc, UNANSWERED)?,
+            held: Vec::new(alloc),
             receipts: 0,
             duplicates: 0,
             errors: 0,
-        }
+            got: Vec::new(alloc),
+        })
     }
 
     /// The number of the cluster that it is at.
@@ -81,10 +102,9 @@ impl Client {
         self.cluster
     }
 
-    /// How many of its lines are done. It subscribes to nothing, so no message came.
+    /// How many of its lines are done.
     pub fn done(&self) -> usize
-        ensures done { result ≡ self.now.done }
-        ensures unsubscribed { self.now.got ≡ [] }
+        ensures { result ≡ self.now.done }
     {
         self.done
     }
@@ -110,27 +130,76 @@ impl Client {
         self.errors
     }
 
-    /// Does what was prepared; takes no memory.
-    pub fn commit(&mut self, prepared: ClientPrepared)
-        ensures { self.new ≡ prepared.client }
+    /// The identities of all messages that came for its subscriptions, in order of receipt.
+    pub fn got(&self) -> &[Ident]
+        ensures { result.now ≡ self.now.got }
     {
-        *self = prepared.into_client();
+        self.got.as_slice()
     }
 
-    /// A copy.
-    fn copy(&self, alloc: Global) -> Result<Client, Memory>
-        ensures { IfOk result (λ k. k ≡ self.now) }
+    /// Does what was prepared; takes no memory.
+    pub fn commit(&mut self, prepared: ClientPrepared)
+        requires { ClientFits prepared.change self.old }
+        ensures { self.new ≡ (acted prepared self.old).client }
     {
-        Ok(Client {
+        if let Some(change) = prepared.change() {
+            self.change(change);
+        }
+    }
+
+    fn change(&mut self, change: ClientChange)
+        requires { ChangeFits change self.old }
+        ensures { self.new ≡ changed change self.old }
+    {
+        match change {
+            ClientChange::Produces => self.produce = Some(self.pass_line()),
+            ClientChange::Publishes => {
+                let line = self.pass_line();
+                self.unanswered.push_reserved(line);
+            }
+            ClientChange::Subscribes => {
+                self.sub = Some(self.pass_line());
+                self.flow = None;
+                self.held.clear();
+            }
+            ClientChange::Permits => self.flow = Some(self.pass_line()),
+            ClientChange::Acknowledges(at) => {
+                self.pass_line();
+                self.held.remove(at);
+            }
+            ClientChange::AcknowledgesTo(position) => {
+                self.pass_line();
+                forget_to(&mut self.held, position);
+            }
+            ClientChange::AcknowledgesAll => {
+                self.pass_line();
+                forget_first(&mut self.held, ACKED_AT_ONCE);
+            }
+            ClientChange::Reconnects => {
+                self.connection += 1;
+                self.is_connected = true;
+                self.held.clear();
+            }
+        }
+    }
+
+    /// The next line is done; its index.
+    fn pass_line(&mut self) -> usize
+        requires { self.old.done + 1 < 2 ^ 64 }
+        ensures line { result ≡ self.old.done }
+        ensures client { self.new ≡ past self.old }
+    {
+        self.done += 1;
+        self.done - 1
+    }
+
+    /// The connection that it has.
+    fn connection(&self) -> Connection
+        ensures { result ≡ record { cluster = self.now.cluster; number = self.now.connection } }
+    {
+        Connection {
             cluster: self.cluster,
-            connection: self.connection,
-            is_connected: self.is_connected,
-            done: self.done,
-            produce: self.produce,
-            unanswered: Vec::from_slice(alloc, self.unanswered.as_slice())?,
-            receipts: self.receipts,
-            duplicates: self.duplicates,
-            errors: self.errors,
-        })
+            number: self.connection,
+        }
     }
 }

@@ -1,5 +1,7 @@
 //! What a script declares, as the events of its run read it.
-ghost use Rattle.std.specs.Prelude.{◌≡◌, ◌<◌, ◌≤◌, length};
+ghost use Rattle.std.specs.Prelude.{◌≡◌, ◌<◌, ◌≤◌, true, length};
+ghost use Rattle.std.specs.List.{list_all};
+ghost use Rattle.geo_base.specs.Name.{is_name};
 ghost use Rattle.geo_base.specs.Scripted.{IsScripted};
 ghost use Rattle.geo_base.specs.Setup.{declared_at, topic_name};
 
@@ -41,6 +43,7 @@ impl<'a> Declarations<'a> {
     pub fn clusters(&self) -> &[ClusterName]
         ensures value { result.now ≡ self.now.clusters }
         ensures few { length self.now.clusters ≤ CLUSTERS }
+        ensures named { list_all is_name self.now.clusters ≡ true }
     {
         self.scenario.clusters()
     }

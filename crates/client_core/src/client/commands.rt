@@ -1,107 +1,42 @@
-//! What a client sends for its lines, and `reconnect`, which sends all that is in force or unanswered again.
-ghost use Rattle.std.specs.Prelude.{◌≡◌, ◌<◌, ◌≤◌, ◌^◌, true, ◌∷◌, [], ◌++◌, length, IfOk, OnOk};
-ghost use Rattle.geo_base.specs.Client.{command, command_at, commands_at, connects, id_of, published, reconnect};
-ghost use Rattle.geo_base.specs.Built.{is_client_frame};
-ghost use Rattle.client_core.specs.Counted.{CanCount};
+//! The frames that a client sends for its lines.
+ghost use Rattle.std.specs.Prelude.{◌≡◌, ◌≤◌, ◌++◌, true, length, Some, IfOk, OnOk};
+ghost use Rattle.geo_base.specs.Client.{command, id_of, published, target_names};
 ghost use Rattle.geo_base.specs.Message.{is_message};
-ghost use Rattle.client_core.specs.ProducerLine.{is_producer_line};
+ghost use Rattle.geo_base.specs.Scripted.{is_optional_name};
+ghost use Rattle.client_core.specs.BuiltLine.{is_built_line};
+ghost use Rattle.client_core.specs.Changing.{as_connected};
 
 use crate::client::Client;
-use crate::client::line::line_at;
-use crate::client::outgoing::{ClientOut, add};
-use crate::client::prepared::ClientPrepared;
+use crate::client::outgoing::{ClientOut, Connection, add};
 use crate::setup::Declarations;
 use geo_base::bytes::{Blob, Text};
 use geo_base::client::Line;
+use geo_base::copy::optional_text_copy;
 use geo_base::entry::{Content, Entry, Ident, Metadata, Targets};
 use geo_base::frame::Frame;
+use geo_base::limits::CLUSTERS;
 use geo_base::memory::Memory;
-use geo_base::packet::{Out, Peer};
+use geo_base::name::ClusterName;
 use geo_base::sequence::Sequence;
 use script::ClientDecl;
 use std::alloc::Global;
 
 impl Client {
-    /// What will be done where a client connects again to its cluster: CONNECT, then the command of the produce line in
-    /// force, then each publish without receipt in order.
-    #[tactic(auto, unfolding(geo_base::specs::Client::reconnect))]
-    pub fn prepare_reconnect(
+    /// Adds what is sent on a connection for a line that is in force or unanswered; other lines are sent once. A line's index is
+    /// its request id.
+    #[tactic(auto, using(crate::proofs::Published::key_is_name, crate::proofs::Published::text_is_short))]
+    pub(super) fn add_command(
         &self,
         alloc: Global,
         setup: &Declarations,
         declared: &ClientDecl,
-    ) -> Result<ClientPrepared, Memory>
-        requires { CanCount self.now }
-        ensures { IfOk result (λ p. p ≡ reconnect setup.now declared.now self.now) }
-    {
-        let mut client = self.copy(alloc)?;
-        client.connection += 1;
-        client.is_connected = true;
-        client.connects(alloc, setup, declared)
-    }
-
-    fn connects(
-        self,
-        alloc: Global,
-        setup: &Declarations,
-        declared: &ClientDecl,
-    ) -> Result<ClientPrepared, Memory>
-        ensures { IfOk result (λ p. p ≡ connects setup.now declared.now self) }
-    {
-        let mut sent = Vec::new(alloc);
-        add(&mut sent, self.to_broker(Frame::Connect))?;
-        self.add_command_at(alloc, setup, declared, self.produce, &mut sent)?;
-        self.add_unanswered(alloc, setup, declared, &mut sent)?;
-        Ok(ClientPrepared::becomes(self, sent))
-    }
-
-    fn add_unanswered(
-        &self,
-        alloc: Global,
-        setup: &Declarations,
-        declared: &ClientDecl,
-        sent: &mut Vec<ClientOut>,
-    ) -> Result<(), Memory>
-        ensures { OnOk result (sent.new.items ≡ sent.old.items ++ commands_at setup.now declared.now self.now self.now.unanswered) }
-    {
-        let unanswered = self.unanswered.as_slice();
-        for index in unanswered {
-            self.add_command_at(alloc, setup, declared, Some(*index), sent)?;
-        }
-        Ok(())
-    }
-
-    fn add_command_at(
-        &self,
-        alloc: Global,
-        setup: &Declarations,
-        declared: &ClientDecl,
-        index: Option<usize>,
-        sent: &mut Vec<ClientOut>,
-    ) -> Result<(), Memory>
-        ensures { OnOk result (sent.new.items ≡ sent.old.items ++ command_at setup.now declared.now self.now index) }
-    {
-        let Some(index) = index else {
-            return Ok(());
-        };
-        match line_at(declared, index) {
-            Some(line) => add(sent, self.command(alloc, setup, declared, index, line)?),
-            None => Ok(()),
-        }
-    }
-
-    /// What is sent for a line that is in force or unanswered. Its index is its request id.
-    #[tactic(auto, using(crate::proofs::ProducerLines::goes_everywhere, crate::proofs::ProducerLines::has_no_key, crate::proofs::ProducerLines::has_short_text))]
-    pub(super) fn command(
-        &self,
-        alloc: Global,
-        setup: &Declarations,
-        declared: &ClientDecl,
+        connection: Connection,
         index: usize,
         line: &Line,
-    ) -> Result<ClientOut, Memory>
-        requires { is_producer_line line.now ≡ true }
-        ensures { IfOk result (λ out. command setup.now declared.now self.now index (Some line.now) ≡ out ∷ []) }
+        sent: &mut Vec<ClientOut>,
+    ) -> Result<(), Memory>
+        requires { is_built_line line.now ≡ true }
+        ensures { OnOk result (sent.new.items ≡ sent.old.items ++ command setup.now declared.now (as_connected connection self.now) index (Some line.now)) }
     {
         let frame = match line {
             Line::Produce => Frame::Producer {
@@ -110,68 +45,106 @@ impl Client {
                 request: index as u64,
                 name: Some(Text::from_str(alloc, declared.name().as_str())?),
             },
-            Line::Pub { seq, text, .. } => Frame::Send {
-                id: self.producer_id(),
+            Line::Pub { seq, to, key, text } => Frame::Send {
+                id: id_of(self.produce),
                 seq: *seq,
                 source: None,
-                entry: self.publish(alloc, setup, declared, *seq, text)?,
+                entry: self.published(
+                    alloc, setup, declared, connection, *seq, *to, key, text,
+                )?,
             },
-            _ => unreachable!(),
+            Line::Sub { sub, kind, earliest, replicated } => Frame::Subscribe {
+                topic: Text::from_str(alloc, setup.topic_name(declared.topic()))?,
+                sub: sub.copy(alloc)?,
+                kind: *kind,
+                id: index as u64,
+                request: index as u64,
+                consumer: Some(Text::from_str(alloc, declared.name().as_str())?),
+                earliest: *earliest,
+                replicated: *replicated,
+            },
+            Line::Flow { permits } => Frame::Flow {
+                id: id_of(self.sub),
+                permits: *permits as u64,
+            },
+            Line::Ack { .. }
+            | Line::AckTo { .. }
+            | Line::AckAll
+            | Line::Unsub
+            | Line::Close
+            | Line::CloseProducer
+            | Line::Ping
+            | Line::Move { .. } => return Ok(()),
         };
-        Ok(self.to_broker(frame))
+        add(sent, connection.to_broker(frame))
     }
 
-    /// A frame on the connection to the current cluster.
-    fn to_broker(&self, frame: Frame) -> ClientOut
-        requires { is_client_frame frame ≡ true }
-        ensures { result ≡ record { to = Peer.Broker self.now.cluster; session = self.now.connection; frame = frame } }
-    {
-        ClientOut::new(Out {
-            to: Peer::Broker(self.cluster),
-            session: self.connection,
-            frame,
-        })
-    }
-
-    /// The id of the producer: the index of the produce line in force.
-    fn producer_id(&self) -> u64
-        ensures { result ≡ id_of self.now.produce }
-    {
-        match self.produce {
-            Some(index) => index as u64,
-            None => 0,
-        }
-    }
-
-    /// The message that a `pub` line publishes to all clusters, without a key.
-    #[tactic(auto, using(crate::proofs::Published::published_is_message))]
-    fn publish(
+    /// The message that a `pub` line publishes on a connection.
+    fn published(
         &self,
         alloc: Global,
         setup: &Declarations,
         declared: &ClientDecl,
+        connection: Connection,
         seq: u64,
+        to: Targets,
+        key: &Option<Text>,
         text: &Blob,
     ) -> Result<Entry, Memory>
-        requires { length text.now ≤ 1024 }
-        ensures entry { IfOk result (λ e. e ≡ published setup.now declared.now self.now seq Targets.All None text.now) }
+        requires key { is_optional_name key.now ≡ true }
+        requires text { length text.now ≤ 1024 }
+        ensures entry { IfOk result (λ e. e ≡ published setup.now declared.now (as_connected connection self.now) seq to key.now text.now) }
         ensures message { IfOk result (λ e. is_message e ≡ true) }
     {
         Ok(Entry {
             ident: Ident {
-                origin: self.cluster,
+                origin: connection.cluster,
                 producer: declared.name().copy(alloc)?,
                 seq,
             },
             content: Content::Data,
-            to: Targets::All,
+            to,
             meta: Metadata {
                 publish_time: 0,
-                key: None,
-                names: Sequence::new(alloc),
+                key: optional_text_copy(alloc, key)?,
+                names: target_names(alloc, setup.clusters(), to)?,
                 rest: Blob::new(alloc),
             },
             payload: text.copy(alloc)?,
         })
     }
+}
+
+/// The id of a producer or a consumer: the index of its line in force.
+pub(super) fn id_of(line: Option<usize>) -> u64
+    ensures { result ≡ id_of line }
+{
+    match line {
+        Some(index) => index as u64,
+        None => 0,
+    }
+}
+
+/// The names of a target list's clusters, in cluster order; none where it is for all.
+fn target_names(alloc: Global, clusters: &[ClusterName], to: Targets) -> Result<Sequence<Text>, Memory>
+    requires { length clusters.now ≤ CLUSTERS }
+    ensures { IfOk result (λ names. names ≡ target_names 0 to clusters.now) }
+{
+    match to {
+        Targets::All => Ok(Sequence::new(alloc)),
+        Targets::Only(bits) => named_clusters(alloc, clusters, bits),
+    }
+}
+
+fn named_clusters(alloc: Global, clusters: &[ClusterName], bits: u8) -> Result<Sequence<Text>, Memory>
+    requires { length clusters.now ≤ CLUSTERS }
+    ensures { IfOk result (λ names. names ≡ target_names 0 (Targets.Only bits) clusters.now) }
+{
+    let mut names = Sequence::new(alloc);
+    for (number, name) in clusters.iter().enumerate() {
+        if Targets::Only(bits).contains(number as u32) {
+            names.push(Text::from_str(alloc, name.as_str())?)?;
+        }
+    }
+    Ok(names)
 }

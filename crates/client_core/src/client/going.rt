@@ -1,12 +1,13 @@
 //! `go`: a client does its next line.
-ghost use Rattle.std.specs.Prelude.{◌≡◌, ◌<◌, ◌+◌, ◌^◌, true, Some, IfOk};
-ghost use Rattle.geo_base.specs.Going.{go, go_line};
-ghost use Rattle.client_core.specs.ProducerLine.{is_producer_line, is_publish};
+ghost use Rattle.std.specs.Prelude.{◌≡◌, ◌<◌, ◌^◌, ◌&&◌, true, nat_lt, length, is_some, Some, IfOk};
+ghost use Rattle.geo_base.specs.Client.{command};
+ghost use Rattle.geo_base.specs.Going.{go, go_line, most_unanswered};
+ghost use Rattle.client_core.specs.BuiltLine.{is_built_line};
+ghost use Rattle.client_core.specs.Changing.{ClientFits, acted, as_connected};
 
 use crate::client::Client;
 use crate::client::line::line_at;
-use crate::client::outgoing::{ClientOut, add};
-use crate::client::prepared::ClientPrepared;
+use crate::client::prepared::{ClientChange, ClientPrepared};
 use crate::setup::Declarations;
 use geo_base::client::Line;
 use geo_base::limits::UNANSWERED;
@@ -15,8 +16,9 @@ use script::ClientDecl;
 use std::alloc::Global;
 
 impl Client {
-    /// What will be done where a client does its next line. It is idle where the client is not connected, has no line left, or
-    /// publishes without a produce line in force or with as many publishes without receipt as may wait.
+    /// What will be done where a client does its next line. It is idle where the client is not connected, has no line left,
+    /// publishes without a `produce` line in force or with as many publishes without receipt as may wait, gives permits without a
+    /// `sub` line in force, or acknowledges what it does not hold.
     #[tactic(auto, unfolding(geo_base::specs::Going::go))]
     pub fn prepare_go(
         &self,
@@ -24,84 +26,81 @@ impl Client {
         setup: &Declarations,
         declared: &ClientDecl,
     ) -> Result<ClientPrepared, Memory>
-        ensures { IfOk result (λ p. p ≡ go setup.now declared.now self.now) }
+        ensures acted { IfOk result (λ p. acted p self.now ≡ go setup.now declared.now self.now) }
+        ensures fits { IfOk result (λ p. ClientFits p.change self.now) }
     {
-        let client = self.copy(alloc)?;
-        if !client.is_connected {
-            return Ok(ClientPrepared::stays(alloc, client));
+        if !self.is_connected {
+            return Ok(ClientPrepared::idle(alloc));
         }
-        match line_at(declared, client.done) {
-            Some(line) => client.goes(alloc, setup, declared, line),
-            None => Ok(ClientPrepared::stays(alloc, client)),
+        match line_at(declared, self.done) {
+            Some(line) => self.goes(alloc, setup, declared, line),
+            None => Ok(ClientPrepared::idle(alloc)),
         }
     }
 
     fn goes(
-        self,
+        &self,
         alloc: Global,
         setup: &Declarations,
         declared: &ClientDecl,
         line: &Line,
     ) -> Result<ClientPrepared, Memory>
-        requires built { is_producer_line line.now ≡ true }
-        requires more { self.done + 1 < 2 ^ 64 }
-        ensures { IfOk result (λ p. p ≡ go_line setup.now declared.now self (Some line.now)) }
+        requires built { is_built_line line.now ≡ true }
+        requires more { self.now.done < 2 ^ 63 }
+        ensures acted { IfOk result (λ p. acted p self.now ≡ go_line setup.now declared.now self.now (Some line.now)) }
+        ensures fits { IfOk result (λ p. ClientFits p.change self.now) }
     {
         match line {
-            Line::Produce => self.produces(alloc, setup, declared, line),
-            Line::Pub { .. } => self.publishes(alloc, setup, declared, line),
+            Line::Produce => self.sends(alloc, setup, declared, ClientChange::Produces, line),
+            Line::Pub { .. } => {
+                if !self.can_publish() {
+                    return Ok(ClientPrepared::idle(alloc));
+                }
+                self.sends(alloc, setup, declared, ClientChange::Publishes, line)
+            }
+            Line::Sub { .. } => self.sends(alloc, setup, declared, ClientChange::Subscribes, line),
+            Line::Flow { .. } => {
+                if self.sub.is_none() {
+                    return Ok(ClientPrepared::idle(alloc));
+                }
+                self.sends(alloc, setup, declared, ClientChange::Permits, line)
+            }
+            Line::Ack { ident } => self.acknowledges(alloc, ident),
+            Line::AckTo { ident } => self.acknowledges_to(alloc, ident),
+            Line::AckAll => self.acknowledges_all(alloc),
             _ => unreachable!(),
         }
     }
 
-    fn produces(
-        self,
-        alloc: Global,
-        setup: &Declarations,
-        declared: &ClientDecl,
-        line: &Line,
-    ) -> Result<ClientPrepared, Memory>
-        requires produce { line.now ≡ Line.Produce }
-        requires more { self.done + 1 < 2 ^ 64 }
-        ensures { IfOk result (λ p. p ≡ go_line setup.now declared.now self (Some line.now)) }
+    /// Whether a `produce` line is in force, and one more publish may wait for its receipt.
+    fn can_publish(&self) -> bool
+        ensures { result ≡ (is_some self.now.produce && nat_lt (length self.now.unanswered) most_unanswered) }
     {
-        let mut client = self;
-        let index = client.done;
-        client.done += 1;
-        client.produce = Some(index);
-        let mut sent = Vec::new(alloc);
-        add(
-            &mut sent,
-            client.command(alloc, setup, declared, index, line)?,
-        )?;
-        Ok(ClientPrepared::becomes(client, sent))
+        self.produce.is_some() && self.unanswered.len() < UNANSWERED
     }
 
-    fn publishes(
-        self,
+    /// The next line makes a change, and its command is sent.
+    fn sends(
+        &self,
         alloc: Global,
         setup: &Declarations,
         declared: &ClientDecl,
+        change: ClientChange,
         line: &Line,
     ) -> Result<ClientPrepared, Memory>
-        requires built { is_producer_line line.now ≡ true }
-        requires publish { is_publish line.now ≡ true }
-        requires more { self.done + 1 < 2 ^ 64 }
-        ensures { IfOk result (λ p. p ≡ go_line setup.now declared.now self (Some line.now)) }
+        requires { is_built_line line.now ≡ true }
+        ensures { IfOk result (λ p. p ≡ record { change = Some change; sent = command setup.now declared.now (as_connected (record { cluster = self.now.cluster; number = self.now.connection }) self.now) self.now.done (Some line.now) }) }
     {
-        let mut client = self;
-        if client.produce.is_none() || client.unanswered.len() >= UNANSWERED {
-            return Ok(ClientPrepared::stays(alloc, client));
-        }
-        let index = client.done;
         let mut sent = Vec::new(alloc);
-        add(
+        self.add_command(
+            alloc,
+            setup,
+            declared,
+            self.connection(),
+            self.done,
+            line,
             &mut sent,
-            client.command(alloc, setup, declared, index, line)?,
         )?;
-        client.unanswered.reserve(1)?;
-        client.unanswered.push_reserved(index);
-        client.done += 1;
-        Ok(ClientPrepared::becomes(client, sent))
+        Ok(ClientPrepared::new(change, sent))
     }
 }

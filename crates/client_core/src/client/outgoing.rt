@@ -1,9 +1,10 @@
-//! What a client sends.
+//! What a client sends, and the connection that it sends it on.
 ghost use Rattle.std.specs.Prelude.{◌≡◌, true, ◌∷◌, [], ◌++◌, OnOk, OnErr};
 ghost use Rattle.geo_base.specs.Built.{is_client_frame};
 
+use geo_base::frame::Frame;
 use geo_base::memory::Memory;
-use geo_base::packet::Out;
+use geo_base::packet::{Out, Peer};
 use std::marker::Model;
 
 /// What a client sends, which fits its link to a broker.
@@ -39,6 +40,27 @@ impl ClientOut {
         ensures fits { is_client_frame self.frame ≡ true }
     {
         self.out
+    }
+}
+
+/// A connection of a client: the cluster that it leads to, and its number, from 1.
+#[derive(Clone, Copy, Debug, Drop, PartialEq, Eq)]
+pub struct Connection {
+    pub cluster: u32,
+    pub number: u64,
+}
+
+impl Connection {
+    /// A frame to the broker.
+    pub(super) fn to_broker(self, frame: Frame) -> ClientOut
+        requires { is_client_frame frame ≡ true }
+        ensures { result ≡ record { to = Peer.Broker self.cluster; session = self.number; frame = frame } }
+    {
+        ClientOut::new(Out {
+            to: Peer::Broker(self.cluster),
+            session: self.number,
+            frame,
+        })
     }
 }
 
