@@ -1,3 +1,7 @@
+pub mod Numbers
+pub mod Ascending
+pub mod Told
+pub mod Written
 pub mod Meaning
 pub mod Reading
 pub mod Refused
