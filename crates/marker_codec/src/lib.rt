@@ -1,0 +1,10 @@
+//! The markers of replicated subscriptions as bytes (PIP-33, PulsarMarkers.proto).
+#![tactic(auto)]
+
+mod fault;
+mod marker;
+pub mod table;
+mod write;
+
+pub use fault::MarkerFault;
+pub use marker::{ClusterMessageId, ClusterMessageIds, Marker};
