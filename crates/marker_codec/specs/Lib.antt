@@ -1,3 +1,4 @@
 pub mod Kinds
+pub mod Markers
 pub mod Canonical
 pub mod Faults

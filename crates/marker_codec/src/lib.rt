@@ -2,9 +2,13 @@
 #![tactic(auto)]
 
 mod fault;
+mod kind;
+mod laws;
 mod marker;
 pub mod table;
 mod write;
 
 pub use fault::MarkerFault;
+pub use kind::MarkerKind;
+pub use laws::one_meaning;
 pub use marker::{ClusterMessageId, ClusterMessageIds, Marker};

@@ -3,7 +3,7 @@
 ghost use Rattle.std.specs.Prelude.{◌≡◌};
 ghost use Rattle.marker_codec.specs.Kinds.{marker_kind};
 
-use crate::table::{REQUEST, RESPONSE, SNAPSHOT, UPDATE};
+use crate::kind::MarkerKind;
 use geo_base::{Position, Sequence, Text};
 
 /// A cluster by its name, and a position in its topic (ClusterMessageId in PulsarMarkers.proto).
@@ -54,15 +54,15 @@ pub enum Marker {
 }
 
 impl Marker {
-    /// The kind that the metadata of the marker's entry names, 10 to 13 (own: this project's profile).
-    pub fn kind(&self) -> u64
+    /// What the marker is; the number of its kind stands in the metadata of its entry.
+    pub fn kind(&self) -> MarkerKind
         ensures { result ≡ marker_kind self.now }
     {
         match self {
-            Marker::Request { .. } => REQUEST,
-            Marker::Response { .. } => RESPONSE,
-            Marker::Snapshot { .. } => SNAPSHOT,
-            Marker::Update { .. } => UPDATE,
+            Marker::Request { .. } => MarkerKind::Request,
+            Marker::Response { .. } => MarkerKind::Response,
+            Marker::Snapshot { .. } => MarkerKind::Snapshot,
+            Marker::Update { .. } => MarkerKind::Update,
         }
     }
 }

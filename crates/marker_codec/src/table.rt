@@ -1,6 +1,9 @@
 //! The kinds of markers, and the fields of each (PulsarMarkers.proto). In this project every field that is not repeated
 //! is required (own).
 
+use pb_fields::embedded::{OfTable, Unread};
+use pb_fields::message::{Form, Row};
+
 /// The kind of a request (own: this project's profile fixes the kinds).
 pub const REQUEST: u64 = 10;
 
@@ -45,3 +48,104 @@ pub const LEDGER_ID: u32 = 1;
 
 /// The entry, in a MarkersMessageIdData.
 pub const ENTRY_ID: u32 = 2;
+
+/// The fields of a request.
+pub const REQUEST_ROWS: [Row; 2] = [
+    Row {
+        number: SNAPSHOT_ID,
+        form: Form::Text,
+        required: true,
+    },
+    Row {
+        number: SOURCE_CLUSTER,
+        form: Form::Text,
+        required: true,
+    },
+];
+
+/// The fields of a response.
+pub const RESPONSE_ROWS: [Row; 2] = [
+    Row {
+        number: SNAPSHOT_ID,
+        form: Form::Text,
+        required: true,
+    },
+    Row {
+        number: RESPONSE_CLUSTER,
+        form: Form::Message,
+        required: true,
+    },
+];
+
+/// The fields of a snapshot.
+pub const SNAPSHOT_ROWS: [Row; 3] = [
+    Row {
+        number: SNAPSHOT_ID,
+        form: Form::Text,
+        required: true,
+    },
+    Row {
+        number: LOCAL_MESSAGE_ID,
+        form: Form::Message,
+        required: true,
+    },
+    Row {
+        number: SNAPSHOT_CLUSTERS,
+        form: Form::Message,
+        required: false,
+    },
+];
+
+/// The fields of an update.
+pub const UPDATE_ROWS: [Row; 2] = [
+    Row {
+        number: SUBSCRIPTION_NAME,
+        form: Form::Text,
+        required: true,
+    },
+    Row {
+        number: UPDATE_CLUSTERS,
+        form: Form::Message,
+        required: false,
+    },
+];
+
+/// The fields of a ClusterMessageId.
+pub const CLUSTER_ROWS: [Row; 2] = [
+    Row {
+        number: CLUSTER,
+        form: Form::Text,
+        required: true,
+    },
+    Row {
+        number: MESSAGE_ID,
+        form: Form::Message,
+        required: true,
+    },
+];
+
+/// The fields of a MarkersMessageIdData.
+pub const POSITION_ROWS: [Row; 2] = [
+    Row {
+        number: LEDGER_ID,
+        form: Form::Varint,
+        required: true,
+    },
+    Row {
+        number: ENTRY_ID,
+        form: Form::Varint,
+        required: true,
+    },
+];
+
+/// Embedded messages that are each a MarkersMessageIdData.
+pub(crate) const POSITION_PARTS: OfTable<'static, Unread> = OfTable {
+    rows: &POSITION_ROWS,
+    embedded: Unread,
+};
+
+/// Embedded messages that are each a ClusterMessageId.
+pub(crate) const CLUSTER_PARTS: OfTable<'static, OfTable<'static, Unread>> = OfTable {
+    rows: &CLUSTER_ROWS,
+    embedded: POSITION_PARTS,
+};

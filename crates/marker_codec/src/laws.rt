@@ -1,0 +1,17 @@
+//! What holds of the grammar of markers alone, whoever reads or writes.
+
+ghost use Rattle.std.specs.Prelude.{◌≡◌, ℕ, List};
+ghost use Rattle.pb_fields.specs.Canonical.{text};
+ghost use Rattle.marker_codec.specs.declared.marker.Marker.{Marker};
+ghost use Rattle.marker_codec.specs.declared.fault.MarkerFault.{MarkerFault};
+ghost use Rattle.marker_codec.specs.Kinds.{kind_number, marker_kind};
+ghost use Rattle.marker_codec.specs.Markers.{IsMarkerText};
+ghost use Rattle.marker_codec.specs.Faults.{WrongMarker};
+ghost use Rattle.marker_codec.specs.Canonical.{IsMarker, canonical_fields};
+
+/// Bytes of a kind are a text of one marker at most, have one fault at most, and not both.
+pub fn one_meaning()
+    ensures text { (number : ℕ) (bytes : List ℕ) (m n : Marker) → IsMarkerText number bytes m → IsMarkerText number bytes n → m ≡ n }
+    ensures fault { (number : ℕ) (bytes : List ℕ) (a b : MarkerFault) → WrongMarker number bytes a → WrongMarker number bytes b → a ≡ b }
+    ensures either { (number : ℕ) (bytes : List ℕ) (m : Marker) (e : MarkerFault) → IsMarkerText number bytes m → WrongMarker number bytes e → ⊥ }
+{}
