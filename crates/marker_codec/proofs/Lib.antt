@@ -1,2 +1,4 @@
 pub mod Exact
 pub mod Meaning
+pub mod Clusters
+pub mod Written

@@ -41,8 +41,8 @@ position_one : (bytes : List ℕ) (p q : Position) → IsPositionText bytes p �
 position_one bytes p q h k =
     let same : h.fields ≡ k.fields = text_one h.text k.text in
     same_position p q
-    (same_varint _ _ (sym h.ledger_id ∙ ap (λ (fs : List Field). last_value 1 fs) same ∙ k.ledger_id))
-    (same_varint _ _ (sym h.entry_id ∙ ap (λ (fs : List Field). last_value 2 fs) same ∙ k.entry_id))
+    (same_varint _ _ (sym h.says.ledger_id ∙ ap (λ (fs : List Field). last_value 1 fs) same ∙ k.says.ledger_id))
+    (same_varint _ _ (sym h.says.entry_id ∙ ap (λ (fs : List Field). last_value 2 fs) same ∙ k.says.entry_id))
 
 -- what the last value of a number holds
 holds_one : {X : Type 0} (P : X → List ℕ → Type 0) (n : ℕ) (fs : List Field) (x y : X) → ((content : List ℕ) → P x content → P y content → x ≡ y) → LastHolds n fs (P x) → LastHolds n fs (P y) → x ≡ y
@@ -60,9 +60,9 @@ cluster_one : (bytes : List ℕ) (c d : ClusterMessageId) → IsClusterText byte
 cluster_one bytes c d h k =
     let same : h.fields ≡ k.fields = text_one h.text k.text in
     same_cluster c d
-    (same_bytes _ _ (sym h.cluster ∙ ap (λ (fs : List Field). last_value 1 fs) same ∙ k.cluster))
+    (same_bytes _ _ (sym h.says.cluster ∙ ap (λ (fs : List Field). last_value 1 fs) same ∙ k.says.cluster))
     (holds_one (λ p content. IsPositionText content p) 2 k.fields c.message_id d.message_id (λ content a b. position_one content c.message_id d.message_id a b)
-      (subst (λ (fs : List Field). LastHolds 2 fs (λ content. IsPositionText content c.message_id)) same h.message_id) k.message_id)
+      (subst (λ (fs : List Field). LastHolds 2 fs (λ content. IsPositionText content c.message_id)) same h.says.message_id) k.says.message_id)
 
 same_content : (v : Value) (a b : List ℕ) → v ≡ value.Bytes a → v ≡ value.Bytes b → a ≡ b
 same_content v a b e f = cc

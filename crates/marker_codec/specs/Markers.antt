@@ -17,12 +17,15 @@ use Rattle.marker_codec.specs.declared.table.TheConstants.{CLUSTER_ROWS, POSITIO
 use Rattle.marker_codec.specs.Kinds.{kind_number, kind_rows, marker_kind, RightPosition, RightPart}
 
 -- a MarkersMessageIdData
+pub record SaysPosition (fields : List Field) (p : Position) : Type 0 where
+  pub ledger_id : last_value LEDGER_ID fields ≡ Some (value.Varint p.ledger)
+  pub entry_id : last_value ENTRY_ID fields ≡ Some (value.Varint p.entry)
+
 pub record IsPositionText (bytes : List ℕ) (p : Position) : Type 0 where
   pub fields : List Field
   pub text : IsText bytes fields
   pub message : IsMessageWith AnyContent POSITION_ROWS fields
-  pub ledger_id : last_value LEDGER_ID fields ≡ Some (value.Varint p.ledger)
-  pub entry_id : last_value ENTRY_ID fields ≡ Some (value.Varint p.entry)
+  pub says : SaysPosition fields p
 
 -- The last value of a number counts, and its content is as P says.
 pub record LastHolds (number : ℕ) (fields : List Field) (P : List ℕ → Type 0) : Type 0 where
@@ -31,12 +34,15 @@ pub record LastHolds (number : ℕ) (fields : List Field) (P : List ℕ → Type
   pub means : P content
 
 -- a ClusterMessageId
+pub record SaysCluster (fields : List Field) (c : ClusterMessageId) : Type 0 where
+  pub cluster : last_value CLUSTER fields ≡ Some (value.Bytes c.cluster)
+  pub message_id : LastHolds MESSAGE_ID fields (λ content. IsPositionText content c.message_id)
+
 pub record IsClusterText (bytes : List ℕ) (c : ClusterMessageId) : Type 0 where
   pub fields : List Field
   pub text : IsText bytes fields
   pub message : IsMessageWith RightPosition CLUSTER_ROWS fields
-  pub cluster : last_value CLUSTER fields ≡ Some (value.Bytes c.cluster)
-  pub message_id : LastHolds MESSAGE_ID fields (λ content. IsPositionText content c.message_id)
+  pub says : SaysCluster fields c
 
 pub record HoldsCluster (v : Value) (c : ClusterMessageId) : Type 0 where
   pub content : List ℕ

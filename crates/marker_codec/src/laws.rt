@@ -15,3 +15,9 @@ pub fn one_meaning()
     ensures fault { (number : ℕ) (bytes : List ℕ) (a b : MarkerFault) → WrongMarker number bytes a → WrongMarker number bytes b → a ≡ b }
     ensures either { (number : ℕ) (bytes : List ℕ) (m : Marker) (e : MarkerFault) → IsMarkerText number bytes m → WrongMarker number bytes e → ⊥ }
 {}
+
+/// The canonical text of a marker is a text of it and of no other.
+pub fn canonical_marker()
+    ensures text { (m : Marker) → IsMarker m → IsMarkerText (kind_number (marker_kind m)) (text (canonical_fields m)) m }
+    ensures no_other { (m n : Marker) → IsMarker m → IsMarkerText (kind_number (marker_kind m)) (text (canonical_fields m)) n → n ≡ m }
+{}

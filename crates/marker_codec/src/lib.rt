@@ -5,10 +5,11 @@ mod fault;
 mod kind;
 mod laws;
 mod marker;
+mod read;
 pub mod table;
 mod write;
 
 pub use fault::MarkerFault;
 pub use kind::MarkerKind;
-pub use laws::one_meaning;
+pub use laws::{canonical_marker, one_meaning};
 pub use marker::{ClusterMessageId, ClusterMessageIds, Marker};

@@ -4,6 +4,8 @@ ghost use Rattle.std.specs.Prelude.{◌≡◌, ◌++◌, ◌∷◌, [], IsUtf8, 
 ghost use Rattle.std.specs.List.{AllByRecursion};
 ghost use Rattle.pb_fields.specs.Field.{IsFieldNumber, IsField, bytes_field};
 ghost use Rattle.pb_fields.specs.Canonical.{field_text, text};
+ghost use Rattle.marker_codec.specs.Kinds.{kind_number, marker_kind};
+ghost use Rattle.marker_codec.specs.Markers.{IsMarkerText};
 ghost use Rattle.marker_codec.specs.Canonical.{position_fields, cluster_fields, clusters_fields, canonical_fields, IsPosition, IsCluster, HasGoodParts};
 
 use crate::marker::{ClusterMessageId, ClusterMessageIds, Marker};
@@ -20,6 +22,7 @@ impl Marker {
     /// each varint as short as can be.
     pub fn write(&self, alloc: Global) -> Result<ByteList, Memory>
         ensures canonical { IfOk result (λ bytes. bytes ≡ text (canonical_fields self.now)) }
+        ensures text { IfOk result (λ bytes. IsMarkerText (kind_number (marker_kind self.now)) bytes self.now) }
     {
         let mut out = ByteList::new(alloc);
         match append_marker(alloc, &mut out, self) {
