@@ -2,3 +2,4 @@ pub mod Exact
 pub mod Meaning
 pub mod Clusters
 pub mod Written
+pub mod Lengths

@@ -62,7 +62,7 @@ cluster_one bytes c d h k =
     same_cluster c d
     (same_bytes _ _ (sym h.says.cluster ∙ ap (λ (fs : List Field). last_value 1 fs) same ∙ k.says.cluster))
     (holds_one (λ p content. IsPositionText content p) 2 k.fields c.message_id d.message_id (λ content a b. position_one content c.message_id d.message_id a b)
-      (subst (λ (fs : List Field). LastHolds 2 fs (λ content. IsPositionText content c.message_id)) same h.says.message_id) k.says.message_id)
+    (subst (λ (fs : List Field). LastHolds 2 fs (λ content. IsPositionText content c.message_id)) same h.says.message_id) k.says.message_id)
 
 same_content : (v : Value) (a b : List ℕ) → v ≡ value.Bytes a → v ≡ value.Bytes b → a ≡ b
 same_content v a b e f = cc
@@ -126,7 +126,7 @@ fault_one number bytes a b (no_message j why is h e) (no_message k why' is' h' f
     let same : j ≡ k = kind_one j k (sym is ∙ is') in
     let exact = part_exact k in
     e ∙ ap (λ (x : MessageFault). marker_fault x) (message_one (RightPart k) (WrongPart k) exact (kind_rows k) bytes why why'
-      (subst (λ (x : MarkerKind). WrongMessageWith (RightPart x) (WrongPart x) (kind_rows x) bytes why) same h) h') ∙ sym f
+    (subst (λ (x : MarkerKind). WrongMessageWith (RightPart x) (WrongPart x) (kind_rows x) bytes why) same h) h') ∙ sym f
 
 pub fault_sound : (number : ℕ) (bytes : List ℕ) (m : Marker) (e : MarkerFault) → IsMarkerText number bytes m → WrongMarker number bytes e → ⊥
 fault_sound number bytes m e h (no_kind k f) = k (marker_kind m) h.kind

@@ -131,10 +131,13 @@ means (marker.Response id cluster) h = record {
 }
 means (marker.Snapshot id local clusters) h = record {
   message = record {
-    fit = (fits_text RightInSnapshot SNAPSHOT_ROWS 1 _ id refl refl h.parts.0, (
-      fits_message RightInSnapshot SNAPSHOT_ROWS 2 _ (text (position_fields local)) refl refl (record { local = λ e. right_position 2 local h.parts.1; clusters = λ other. absurd (other refl) }),
-      clusters_fit RightInSnapshot SNAPSHOT_ROWS 3 _ clusters refl refl (λ content right. record { local = λ e. absurd (omega arith); clusters = λ other. right }) h.parts.2,
-    ));
+    fit = (
+      fits_text RightInSnapshot SNAPSHOT_ROWS 1 _ id refl refl h.parts.0,
+      (
+        fits_message RightInSnapshot SNAPSHOT_ROWS 2 _ (text (position_fields local)) refl refl (record { local = λ e. right_position 2 local h.parts.1; clusters = λ other. absurd (other refl) }),
+        clusters_fit RightInSnapshot SNAPSHOT_ROWS 3 _ clusters refl refl (λ content right. record { local = λ e. absurd (omega arith); clusters = λ other. right }) h.parts.2,
+      ),
+    );
     complete = refl;
   };
   says = record {

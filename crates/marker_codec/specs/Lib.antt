@@ -2,3 +2,4 @@ pub mod Kinds
 pub mod Markers
 pub mod Canonical
 pub mod Faults
+pub mod Machine

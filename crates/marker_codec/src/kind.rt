@@ -6,8 +6,8 @@ ghost use Rattle.marker_codec.specs.declared.kind.MarkerKind.{MarkerKind};
 ghost use Rattle.marker_codec.specs.Kinds.{kind_number, kind_rows, RightPart, WrongPart, RightInSnapshot, WrongInSnapshot};
 
 use crate::table::{
-    CLUSTER_PARTS, LOCAL_MESSAGE_ID, POSITION_PARTS, REQUEST, REQUEST_ROWS, RESPONSE, RESPONSE_ROWS,
-    SNAPSHOT, SNAPSHOT_ROWS, UPDATE, UPDATE_ROWS,
+    CLUSTER_PARTS, LOCAL_MESSAGE_ID, POSITION_PARTS, REQUEST, REQUEST_ROWS, RESPONSE,
+    RESPONSE_ROWS, SNAPSHOT, SNAPSHOT_ROWS, UPDATE, UPDATE_ROWS,
 };
 use pb_fields::embedded::{Embedded, Unread};
 use pb_fields::message::{MessageFault, Row};

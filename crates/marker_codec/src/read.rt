@@ -22,9 +22,9 @@ use crate::table::{
     SNAPSHOT_ROWS, SOURCE_CLUSTER, SUBSCRIPTION_NAME, UPDATE_CLUSTERS, UPDATE_ROWS,
 };
 use geo_base::{Memory, Position, Text};
-use pb_fields::{Field, Value};
 use pb_fields::embedded::{Unread, read_message_with, required_message};
 use pb_fields::message::{MessageFault, required_text, required_varint};
+use pb_fields::{Field, Value};
 use std::alloc::Global;
 
 impl Marker {
@@ -93,7 +93,12 @@ fn response_of(alloc: Global, fields: &[Field]) -> Result<Marker, Memory>
     ensures says { IfOk result (Says fields.now) }
 {
     let id = Text::from_str(alloc, required_text(&RESPONSE_ROWS, fields, SNAPSHOT_ID))?;
-    let held = required_message(&RESPONSE_ROWS, &MarkerKind::Response, fields, RESPONSE_CLUSTER);
+    let held = required_message(
+        &RESPONSE_ROWS,
+        &MarkerKind::Response,
+        fields,
+        RESPONSE_CLUSTER,
+    );
     let cluster = cluster_of(alloc, held)?;
     Ok(Marker::Response {
         snapshot_id: id,
@@ -107,7 +112,12 @@ fn snapshot_of(alloc: Global, fields: &[Field]) -> Result<Marker, Memory>
     ensures says { IfOk result (Says fields.now) }
 {
     let id = Text::from_str(alloc, required_text(&SNAPSHOT_ROWS, fields, SNAPSHOT_ID))?;
-    let held = required_message(&SNAPSHOT_ROWS, &MarkerKind::Snapshot, fields, LOCAL_MESSAGE_ID);
+    let held = required_message(
+        &SNAPSHOT_ROWS,
+        &MarkerKind::Snapshot,
+        fields,
+        LOCAL_MESSAGE_ID,
+    );
     let local = position_of(alloc, held)?;
     let clusters = clusters_of(alloc, fields, SNAPSHOT_CLUSTERS)?;
     Ok(Marker::Snapshot {
@@ -122,7 +132,10 @@ fn update_of(alloc: Global, fields: &[Field]) -> Result<Marker, Memory>
     ensures kind { IfOk result (λ m. marker_kind m ≡ kind.Update) }
     ensures says { IfOk result (Says fields.now) }
 {
-    let name = Text::from_str(alloc, required_text(&UPDATE_ROWS, fields, SUBSCRIPTION_NAME))?;
+    let name = Text::from_str(
+        alloc,
+        required_text(&UPDATE_ROWS, fields, SUBSCRIPTION_NAME),
+    )?;
     let clusters = clusters_of(alloc, fields, UPDATE_CLUSTERS)?;
     Ok(Marker::Update {
         subscription_name: name,
@@ -190,11 +203,7 @@ fn cluster_of_value(alloc: Global, value: &Value) -> Result<ClusterMessageId, Me
 }
 
 /// What the values of a repeated ClusterMessageId say.
-fn clusters_of(
-    alloc: Global,
-    fields: &[Field],
-    number: u32,
-) -> Result<ClusterMessageIds, Memory>
+fn clusters_of(alloc: Global, fields: &[Field], number: u32) -> Result<ClusterMessageIds, Memory>
     requires { AllByRecursion (IsHeld (RightCluster 0)) (values number fields.now) }
     ensures { IfOk result (AreClusters (values number fields.now)) }
 {

@@ -10,8 +10,8 @@ ghost use Rattle.marker_codec.specs.Canonical.{position_fields, cluster_fields, 
 
 use crate::marker::{ClusterMessageId, ClusterMessageIds, Marker};
 use crate::table::{
-    CLUSTER, ENTRY_ID, LEDGER_ID, LOCAL_MESSAGE_ID, MESSAGE_ID, RESPONSE_CLUSTER, SNAPSHOT_CLUSTERS,
-    SNAPSHOT_ID, SOURCE_CLUSTER, SUBSCRIPTION_NAME, UPDATE_CLUSTERS,
+    CLUSTER, ENTRY_ID, LEDGER_ID, LOCAL_MESSAGE_ID, MESSAGE_ID, RESPONSE_CLUSTER,
+    SNAPSHOT_CLUSTERS, SNAPSHOT_ID, SOURCE_CLUSTER, SUBSCRIPTION_NAME, UPDATE_CLUSTERS,
 };
 use geo_base::{Memory, Position, Text};
 use pb_fields::{ByteList, write_bytes, write_varint};

@@ -17,11 +17,11 @@ pub loop-field-preserved : goal.loop-field-preserved
 loop-field-preserved c =
     elim c.if-field-number.branch [
       | then-field-number+in_ok-cluster_of_value+in_ok-push w ↦
-        subst (λ (cs : List ClusterMessageId). AreClusters (values c.args.number (take (c.loop-field.field-index + 1) c.args.fields.now)) cs)
-        (sym (w.clusters-is ∙ w.in_ok-push.ensures.ok))
-        (clusters_more c.args.number c.loop-field.field-index c.args.fields.now c.field-item.result c.loop-field.clusters w.in_ok-cluster_of_value.field-0 c.loop-field-test.true c.field-item.is w.if-field-number.true c.loop-field.invariant w.in_ok-cluster_of_value.ensures)
+          subst (λ (cs : List ClusterMessageId). AreClusters (values c.args.number (take (c.loop-field.field-index + 1) c.args.fields.now)) cs)
+          (sym (w.clusters-is ∙ w.in_ok-push.ensures.ok))
+          (clusters_more c.args.number c.loop-field.field-index c.args.fields.now c.field-item.result c.loop-field.clusters w.in_ok-cluster_of_value.field-0 c.loop-field-test.true c.field-item.is w.if-field-number.true c.loop-field.invariant w.in_ok-cluster_of_value.ensures)
       | else-field-number w ↦
-        subst (λ (cs : List ClusterMessageId). AreClusters (values c.args.number (take (c.loop-field.field-index + 1) c.args.fields.now)) cs)
-        (sym w.clusters-is)
-        (clusters_same c.args.number c.loop-field.field-index c.args.fields.now c.field-item.result c.loop-field.clusters c.loop-field-test.true c.field-item.is w.if-field-number.false c.loop-field.invariant)
+          subst (λ (cs : List ClusterMessageId). AreClusters (values c.args.number (take (c.loop-field.field-index + 1) c.args.fields.now)) cs)
+          (sym w.clusters-is)
+          (clusters_same c.args.number c.loop-field.field-index c.args.fields.now c.field-item.result c.loop-field.clusters c.loop-field-test.true c.field-item.is w.if-field-number.false c.loop-field.invariant)
     ]
