@@ -2,6 +2,12 @@
 #![tactic(auto)]
 
 mod fault;
+mod frame;
+mod laws;
 mod layout;
+mod read;
 
 pub use fault::FrameFault;
+pub use frame::{Body, Frame};
+pub use laws::{any_pieces, canonical_frame, no_prefix, one_reading};
+pub use read::carries_message;
