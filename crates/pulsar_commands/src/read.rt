@@ -84,11 +84,8 @@ fn held_of(alloc: Global, kind: Kind, fields: &[Field]) -> Result<FieldList, Mes
     }];
     check_fields_with(alloc, &rows, &kind, fields)?;
     let content = required_message(&rows, &kind, fields, kind.number());
-    match read_message_with(alloc, kind.rows(), &Ids, content) {
-        Ok(held) => Ok(held),
-        Err(MessageFault::Memory) => Err(MessageFault::Memory),
-        Err(_) => unreachable!(),
-    }
+    // The content was judged right above, so want of memory is the only fault left.
+    read_message_with(alloc, kind.rows(), &Ids, content)
 }
 
 /// The first value of an enumeration that is not known.
