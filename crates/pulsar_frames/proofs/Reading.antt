@@ -1,7 +1,8 @@
 -- Faults of parts as faults of frames.
-use Rattle.std.proofs.Common.{◌≡◌, ◌≢◌, ℕ, ◌+◌, ◌<◌, ◌≤◌, ◌-◌, Bool, true, false, beq, List, [], ◌∷◌, ◌++◌, Option, Some, None, Result, length, drop, refl, sym, ap, subst, ◌∙◌, arith, length-append, append_assoc}
+use Rattle.std.proofs.Common.{◌≡◌, ◌≢◌, ℕ, ◌+◌, ◌<◌, ◌≤◌, ◌-◌, Bool, true, false, List, [], ◌∷◌, ◌++◌, Option, Some, None, Result, length, drop, refl, sym, ap, subst, ◌∙◌, arith, length-append, append_assoc}
 use Rattle.std.proofs.lemmas.List.{append-nil, drop_at}
 use Rattle.std.specs.Prelude.{is_some, not}
+use Rattle.std.specs.Bool.{beq}
 use Rattle.std.specs.Option.{option_map}
 use Rattle.pulsar_commands.specs.declared.command.Command.{Command}
 use Rattle.pulsar_commands.specs.declared.fault.CommandFault.{CommandFault}
@@ -88,3 +89,11 @@ agree true true h = refl
 agree false false h = refl
 agree true false h = absurd cc
 agree false true h = absurd cc
+
+pub is_fault : (bytes : List ℕ) (e : FrameFault) → e ≢ fault.Memory → IsFaultOrMemory (HasFault bytes) e → HasFault bytes e
+is_fault bytes fault.Memory some h = absurd (some refl)
+is_fault bytes (fault.TooLarge n) some h = h
+is_fault bytes fault.Sizes some h = h
+is_fault bytes fault.Checksum some h = h
+is_fault bytes (fault.Command why) some h = h
+is_fault bytes (fault.Meta why) some h = h

@@ -5,6 +5,7 @@ mod fault;
 mod frame;
 mod laws;
 mod layout;
+mod queue;
 mod read;
 
 pub use fault::FrameFault;

@@ -11,11 +11,11 @@ ghost use Rattle.pulsar_commands.specs.Parts.{kind_of};
 use crate::fault::FrameFault;
 use crate::frame::{Body, Frame};
 use crate::layout::{BodyParts, FrameParts, parts_at};
+use crate::queue::Queue;
 use geo_base::{Blob, Memory};
 use message_meta::Meta;
 use pulsar_commands::{Command, Kind};
 use std::alloc::Global;
-use std::collections::VecDeque;
 
 /// Whether the command carries a message.
 pub fn carries_message(command: &Command) -> bool
@@ -66,7 +66,7 @@ fn frame_at(alloc: Global, bytes: &[u8]) -> Result<Option<(Frame, &[u8])>, Frame
 
 /// The frames of bytes, how many bytes they take, and why what follows them is refused, if it is.
 pub(crate) struct Parsed {
-    pub frames: VecDeque<Frame>,
+    pub frames: Queue<Frame>,
     pub used: usize,
     pub fault: Option<FrameFault>,
 }
@@ -74,35 +74,35 @@ pub(crate) struct Parsed {
 /// The frames at the front of the bytes, as many as are whole.
 pub(crate) fn parse(alloc: Global, bytes: &[u8]) -> Result<Parsed, Memory>
     ensures used { IfOk result (λ p. p.used ≤ length bytes.now) }
-    ensures stream { IfOk result (λ p. IsStream bytes.now p.frames.items (drop p.used bytes.now) p.fault) }
+    ensures stream { IfOk result (λ p. IsStream bytes.now p.frames (drop p.used bytes.now) p.fault) }
 {
-    let mut frames = VecDeque::new(alloc);
+    let mut frames = Queue::new(alloc);
     let mut rest = bytes;
     'each: loop {
         match frame_at(alloc, rest) {
             Ok(Some((frame, after))) => {
-                if frames.push_back(frame).is_err() {
-                    return Err(Memory);
-                }
+                frames.push(frame)?;
                 rest = after;
             }
-            Ok(None) => return Ok(parsed(bytes, frames, rest, None)),
-            Err(FrameFault::Memory) => return Err(Memory),
-            Err(why) => return Ok(parsed(bytes, frames, rest, Some(why))),
+            Ok(None) => return Ok(up_to_rest(bytes, frames, rest, None)),
+            Err(why) => match why {
+                FrameFault::Memory => return Err(Memory),
+                _ => return Ok(up_to_rest(bytes, frames, rest, Some(why))),
+            },
         }
     }
 }
 
 /// What was parsed, where no frame begins the rest.
-fn parsed(
+fn up_to_rest(
     bytes: &[u8],
-    frames: VecDeque<Frame>,
+    frames: Queue<Frame>,
     rest: &[u8],
     fault: Option<FrameFault>,
 ) -> Parsed
-    requires { IsStream bytes.now frames.items rest.now fault }
+    requires { IsStream bytes.now frames rest.now fault }
     ensures used { result.used ≤ length bytes.now }
-    ensures stream { IsStream bytes.now result.frames.items (drop result.used bytes.now) result.fault }
+    ensures stream { IsStream bytes.now result.frames (drop result.used bytes.now) result.fault }
 {
     Parsed {
         frames,
