@@ -34,7 +34,7 @@ length-front n a = omega (arith, length-append (size n) a, length-size n)
 
 -- ---- what fits
 
-content_length : (l : Layout) → length (content_text l) ≡ 4 + length l.command + length (body_text l.body)
+pub content_length : (l : Layout) → length (content_text l) ≡ 4 + length l.command + length (body_text l.body)
 content_length l = omega (arith, length-append (sized l.command) (body_text l.body), length-sized l.command)
 
 command_fits : (l : Layout) → Fits l → length l.command ≤ FRAME_BYTES

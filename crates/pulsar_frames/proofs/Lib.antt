@@ -5,3 +5,5 @@ pub mod OneFrame
 pub mod OneStream
 pub mod Written
 pub mod Reading
+pub mod Fed
+pub mod Sizes

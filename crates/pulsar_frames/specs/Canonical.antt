@@ -1,5 +1,5 @@
 -- The canonical text of a frame: those of its command and its metadata, behind their sizes.
-use Rattle.std.specs.Prelude.{◌≡◌, ℕ, ◌<◌, List, length, Option, is_some, IfSome}
+use Rattle.std.specs.Prelude.{◌≡◌, ℕ, ◌<◌, List, length, Option, Some, is_some, IfSome}
 use Rattle.std.specs.Option.{option_map}
 use Rattle.geo_base.specs.declared.limits.TheConstants.{FRAME_BYTES}
 use Rattle.pb_fields.specs.Canonical.{text}
@@ -19,6 +19,10 @@ canonical_body b = record { meta = text (canonical_fields b.meta); payload = b.p
 abbrev pub canonical_layout : Frame → Layout
 canonical_layout f = record { command = command_text f.command; body = option_map canonical_body f.body }
 
+-- the same, of a command's text and a message
+abbrev pub with_body : List ℕ → Body → Layout
+with_body command b = record { command = command; body = Some (canonical_body b) }
+
 abbrev pub frame_text : Frame → List ℕ
 frame_text f = layout_text (canonical_layout f)
 
@@ -37,7 +41,8 @@ pub record IsWritableFrame (f : Frame) : Type 0 where
   pub meta : IfSome f.body (λ b. IsMetadata b.meta)
   pub fits : Fits (canonical_layout f)
 
--- The size, which passes the limit, is the one thing that can be wrong.
+-- The size, which passes the limit, is the one thing that can be wrong. Want of memory says nothing of the frame.
 abbrev pub IsTooLarge : ℕ → FrameFault → Type 0
 IsTooLarge total (fault.TooLarge n) = (n ≡ total) × (FRAME_BYTES < total)
+IsTooLarge total fault.Memory = Unit {0}
 IsTooLarge total e = ⊥

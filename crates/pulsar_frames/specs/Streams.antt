@@ -1,6 +1,7 @@
 -- Streams of frames: whole frames, and then a rest that is no frame.
-use Rattle.std.specs.Prelude.{◌≡◌, ℕ, List, [], ◌∷◌, ◌++◌, Option, Some, None, Result, Ok, Err}
+use Rattle.std.specs.Prelude.{◌≡◌, ℕ, List, [], ◌∷◌, ◌++◌, Option, Some, None, Result, Ok, Err, ◌⊎◌}
 use Rattle.pulsar_frames.specs.declared.fault.FrameFault.{FrameFault}
+use Rattle.pulsar_frames.specs.declared.fault.FrameFault.TheVariants as fault
 use Rattle.pulsar_frames.specs.declared.frame.Frame.{Frame}
 use Rattle.pulsar_frames.specs.Layout.{IsUnfinished}
 use Rattle.pulsar_frames.specs.Frames.{TakesFrame, HasFault}
@@ -40,6 +41,15 @@ pub data Feeds (old : Reading) (piece : List ℕ) (new : Reading) : Type 0 where
 abbrev pub answer : Option FrameFault → Result (Unit {0}) FrameFault
 answer None = Ok tt
 answer (Some why) = Err why
+
+-- What a call that fed a piece did: want of memory changes nothing.
+abbrev pub Answered : Reading → List ℕ → Result (Unit {0}) FrameFault → Reading → Type 0
+Answered old piece (Err fault.Memory) new = new ≡ old
+Answered old piece r new = Feeds old piece new × (r ≡ answer new.fault)
+
+-- It came to this, unless memory ran out.
+abbrev pub CameTo : Reading → Result (Unit {0}) FrameFault → Reading → Type 0
+CameTo r result new = (result ≡ Err fault.Memory) ⊎ ((result ≡ answer r.fault) × (new ≡ r))
 
 -- The frame that waited longest is taken.
 pub record Takes (old : Reading) (f : Frame) (new : Reading) : Type 0 where

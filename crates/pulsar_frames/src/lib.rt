@@ -7,8 +7,12 @@ mod laws;
 mod layout;
 mod queue;
 mod read;
+mod reader;
+mod write;
 
 pub use fault::FrameFault;
 pub use frame::{Body, Frame};
 pub use laws::{any_pieces, canonical_frame, no_prefix, one_reading};
 pub use read::carries_message;
+pub use reader::FrameReader;
+pub use write::write_frame;
