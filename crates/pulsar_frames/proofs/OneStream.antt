@@ -4,7 +4,7 @@ use Rattle.std.proofs.lemmas.List.{append-nil}
 use Rattle.pulsar_frames.specs.declared.fault.FrameFault.{FrameFault}
 use Rattle.pulsar_frames.specs.declared.frame.Frame.{Frame}
 use Rattle.pulsar_frames.specs.Layout.{TakesLayout, sized, layout_text, IsUnfinished, begun, BrokenLayout, too_large, content, size}
-use Rattle.pulsar_frames.specs.Frames.{TakesFrame, HasFault, sizes, parts}
+use Rattle.pulsar_frames.specs.Frames.{IsFrameText, TakesFrame, HasFault, sizes, parts}
 use Rattle.pulsar_frames.specs.Streams.{AreFrames, end, next, Ends, unfinished, refused, IsStream, Reading, fresh, Feeds, reads, refuses, Takes, Came, begins, fed, took, ReadsStream}
 use Rattle.pulsar_frames.proofs.OneFrame.{frame_one, frame_finished, frame_sound, fault_unfinished, fault_one}
 
@@ -105,9 +105,37 @@ came (took {stream = s} {taken = t} {f = f} {old = old} {new = new} h k) =
     let before = came h in
     let frames : t ++ old.waiting ≡ (t ++ f ∷ []) ++ new.waiting = ap (λ (b : List Frame). t ++ b) k.waiting ∙ sym (append_assoc t (f ∷ []) new.waiting) in
     let stream : IsStream s ((t ++ f ∷ []) ++ new.waiting) before.rest new.fault =
-      subst (λ (e : Option FrameFault). IsStream s ((t ++ f ∷ []) ++ new.waiting) before.rest e) (sym k.fault) (subst (λ (b : List Frame). IsStream s b before.rest old.fault) frames before.is) in
+    subst (λ (e : Option FrameFault). IsStream s ((t ++ f ∷ []) ++ new.waiting) before.rest e) (sym k.fault) (subst (λ (b : List Frame). IsStream s b before.rest old.fault) frames before.is) in
     record {
       rest = before.rest;
       is = stream;
       same = λ e. before.same (sym k.fault ∙ e) ∙ sym k.rest;
     }
+
+-- ---- one frame
+
+pub one_there : (bytes : List ℕ) (f : Frame) → IsFrameText bytes f → IsStream bytes (f ∷ []) [] None
+one_there bytes f h = record {
+  whole = next (record { text = bytes; parts = sym (append-nil bytes); frame = h }) end;
+  ends = unfinished (begun (omega arith));
+}
+
+no_more : {s r : List ℕ} {fs : List Frame} → AreFrames s fs r → fs ≡ [] → s ≡ r
+no_more end e = refl
+no_more (next t h) e = absurd cc
+
+alone : {s r : List ℕ} {fs : List Frame} → AreFrames s fs r → (f : Frame) → fs ≡ f ∷ [] → r ≡ [] → IsFrameText s f
+alone end f e is = absurd cc
+alone (next {stream = s} {more = m} {rest = r} {f = g} {fs = fs} t h) f e is =
+    let empty : m ≡ [] = no_more h (tails g f fs [] e) ∙ is in
+    let text : t.text ≡ s = sym (append-nil t.text) ∙ ap (λ (b : List ℕ). t.text ++ b) (sym empty) ∙ sym t.parts in
+    subst (λ (k : Frame). IsFrameText s k) (heads g f fs [] e) (subst (λ (b : List ℕ). IsFrameText b g) text t.frame)
+  where
+    tails : (a b : Frame) (as_ bs : List Frame) → a ∷ as_ ≡ b ∷ bs → as_ ≡ bs
+    tails a b as_ bs e = cc
+
+    heads : (a b : Frame) (as_ bs : List Frame) → a ∷ as_ ≡ b ∷ bs → a ≡ b
+    heads a b as_ bs e = cc
+
+pub one_back : (bytes : List ℕ) (f : Frame) → IsStream bytes (f ∷ []) [] None → IsFrameText bytes f
+one_back bytes f h = alone h.whole f refl refl

@@ -15,5 +15,5 @@ size_none p e =
 pub size_some : (p : FrameParts) (b : BodyParts) (n : ℕ) → p.body ≡ Some b → n ≡ 4 + length p.command.now + (4 + length b.meta.now) + length b.payload.now → n ≡ length (content_text (layout p))
 size_some p b n e is =
     let body : length (body_text (option_map body_layout p.body)) ≡ length (sized b.meta.now) + length b.payload.now =
-      ap (λ (o : Option BodyParts). length (body_text (option_map body_layout o))) e ∙ length-append (sized b.meta.now) b.payload.now in
+    ap (λ (o : Option BodyParts). length (body_text (option_map body_layout o))) e ∙ length-append (sized b.meta.now) b.payload.now in
     omega (arith, content_length (layout p), length-sized b.meta.now)

@@ -1,6 +1,6 @@
 //! What holds of frames and their streams alone, whoever reads or writes.
 
-ghost use Rattle.std.specs.Prelude.{◌≡◌, ◌++◌, [], ℕ, List, Option};
+ghost use Rattle.std.specs.Prelude.{◌≡◌, ◌∷◌, ◌++◌, [], ℕ, List, Option, None};
 ghost use Rattle.pulsar_frames.specs.declared.fault.FrameFault.{FrameFault};
 ghost use Rattle.pulsar_frames.specs.declared.frame.Frame.{Frame};
 ghost use Rattle.pulsar_frames.specs.Frames.{IsFrameText, TakesFrame};
@@ -30,4 +30,10 @@ pub fn canonical_frame()
 /// wait, are the frames of the stream, and the reader refuses it exactly where the stream is refused.
 pub fn any_pieces()
     ensures { (stream : List ℕ) (taken : List Frame) (r : Reading) → Came stream taken r → ReadsStream stream taken r }
+{}
+
+/// Bytes are a text of one frame exactly where, as a stream, they are that frame and nothing after it.
+pub fn one_frame()
+    ensures there { (bytes : List ℕ) (f : Frame) → IsFrameText bytes f → IsStream bytes (f ∷ []) [] None }
+    ensures back { (bytes : List ℕ) (f : Frame) → IsStream bytes (f ∷ []) [] None → IsFrameText bytes f }
 {}

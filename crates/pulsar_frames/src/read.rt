@@ -94,12 +94,7 @@ pub(crate) fn parse(alloc: Global, bytes: &[u8]) -> Result<Parsed, Memory>
 }
 
 /// What was parsed, where no frame begins the rest.
-fn up_to_rest(
-    bytes: &[u8],
-    frames: Queue<Frame>,
-    rest: &[u8],
-    fault: Option<FrameFault>,
-) -> Parsed
+fn up_to_rest(bytes: &[u8], frames: Queue<Frame>, rest: &[u8], fault: Option<FrameFault>) -> Parsed
     requires { IsStream bytes.now frames rest.now fault }
     ensures used { result.used ≤ length bytes.now }
     ensures stream { IsStream bytes.now result.frames (drop result.used bytes.now) result.fault }

@@ -14,6 +14,7 @@ use std::marker::Model;
 
 /// What a stream of frames has come to, however it is cut into pieces. It keeps the frames that were read and not yet
 /// taken, and the bytes after the last whole frame. No frame is parsed twice.
+#[derive(Debug, Drop)]
 pub struct FrameReader {
     alloc: Global,
     waiting: Queue<Frame>,

@@ -43,11 +43,7 @@ pub fn write_frame(alloc: Global, frame: &Frame) -> Result<Blob, FrameFault>
 }
 
 /// The text of a frame of a command that carries a message.
-fn write_message<'a>(
-    alloc: Global,
-    command: &'a [u8],
-    body: &'a Body,
-) -> Result<Blob, FrameFault>
+fn write_message<'a>(alloc: Global, command: &'a [u8], body: &'a Body) -> Result<Blob, FrameFault>
     ensures ok { IfOk result (λ bytes. bytes ≡ layout_text (with_body command.now body.now)) }
     ensures fits { OnOk result (Fits (with_body command.now body.now)) }
     ensures meta { OnOk result (IsMetaText (text (canonical_fields body.now.meta)) body.now.meta) }

@@ -24,6 +24,6 @@ returns-in_err-body_of-in-Some-clause-err c =
     let p = err_from_is_err_and c.from_residual-in_err-body_of-in-Some.result c.from_residual-in_err-body_of-in-Some.ensures.1 in
     let there : c.is_some.result ≡ true = c.is_some.ensures ∙ ap (λ (o : Option BodyParts). is_some o) c.in-Some.is in
     rw (p.1, p.2) (body_wrong (layout c.args.parts) c.in_ok-command.command (body_layout c.in-Some.body) c.in_err-body_of-in-Some.field-0.0 c.in_ok-command.ensures.found
-      (sym c.carries_message.ensures ∙ sym (agree c.is_some.result c.carries_message.result c.if-is_some-carries_message.false) ∙ there)
-      (ap (λ (o : Option BodyParts). option_map body_layout o) c.in-Some.is)
-      c.in_err-body_of-in-Some.ensures.err)
+    (sym c.carries_message.ensures ∙ sym (agree c.is_some.result c.carries_message.result c.if-is_some-carries_message.false) ∙ there)
+    (ap (λ (o : Option BodyParts). option_map body_layout o) c.in-Some.is)
+    c.in_err-body_of-in-Some.ensures.err)

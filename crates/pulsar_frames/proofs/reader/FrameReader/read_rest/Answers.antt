@@ -11,5 +11,5 @@ returns-clause-ok c =
     let left : drop c.in_ok-parsed.parsed.used c.as_slice.result.now ≡ c.cut_front.new.bytes.items = ap (λ (s : List ℕ). drop c.in_ok-parsed.parsed.used s) c.as_slice.ensures.value ∙ sym c.cut_front.ensures in
     reads c.in_ok-parsed.parsed.frames c.requires
     (subst (λ (s : List ℕ). IsStream s c.in_ok-parsed.parsed.frames c.cut_front.new.bytes.items c.in_ok-parsed.parsed.fault) bytes
-      (subst (λ (s : List ℕ). IsStream c.as_slice.result.now c.in_ok-parsed.parsed.frames s c.in_ok-parsed.parsed.fault) left c.in_ok-parsed.ensures.stream))
+    (subst (λ (s : List ℕ). IsStream c.as_slice.result.now c.in_ok-parsed.parsed.frames s c.in_ok-parsed.parsed.fault) left c.in_ok-parsed.ensures.stream))
     (c.in_ok-append.ensures.ok ∙ ap (λ (r : Reading). r.waiting ++ c.in_ok-parsed.parsed.frames) c.self.view_is)
