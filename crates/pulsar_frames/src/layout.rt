@@ -39,13 +39,13 @@ fn size_at(bytes: &[u8]) -> Option<(u32, &[u8])>
 fn sized_at(bytes: &[u8]) -> Option<(&[u8], &[u8])>
     ensures { MatchOption result (IsCut bytes.now) (λ x. bytes.now ≡ sized x.0.now ++ x.1.now) }
 {
-    let Some((size, after)) = size_at(bytes) else {
+    let Some((count, after)) = size_at(bytes) else {
         return None;
     };
-    if size as usize > after.len() {
+    if count as usize > after.len() {
         return None;
     }
-    Some(after.split_at(size as usize))
+    Some(after.split_at(count as usize))
 }
 
 /// Whether a checksum stands at the front.
