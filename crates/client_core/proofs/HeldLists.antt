@@ -14,7 +14,7 @@ use Rattle.client_core.specs.Changing.{ClientPlan, acted}
 
 acks_some : (k : Client) (hs : List Held) → 0 < length hs
     → acks_all k hs ≡ becomes (record (past k) { held = drop most_acks hs })
-        (to_broker k (frame.Ack (id_of k.sub) ack_kind.Individual (map (λ (h : Held). h.position) (take most_acks hs))))
+    (to_broker k (frame.Ack (id_of k.sub) ack_kind.Individual (map (λ (h : Held). h.position) (take most_acks hs))))
 acks_some k [] h = absurd (omega arith)
 acks_some k (h ∷ hs) l = refl
 

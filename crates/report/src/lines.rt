@@ -1,6 +1,6 @@
 //! Each kind of the report's lines, with its line feed.
 ghost use Rattle.std.specs.Prelude.{◌≡◌, ◌≤◌, ◌++◌, ◌∷◌, [], length, codes, decimal, string_bytes, IfOk};
-ghost use Rattle.geo_base.specs.Report.{client_line, entry_line, shown_state, words};
+ghost use Rattle.geo_base.specs.Report.{client_line, entry_line, got_line, shown_state, words};
 
 use crate::words::{
     cluster_name, shown_done, shown_ident, shown_message, shown_position, shown_state,
@@ -8,7 +8,7 @@ use crate::words::{
 };
 use client_core::client::Client;
 use client_core::setup::Declarations;
-use geo_base::entry::{Content, Entry};
+use geo_base::entry::{Content, Entry, Ident};
 use geo_base::limits::CLUSTERS;
 use geo_base::memory::Memory;
 use geo_base::name::ClusterName;
@@ -70,8 +70,7 @@ pub fn client_line(
     declared: &ClientDecl,
     client: &Client,
 ) -> Result<String, Memory>
-    ensures line { IfOk result (λ line. string_bytes line ≡ client_line setup.now declared.now client.now ++ 10 ∷ []) }
-    ensures unsubscribed { client.now.got ≡ [] }
+    ensures { IfOk result (λ line. string_bytes line ≡ client_line setup.now declared.now client.now ++ 10 ∷ []) }
 {
     let name = declared.name().as_str();
     let cluster = cluster_name(setup.clusters(), client.cluster());
@@ -82,4 +81,12 @@ pub fn client_line(
     Ok(format!(in alloc;
         "client {name} at {cluster} lines {done} receipts {receipts} duplicates {duplicates} errors {errors}\n"
     )?)
+}
+
+/// A message that a client got.
+pub fn got_line(alloc: Global, clusters: &[ClusterName], ident: &Ident) -> Result<String, Memory>
+    ensures { IfOk result (λ line. string_bytes line ≡ got_line clusters.now ident.now ++ 10 ∷ []) }
+{
+    let ident = shown_ident(alloc, clusters, ident)?;
+    Ok(format!(in alloc; "got {ident}\n")?)
 }

@@ -1,15 +1,15 @@
 -- What is prepared at a node and done there is the event.
-use Rattle.std.proofs.Common.{◌≡◌, ℕ, ◌<◌, Bool, true, [], length, sym, ◌∙◌, ap}
+use Rattle.std.proofs.Common.{◌≡◌, ℕ, zero, suc, ◌+◌, ◌<◌, Bool, true, false, List, [], ◌∷◌, length, refl, sym, ◌∙◌, ap}
 use Rattle.std.proofs.lemmas.Bool.{lt-ltb}
-use Rattle.std.specs.Prelude.{Option, Some, None, ◌&&◌, if◌then◌else◌, nat_lt}
+use Rattle.std.specs.Prelude.{Option, Some, None, ◌&&◌, if◌then◌else◌, nat_lt, slice_index, slice_index_or, slice_set}
 use Rattle.geo_base.specs.declared.event.Event.{Event}
 use Rattle.geo_base.specs.declared.event.Event.TheVariants as event
 use Rattle.geo_base.specs.declared.event.Fate.TheVariants as fate
-use Rattle.geo_base.specs.Client.{Acted, Client, reconnect}
+use Rattle.geo_base.specs.Client.{Acted, Client, new_client, reconnect}
 use Rattle.geo_base.specs.Forwarding.{receipt, reset, take_packet}
 use Rattle.geo_base.specs.Getting.{get}
 use Rattle.geo_base.specs.Going.{go}
-use Rattle.geo_base.specs.Happening.{broker_does, client_does, does_planned, happens}
+use Rattle.geo_base.specs.Happening.{broker_does, client_does, does_planned, happens, next_stamp}
 use Rattle.geo_base.specs.Link.{next_packet}
 use Rattle.geo_base.specs.Plan.{Plan}
 use Rattle.geo_base.specs.Planned.{Planned, in_range, planned, planned_in}
@@ -17,7 +17,8 @@ use Rattle.geo_base.specs.Reading.{read}
 use Rattle.geo_base.specs.Serving.{serve}
 use Rattle.geo_base.specs.declared.packet.Packet.{Packet}
 use Rattle.geo_base.specs.Setup.{Declared, Setup, declared_at}
-use Rattle.geo_base.specs.World.{Back, Forward, LinkName, ToBroker, ToClient, World, client_at, link_at, node, site, topic_at}
+use Rattle.geo_base.specs.World.{Back, Forward, LinkName, ToBroker, ToClient, World, client_at, link_at, node, packet_at, site, topic_at}
+use Rattle.world_core.specs.Machines.{client_took, uncounted}
 
 -- an event in range has its plan
 in_plan : (s : Setup) (w : World) (e : Event) → in_range s e ≡ true → planned s w e ≡ planned_in s w e
@@ -87,14 +88,53 @@ pub reconnected : (s : Setup) (w : World) (c : ℕ) (a : Acted) → a ≡ reconn
 unfolding happens
 reconnected s w c a is = ap (λ (a : Acted). client_does s w c None a) is
 
-pub got : (s : Setup) (w : World) (c : ℕ) (a : Acted)
-    → a ≡ get (declared_at s c) (client_at s w c) (next_packet (link_at w.links (ToClient c (client_at s w c).cluster)))
-    → client_does s w c (Some (ToClient c (client_at s w c).cluster)) a ≡ happens s w (event.Get c)
-unfolding happens
-got s w c a is = ap (λ (a : Acted). client_does s w c (Some (ToClient c (client_at s w c).cluster)) a) is
-
--- a client answers nothing to what it takes
-pub got_silently : (d : Declared) (k : Client) (o : Option Packet) (a : Acted) → a ≡ get d k o → a.sent ≡ []
+-- a client that takes a packet, and answers nothing to it
+answers_nothing : (d : Declared) (k : Client) (o : Option Packet) → (get d k o).sent ≡ []
 unfolding get
-got_silently d k None a is = ap (λ (a : Acted). a.sent) is
-got_silently d k (Some p) a is = ap (λ (a : Acted). a.sent) is
+answers_nothing d k None = refl
+answers_nothing d k (Some p) = refl
+
+does_silently : (s : Setup) (w : World) (c : ℕ) (takes : Option LinkName) (a : Acted) (stamp : ℕ) → a.idle ≡ false → a.sent ≡ []
+    → stamp ≡ next_stamp (slice_index w.client_clocks c) (packet_at w.links takes)
+    → uncounted (client_took (record w { clients = slice_set w.clients c a.client }) c takes stamp) ≡ uncounted (client_does s w c takes a)
+unfolding client_does
+does_silently s w c takes a stamp enabled silent is = rw (enabled, silent, is) refl
+
+pub got : (s : Setup) (w : World) (c : ℕ) (new : World) (k : Client) (stamp : ℕ)
+    → (get (declared_at s c) (client_at s w c) (next_packet (link_at w.links (ToClient c (client_at s w c).cluster)))).idle ≡ false
+    → k ≡ (get (declared_at s c) (client_at s w c) (next_packet (link_at w.links (ToClient c (client_at s w c).cluster)))).client
+    → stamp ≡ next_stamp (slice_index w.client_clocks c) (packet_at w.links (Some (ToClient c (client_at s w c).cluster)))
+    → new ≡ client_took (record w { clients = slice_set w.clients c k }) c (Some (ToClient c (client_at s w c).cluster)) stamp
+    → uncounted new ≡ uncounted (happens s w (event.Get c))
+unfolding happens
+got s w c new k stamp enabled client is new_is =
+    let link = ToClient c (client_at s w c).cluster in
+    rw (new_is, client)
+    (does_silently s w c (Some link) (get (declared_at s c) (client_at s w c) (next_packet (link_at w.links link))) stamp enabled
+    (answers_nothing (declared_at s c) (client_at s w c) (next_packet (link_at w.links link))) is)
+
+-- a client that finds none
+set_same : {X : Type 0} (xs : List X) (i : ℕ) (d : X) → slice_set xs i (slice_index_or xs i d) ≡ xs
+set_same [] i d = refl
+set_same (x ∷ xs) zero d = refl
+set_same (x ∷ xs) (suc i) d = ap (λ ys. x ∷ ys) (set_same xs i d)
+
+idle_keeps : (d : Declared) (k : Client) (o : Option Packet) → (get d k o).idle ≡ true → (get d k o).client ≡ k
+unfolding get
+idle_keeps d k None h = refl
+idle_keeps d k (Some p) h = absurd cc
+
+does_idly : (s : Setup) (w : World) (c : ℕ) (takes : Option LinkName) (a : Acted) → a.idle ≡ true → client_does s w c takes a ≡ record w { idle = w.idle + 1 }
+unfolding client_does
+does_idly s w c takes a idle = rw idle refl
+
+pub got_nothing : (s : Setup) (w : World) (c : ℕ) (new : World) (k : Client)
+    → (get (declared_at s c) (client_at s w c) (next_packet (link_at w.links (ToClient c (client_at s w c).cluster)))).idle ≡ true
+    → k ≡ (get (declared_at s c) (client_at s w c) (next_packet (link_at w.links (ToClient c (client_at s w c).cluster)))).client
+    → new ≡ record w { clients = slice_set w.clients c k; idle = w.idle + 1 }
+    → uncounted new ≡ uncounted (happens s w (event.Get c))
+unfolding happens
+got_nothing s w c new k idle client new_is =
+    let link = ToClient c (client_at s w c).cluster in
+    let o = next_packet (link_at w.links link) in
+    rw (new_is, client, does_idly s w c (Some link) (get (declared_at s c) (client_at s w c) o) idle, idle_keeps (declared_at s c) (client_at s w c) o idle, set_same w.clients c (new_client (declared_at s c))) refl

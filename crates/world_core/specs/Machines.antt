@@ -1,11 +1,11 @@
 -- The world as the program keeps it, what an event of it needs, and how a run of it ends.
-use Rattle.std.specs.Prelude.{◌≡◌, ℕ, ◌-◌, ◌^◌, ⊤, List, [], ◌∷◌, length, Some, None}
+use Rattle.std.specs.Prelude.{◌≡◌, ℕ, ◌+◌, ◌-◌, ◌^◌, ⊤, List, [], ◌∷◌, length, Option, Some, None, slice_set}
 use Rattle.geo_base.specs.declared.event.Step.{Step}
 use Rattle.geo_base.specs.declared.event.Step.TheVariants as step
 use Rattle.geo_base.specs.Happening.{happens}
 use Rattle.geo_base.specs.Run.{Ran, event_limit, run_under}
 use Rattle.geo_base.specs.Setup.{Setup}
-use Rattle.geo_base.specs.World.{World, opening_world}
+use Rattle.geo_base.specs.World.{LinkName, World, opening_world, taken_from}
 use Rattle.world_core.specs.declared.world.run.RunFault.{RunFault}
 use Rattle.world_core.specs.declared.world.run.RunFault.TheVariants as run_fault
 use Rattle.world_laws.specs.Within.{WorldPlaces, WorldWithin}
@@ -18,6 +18,14 @@ pub record Machine : Type 0 where
 -- the sizes of frames are not summed up yet; no report shows the sum
 abbrev pub uncounted : World → World
 uncounted w = record w { frame_bytes = 0 }
+
+-- a client took the next packet of a link, with the event's stamp
+abbrev pub client_took : World → ℕ → Option LinkName → ℕ → World
+client_took w c takes stamp = record w {
+  links = taken_from takes w.links;
+  client_clocks = slice_set w.client_clocks c stamp;
+  events = w.events + 1;
+}
 
 -- its places are those of the setup, and its numbers may all rise by one
 pub record WorldFits (s : Setup) (w : World) : Type 0 where

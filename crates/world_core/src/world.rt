@@ -1,13 +1,14 @@
 //! The world: every broker, client and link, and the counts. An event is prepared at its node, its packets go out whole or not
 //! at all, and then it is committed; so one that finds no memory changes nothing.
-ghost use Rattle.std.specs.Prelude.{◌≡◌, ◌+◌, ◌<◌, ◌≤◌, ◌^◌, Some, None, [], length, map, max, OnOk, OnErr, IfOk, slice_index};
+ghost use Rattle.std.specs.Prelude.{◌≡◌, ◌+◌, ◌<◌, ◌≤◌, ◌^◌, None, length, map, max, OnOk, OnErr, IfOk, slice_index};
 ghost use Rattle.geo_base.specs.Client.{new_client};
 ghost use Rattle.geo_base.specs.Scripted.{IsScripted};
-ghost use Rattle.geo_base.specs.Happening.{broker_does, client_does};
-ghost use Rattle.geo_base.specs.World.{ToClient, broker_at, client_at, node as node_number, opening_world, site as site_at, topic_at};
+ghost use Rattle.client_core.specs.Changing.{ClientFits, acted};
+ghost use Rattle.geo_base.specs.Happening.{broker_does, client_does, next_stamp as stamp_after};
+ghost use Rattle.geo_base.specs.World.{broker_at, client_at, node as node_number, opening_world, packet_at, site as site_at, topic_at};
 ghost use Rattle.topic_book.specs.Fits.{PlanFits, steps};
 ghost use Rattle.world_core.specs.Inputs.{input_link};
-ghost use Rattle.world_core.specs.Machines.{WorldFits, uncounted};
+ghost use Rattle.world_core.specs.Machines.{WorldFits, client_took, uncounted};
 ghost use Rattle.geo_base.specs.Worlds.{IsWorldOf};
 
 pub mod books;
@@ -188,7 +189,8 @@ impl World {
     ) -> Result<(), Memory>
         requires world { WorldFits setup.now self.old.world }
         requires client { client < length setup.now.clients }
-        ensures ok { OnOk result (self.new.world ≡ uncounted (client_does setup.now self.old.world client None prepared)) }
+        requires fits { ClientFits prepared.change (client_at setup.now self.old.world client) }
+        ensures ok { OnOk result (self.new.world ≡ uncounted (client_does setup.now self.old.world client None (acted prepared (client_at setup.now self.old.world client)))) }
         ensures err { OnErr result (self.new.world ≡ self.old.world) }
     {
         if prepared.is_idle() {
@@ -205,29 +207,22 @@ impl World {
         Ok(())
     }
 
-    /// Does at a client what was prepared there, which sends nothing, and takes the next packet from the broker at a cluster.
-    #[tactic(auto, unfolding(geo_base::specs::Happening::client_does))]
-    fn finish_taking(
-        &mut self,
-        setup: &Declarations,
-        client: u32,
-        cluster: u32,
-        prepared: ClientPrepared,
-    )
-        requires world { WorldFits setup.now self.old.world }
+    /// The stamp of an event of a client.
+    fn client_stamp(&self, setup: &Declarations, client: u32, input: Input) -> u64
+        requires world { WorldFits setup.now self.now.world }
         requires client { client < length setup.now.clients }
-        requires silent { prepared.sent ≡ [] }
-        ensures { self.new.world ≡ uncounted (client_does setup.now self.old.world client (Some (ToClient client cluster)) prepared) }
+        ensures stamp { result ≡ stamp_after (slice_index self.now.world.client_clocks client) (packet_at self.now.world.links (input_link input)) }
     {
-        if prepared.is_idle() {
-            self.idle += 1;
-            return;
-        }
-        let input = Input::ToClient { client, cluster };
-        let taken = self.links.stamp(input);
-        let stamp = next_stamp(self.client_clocks[client as usize], taken);
+        next_stamp(self.client_clocks[client as usize], self.links.stamp(input))
+    }
+
+    /// A client took the next packet of a link, which it answers nothing to.
+    fn finish_taking(&mut self, client: u32, input: Input, stamp: u64)
+        requires client { client < length self.old.world.client_clocks }
+        requires count { self.old.world.events + 1 < 2 ^ 64 }
+        ensures { self.new.world ≡ client_took self.old.world client (input_link input) stamp }
+    {
         self.links.take(input);
-        self.clients[client as usize].commit(prepared);
         self.client_clocks[client as usize] = stamp;
         self.events += 1;
     }
@@ -239,7 +234,7 @@ fn new_clients(alloc: Global, setup: &Declarations) -> Result<Vec<Client>, Memor
 {
     let mut clients = Vec::new(alloc);
     for declared in setup.clients() {
-        match clients.push(Client::new(alloc, declared)) {
+        match clients.push(Client::new(alloc, declared)?) {
             Ok(()) => {}
             Err(_) => return Err(Memory),
         }

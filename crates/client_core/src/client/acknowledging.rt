@@ -1,5 +1,5 @@
 //! The lines that acknowledge what a client holds.
-ghost use Rattle.std.specs.Prelude.{◌≡◌, ◌<◌, ◌^◌, ◌∷◌, [], Some, IfOk};
+ghost use Rattle.std.specs.Prelude.{◌≡◌, ◌<◌, ◌^◌, ◌∷◌, [], length, Some, IfOk};
 ghost use Rattle.geo_base.specs.Client.{id_of, to_broker};
 ghost use Rattle.geo_base.specs.Going.{acks_all, acks_one, acks_to, first_held};
 ghost use Rattle.client_core.specs.Changing.{ClientFits, acted};
@@ -18,7 +18,11 @@ use std::alloc::Global;
 
 impl Client {
     /// `ack`: the first held message of an identity is acknowledged.
-    pub(super) fn acknowledges(&self, alloc: Global, ident: &Ident) -> Result<ClientPrepared, Memory>
+    pub(super) fn acknowledges(
+        &self,
+        alloc: Global,
+        ident: &Ident,
+    ) -> Result<ClientPrepared, Memory>
         requires { self.now.done < 2 ^ 63 }
         ensures acted { IfOk result (λ p. acted p self.now ≡ acks_one self.now ident.now (first_held self.now.held ident.now)) }
         ensures fits { IfOk result (λ p. ClientFits p.change self.now) }
@@ -35,7 +39,11 @@ impl Client {
     }
 
     /// `ackto`: all that is held up to the first held message of an identity is acknowledged.
-    pub(super) fn acknowledges_to(&self, alloc: Global, ident: &Ident) -> Result<ClientPrepared, Memory>
+    pub(super) fn acknowledges_to(
+        &self,
+        alloc: Global,
+        ident: &Ident,
+    ) -> Result<ClientPrepared, Memory>
         requires { self.now.done < 2 ^ 63 }
         ensures acted { IfOk result (λ p. acted p self.now ≡ acks_to self.now (first_held self.now.held ident.now)) }
         ensures fits { IfOk result (λ p. ClientFits p.change self.now) }
@@ -52,7 +60,7 @@ impl Client {
     }
 
     /// `ackall`: all that is held is acknowledged, or as much of it as one ACK may name.
-    #[tactic(auto, using(crate::proofs::HeldLists::acked_all, crate::proofs::HeldLists::acks_none))]
+    #[tactic(auto, using(crate::proofs::HeldLists::acks_none))]
     pub(super) fn acknowledges_all(&self, alloc: Global) -> Result<ClientPrepared, Memory>
         requires { self.now.done < 2 ^ 63 }
         ensures acted { IfOk result (λ p. acted p self.now ≡ acks_all self.now self.now.held) }
@@ -61,12 +69,23 @@ impl Client {
         if self.held.is_empty() {
             return Ok(ClientPrepared::idle(alloc));
         }
-        self.acks(
+        self.acknowledges_first(alloc)
+    }
+
+    fn acknowledges_first(&self, alloc: Global) -> Result<ClientPrepared, Memory>
+        requires some { 0 < length self.now.held }
+        requires more { self.now.done < 2 ^ 63 }
+        ensures acted { IfOk result (λ p. acted p self.now ≡ acks_all self.now self.now.held) }
+        ensures fits { IfOk result (λ p. ClientFits p.change self.now) }
+    {
+        let positions = first_positions(alloc, self.held.as_slice(), ACKED_AT_ONCE)?;
+        let prepared = self.acks(
             alloc,
             ClientChange::AcknowledgesAll,
             AckKind::Individual,
-            first_positions(alloc, self.held.as_slice(), ACKED_AT_ONCE)?,
-        )
+            positions,
+        )?;
+        Ok(prepared)
     }
 
     /// The next line makes a change, and an ACK of these positions is sent.

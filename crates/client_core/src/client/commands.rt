@@ -49,11 +49,14 @@ impl Client {
                 id: id_of(self.produce),
                 seq: *seq,
                 source: None,
-                entry: self.published(
-                    alloc, setup, declared, connection, *seq, *to, key, text,
-                )?,
+                entry: self.published(alloc, setup, declared, connection, *seq, *to, key, text)?,
             },
-            Line::Sub { sub, kind, earliest, replicated } => Frame::Subscribe {
+            Line::Sub {
+                sub,
+                kind,
+                earliest,
+                replicated,
+            } => Frame::Subscribe {
                 topic: Text::from_str(alloc, setup.topic_name(declared.topic()))?,
                 sub: sub.copy(alloc)?,
                 kind: *kind,
@@ -126,7 +129,11 @@ pub(super) fn id_of(line: Option<usize>) -> u64
 }
 
 /// The names of a target list's clusters, in cluster order; none where it is for all.
-fn target_names(alloc: Global, clusters: &[ClusterName], to: Targets) -> Result<Sequence<Text>, Memory>
+fn target_names(
+    alloc: Global,
+    clusters: &[ClusterName],
+    to: Targets,
+) -> Result<Sequence<Text>, Memory>
     requires { length clusters.now ≤ CLUSTERS }
     ensures { IfOk result (λ names. names ≡ target_names 0 to clusters.now) }
 {
@@ -136,7 +143,11 @@ fn target_names(alloc: Global, clusters: &[ClusterName], to: Targets) -> Result<
     }
 }
 
-fn named_clusters(alloc: Global, clusters: &[ClusterName], bits: u8) -> Result<Sequence<Text>, Memory>
+fn named_clusters(
+    alloc: Global,
+    clusters: &[ClusterName],
+    bits: u8,
+) -> Result<Sequence<Text>, Memory>
     requires { length clusters.now ≤ CLUSTERS }
     ensures { IfOk result (λ names. names ≡ target_names 0 (Targets.Only bits) clusters.now) }
 {

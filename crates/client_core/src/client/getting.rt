@@ -58,7 +58,12 @@ impl Client {
             }
             Frame::SendError { seq, .. } => self.get_refusal(declared, *seq),
             Frame::Error { .. } => self.errors += 1,
-            Frame::Message { id, position, source, entry } => {
+            Frame::Message {
+                id,
+                position,
+                source,
+                entry,
+            } => {
                 return self.get_message(alloc, *id, *position, source, entry);
             }
             _ => {}

@@ -45,7 +45,11 @@ fn is_same(one: &Ident, other: &Ident) -> bool
 }
 
 /// The positions of the first so many held messages, or of all.
-pub fn first_positions(alloc: Global, held: &[Held], most: usize) -> Result<Sequence<Position>, Memory>
+pub fn first_positions(
+    alloc: Global,
+    held: &[Held],
+    most: usize,
+) -> Result<Sequence<Position>, Memory>
     ensures { IfOk result (λ ps. ps ≡ map (λ (h : HeldMessage). h.position) (take most held.now)) }
 {
     let mut positions = Sequence::new(alloc);

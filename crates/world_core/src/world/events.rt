@@ -84,18 +84,22 @@ impl World {
     }
 
     /// A client takes the next packet from the broker at its cluster.
-    #[tactic(auto, using(crate::proofs::Doing::got, crate::proofs::Doing::got_silently, crate::proofs::Places::can_count))]
+    #[tactic(auto, using(crate::proofs::Doing::got, crate::proofs::Doing::got_nothing, crate::proofs::Places::can_count))]
     fn get(&mut self, alloc: Global, setup: &Declarations, client: u32) -> Result<(), Memory>
         requires world { WorldFits setup.now self.old.world }
         requires client { client < length setup.now.clients }
         ensures ok { OnOk result (self.new.world ≡ uncounted (happens setup.now self.old.world (event.Get client))) }
         ensures err { OnErr result (self.new.world ≡ self.old.world) }
     {
-        let taker = self.client(setup, client);
-        let cluster = taker.cluster();
+        let cluster = self.client(setup, client).cluster();
+        let input = Input::ToClient { client, cluster };
+        let stamp = self.client_stamp(setup, client, input);
         let next = self.links.next_to_client(client, cluster);
-        let prepared = taker.prepare_get(alloc, setup.client(client), next)?;
-        self.finish_taking(setup, client, cluster, prepared);
+        if !self.clients[client as usize].get(alloc, setup.client(client), next)? {
+            self.idle += 1;
+            return Ok(());
+        }
+        self.finish_taking(client, input, stamp);
         Ok(())
     }
 
