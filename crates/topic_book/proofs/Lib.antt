@@ -5,3 +5,5 @@ pub mod SenderTables
 pub mod Pendings
 pub mod Messages
 pub mod Refusals
+pub mod Mapped
+pub mod Subscriptions

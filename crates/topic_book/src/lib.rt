@@ -17,4 +17,5 @@ pub mod senders;
 pub mod sending;
 pub mod serving;
 pub mod site;
+pub mod subscription;
 pub mod topic;
