@@ -6,4 +6,6 @@ pub mod Pendings
 pub mod Messages
 pub mod Refusals
 pub mod Mapped
-pub mod Subscriptions
+pub mod SubLists
+pub mod LeastDue
+pub mod SubTables

@@ -18,4 +18,5 @@ pub mod sending;
 pub mod serving;
 pub mod site;
 pub mod subscription;
+pub mod subscriptions;
 pub mod topic;

@@ -8,7 +8,7 @@ ghost use Rattle.geo_base.specs.Subscribing.{is_busy};
 ghost use Rattle.geo_base.specs.Subscription.{after_acks, attached, detached, has_consumer, is_attached, new_subscription, out_with, permitted, with_acks};
 ghost use Rattle.geo_base.specs.declared.frame.SubKind.TheVariants as sub_kind;
 ghost use Rattle.topic_book.specs.Room.{IsAscending};
-ghost use Rattle.topic_book.specs.SubRoom.{IsPlain, SubBook, SubStepFits, need, sub_stepped};
+ghost use Rattle.topic_book.specs.SubRoom.{IsLeast, IsPlain, SubBook, SubStepFits, need, sub_stepped};
 
 mod parts;
 
@@ -165,12 +165,20 @@ impl Sub {
     pub fn least_due(&self, entries: u64) -> Option<u64>
         ensures { result ≡ least_due self.now.sub entries }
     {
+        let least = self.least();
+        if least < entries { Some(least) } else { None }
+    }
+
+    /// The least index that is due, which may be the topic's length or past it: the first one that is due again, or the first
+    /// one that is not acknowledged where reading goes on.
+    fn least(&self) -> u64
+        ensures { IsLeast self.now.sub result }
+    {
         let next = self.cursor.next_open(self.read_index);
-        let least = match first_open(self.due.as_slice(), &self.cursor) {
+        match first_open(self.due.as_slice(), &self.cursor) {
             Some(again) if again < next => again,
             _ => next,
-        };
-        if least < entries { Some(least) } else { None }
+        }
     }
 
     /// Does one step, within the room that was reserved, in a topic of so many entries.

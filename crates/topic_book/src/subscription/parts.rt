@@ -21,10 +21,12 @@ const MOST_PERMITS: u64 = u32::MAX as u64;
 pub(crate) fn first_open(indexes: &[u64], cursor: &Cursor) -> Option<u64>
     ensures { result ≡ find (λ i. not (has cursor.now.indexes i)) indexes.now }
 {
-    indexes
-        .iter()
-        .find(|index| !cursor.is_acked(**index))
-        .copied()
+    for index in indexes {
+        if !cursor.is_acked(*index) {
+            return Some(*index);
+        }
+    }
+    None
 }
 
 /// What is out with a client and is not acknowledged is due again.

@@ -3,7 +3,7 @@ use Rattle.std.specs.Prelude.{not, ◌==◌}
 use Rattle.std.specs.List.{filter}
 use Rattle.std.proofs.lemmas.Fn.{filter_same}
 use Rattle.geo_base.specs.Cursor.{has}
-use Rattle.topic_book.proofs.Subscriptions.{ascending_filter}
+use Rattle.topic_book.proofs.SubLists.{ascending_filter}
 use Rattle.topic_book.proofs.subscription.parts.forget_due.Goals as goal
 
 pub returns-clause-items : goal.returns-clause-items

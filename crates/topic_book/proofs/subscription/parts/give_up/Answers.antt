@@ -3,7 +3,7 @@ use Rattle.std.specs.Prelude.{length, not, ◌==◌}
 use Rattle.std.specs.List.{filter}
 use Rattle.std.proofs.lemmas.Fn.{filter_same}
 use Rattle.geo_base.specs.declared.consumer.Outstanding.{Outstanding}
-use Rattle.topic_book.proofs.Subscriptions.{length_kept}
+use Rattle.topic_book.proofs.SubLists.{length_kept}
 use Rattle.topic_book.proofs.subscription.parts.give_up.Goals as goal
 
 pub returns-clause-items : goal.returns-clause-items
