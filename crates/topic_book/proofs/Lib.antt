@@ -9,3 +9,4 @@ pub mod Mapped
 pub mod SubLists
 pub mod LeastDue
 pub mod SubTables
+pub mod Ledgers

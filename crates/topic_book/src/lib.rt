@@ -1,8 +1,8 @@
 //! A broker, which owns one topic at one cluster. Each event is prepared, which takes all its memory and changes nothing, and
 //! then committed, which cannot fail.
 //!
-//! Built so far are the events of publishing and of replication. There is no subscription, so a broker's definition is met with
-//! none, and entries are messages; the types of entries and packets say so.
+//! Built so far are the events of publishing, of replication, and of subscriptions of kind Exclusive that are not replicated.
+//! Entries are messages; the types of entries and packets say so.
 #![tactic(auto)]
 
 pub mod action;
@@ -20,3 +20,4 @@ pub mod site;
 pub mod subscription;
 pub mod subscriptions;
 pub mod topic;
+pub mod write;

@@ -10,11 +10,11 @@ ghost use Rattle.geo_base.specs.Producing.{attaches, is_sound, is_taken, may_att
 ghost use Rattle.geo_base.specs.Serving.{serve, serve_command, serve_frame, serve_in};
 ghost use Rattle.geo_base.specs.declared.frame.Frame.TheVariants as frame;
 ghost use Rattle.geo_base.specs.Built.{is_client_frame};
-ghost use Rattle.topic_book.specs.Fits.{PlanFits, steps};
+ghost use Rattle.topic_book.specs.Fits.{HasRoom, PlanFits, room_for};
 ghost use Rattle.geo_base.specs.Message.{is_message};
 ghost use Rattle.topic_book.specs.Refusing.{refusal};
 
-use crate::book::{Book, STEPS};
+use crate::book::Book;
 use crate::packet::ClientPacket;
 use crate::prepared::Prepared;
 use crate::site::Site;
@@ -51,10 +51,10 @@ impl Book {
         requires client { client < length self.old.broker.sessions }
         ensures plan { IfOk result (λ p. p ≡ serve site.now self.old.broker client (option_copied input.entry)) }
         ensures fits { IfOk result (λ p. PlanFits site.now.per_ledger self.old.broker p) }
-        ensures room { IfOk result (λ p. steps p ≤ self.new.room) }
+        ensures room { IfOk result (λ p. HasRoom self.new.room p) }
         ensures kept { self.new.broker ≡ self.old.broker }
     {
-        self.reserve(STEPS)?;
+        self.reserve(0)?;
         match input {
             None => Ok(Prepared::idle(alloc)),
             Some(input) => self.serve_frame(alloc, site, client, input.packet()),
@@ -72,7 +72,7 @@ impl Book {
         requires carried { is_client_frame packet.now.frame ≡ true }
         ensures plan { IfOk result (λ p. p ≡ serve_frame site.now self.now.broker client packet.now packet.now.frame) }
         ensures fits { IfOk result (λ p. PlanFits site.now.per_ledger self.now.broker p) }
-        ensures few { IfOk result (λ p. steps p ≤ STEPS) }
+        ensures few { IfOk result (λ p. HasRoom (room_for 0) p) }
     {
         match &packet.frame {
             Frame::Connect => {
@@ -105,7 +105,7 @@ impl Book {
         requires opened { packet.now.frame ≢ frame.Connect }
         ensures plan { IfOk result (λ p. p ≡ serve_in site.now self.now.broker client packet.now (session_at self.now.broker client)) }
         ensures fits { IfOk result (λ p. PlanFits site.now.per_ledger self.now.broker p) }
-        ensures few { IfOk result (λ p. steps p ≤ STEPS) }
+        ensures few { IfOk result (λ p. HasRoom (room_for 0) p) }
     {
         match self.session(client) {
             Some(session) if session.number == packet.session => {
@@ -129,7 +129,7 @@ impl Book {
         requires opened { command.now ≢ frame.Connect }
         ensures plan { IfOk result (λ p. p ≡ serve_command site.now self.now.broker client session.now command.now) }
         ensures fits { IfOk result (λ p. PlanFits site.now.per_ledger self.now.broker p) }
-        ensures few { IfOk result (λ p. steps p ≤ STEPS) }
+        ensures few { IfOk result (λ p. HasRoom (room_for 0) p) }
     {
         match command {
             Frame::Producer {
@@ -190,7 +190,7 @@ impl Book {
         requires message { is_message entry.now ≡ true }
         ensures plan { IfOk result (λ p. p ≡ stores site.now self.now.broker client session.now id seq (with_origin site.now.own entry.now)) }
         ensures fits { IfOk result (λ p. PlanFits site.now.per_ledger self.now.broker p) }
-        ensures few { IfOk result (λ p. steps p ≤ STEPS) }
+        ensures few { IfOk result (λ p. HasRoom (room_for 0) p) }
     {
         let mut plan = Prepared::quiet(alloc);
         let position = self.store(alloc, site, site.own(), entry, &mut plan)?;

@@ -108,13 +108,9 @@ impl SubTable {
         ensures subs { self.new.subs ≡ self.old.subs ++ new_subscription sub.sub.name sub_kind.Exclusive false (if latest then below len else []) ∷ [] }
         ensures room { self.new.room + 1 ≡ self.old.room }
     {
-        let mut sub = sub;
-        if latest && len > 0 {
-            sub.acknowledge_to(len - 1, len);
-        }
         self.room -= 1;
         self.acks = 0;
-        self.subs.push_reserved(sub);
+        self.subs.push_reserved(created(sub, latest, len));
     }
 
     /// Does one step of the subscription of a name, in a topic of so many entries.
@@ -142,6 +138,19 @@ impl SubTable {
         self.room -= 1;
         self.acks = 0;
     }
+}
+
+/// A new subscription at Latest, where all of so many entries are acknowledged, or at Earliest.
+fn created(sub: Sub, latest: bool, len: u64) -> Sub
+    requires { IsFresh sub }
+    ensures sub { result.sub ≡ new_subscription sub.sub.name sub_kind.Exclusive false (if latest then below len else []) }
+    ensures room { result.room ≡ sub.room }
+{
+    let mut sub = sub;
+    if latest && len > 0 {
+        sub.acknowledge_to(len - 1, len);
+    }
+    sub
 }
 
 /// The subscription of a name.
