@@ -10,3 +10,6 @@ pub mod SubLists
 pub mod LeastDue
 pub mod SubTables
 pub mod Ledgers
+pub mod Consumers
+pub mod Acks
+pub mod Offers

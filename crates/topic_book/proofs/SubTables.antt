@@ -71,7 +71,7 @@ at_latest s name len latest e some l =
     let all : len - 1 + 1 ≡ len = omega arith in
     rw (e, l, all) (ap (λ is. new_subscription name sub_kind.Exclusive false is) (all_below len))
 
-need_to : (i : ℕ) → need (below (i + 1)) ≡ 1
+pub need_to : (i : ℕ) → need (below (i + 1)) ≡ 1
 need_to i =
     let len : length (below (i + 1)) ≡ i + 1 = length-range_with_len 0 (i + 1) in
     let same : bytes_eq (below (i + 1)) (below (length (below (i + 1)))) ≡ true =

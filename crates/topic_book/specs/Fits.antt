@@ -1,7 +1,9 @@
 -- Plans that a broker can commit: their numbers name what is there, and what they append is accepted.
-use Rattle.std.specs.Prelude.{◌≡◌, ℕ, ◌+◌, ◌<◌, ◌≤◌, ◌^◌, true, List, [], ◌∷◌, length, None, ⊤}
+use Rattle.std.specs.Prelude.{◌≡◌, ℕ, ◌+◌, ◌<◌, ◌≤◌, ◌^◌, true, List, [], ◌∷◌, length, max, None, ⊤}
 use Rattle.std.specs.List.{All}
 use Rattle.geo_base.specs.declared.change.Change.{Change}
+use Rattle.geo_base.specs.declared.frame.Frame.{Frame}
+use Rattle.geo_base.specs.declared.frame.Frame.TheVariants as frame
 use Rattle.geo_base.specs.declared.write.Write.{Write}
 use Rattle.geo_base.specs.declared.change.Change.TheVariants as change
 use Rattle.geo_base.specs.declared.write.Write.TheVariants as write
@@ -66,3 +68,8 @@ pub record HasRoom (room : Room) (p : Plan) : Type 0 where
 -- an event has at most two steps
 abbrev pub room_for : ℕ → Room
 room_for acks = record { steps = 2; acks = acks }
+
+-- how many acknowledged indexes a command needs room for in a cursor
+abbrev pub acks_for : Frame → ℕ
+acks_for (frame.Ack id kind ps) = max (length ps) 1
+acks_for f = 0

@@ -32,6 +32,9 @@ pub enum Action<'a> {
         remote: u32,
         input: Option<&'a Packet>,
     },
+    Offer {
+        sub: &'a str,
+    },
 }
 
 impl Book {
@@ -54,6 +57,7 @@ impl Book {
             Action::Read { remote } => self.prepare_read(alloc, site, remote),
             Action::Take { source, input } => self.prepare_take(alloc, site, source, input),
             Action::Receipt { remote, input } => self.prepare_receipt(alloc, site, remote, input),
+            Action::Offer { sub } => self.prepare_offer(alloc, site, sub),
         }
     }
 }

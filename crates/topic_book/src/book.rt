@@ -1,11 +1,12 @@
 //! A broker's state, and how a prepared event becomes of it.
 ghost use Rattle.std.specs.Prelude.{◌≡◌, ◌<◌, ◌≤◌, ◌+◌, ◌-◌, ◌++◌, None, Some, true, length, replicate, slice_get, IfOk, OnOk, []};
-ghost use Rattle.std.specs.Option.{option_copied};
+ghost use Rattle.std.specs.Option.{IfSome, option_copied};
 ghost use Rattle.geo_base.specs.Broker.{at_sender, at_sub, changed, new_broker, receiver_at, sender_at, session_at, written};
 ghost use Rattle.geo_base.specs.Entry.{with_origin};
 ghost use Rattle.geo_base.specs.declared.change.Change.TheVariants as change;
 ghost use Rattle.geo_base.specs.Storing.{receipt_position, storing};
 ghost use Rattle.geo_base.specs.Message.{is_message};
+ghost use Rattle.geo_base.specs.Topic.{index_of};
 ghost use Rattle.geo_base.specs.Plan.{all_changed, all_written, done};
 ghost use Rattle.topic_book.specs.Fits.{AllChangesFit, AllWritesFit, ChangeFits, HasRoom, PlanFits, SameShape, WriteFits, room_for};
 ghost use Rattle.topic_book.specs.Steps.{StepFits, stepped};
@@ -19,7 +20,7 @@ use crate::senders::SenderTable;
 use crate::site::Site;
 use crate::subscription::SubStep;
 use crate::subscriptions::SubTable;
-use crate::topic::{NOWHERE, grow, is_accepted, position_after};
+use crate::topic::{NOWHERE, grow, index_of, is_accepted, position_after};
 use crate::write::{BookWrite, PlannedWrite};
 use geo_base::bytes::Text;
 use geo_base::change::Change;
@@ -61,7 +62,7 @@ impl Model for Book {
 }
 
 /// The most steps that an event takes.
-const STEPS: usize = 2;
+pub const STEPS: usize = 2;
 
 impl Book {
     /// An empty topic, with closed senders and receivers for so many clusters, and no session of so many clients.
@@ -178,6 +179,14 @@ impl Book {
         }
         plan.write(BookWrite::Append(stored))?;
         Ok(position_after(site.per_ledger(), self.ledgers.as_slice()))
+    }
+
+    /// The index that a position counts to; `None` where nothing stands there.
+    pub fn index_of(&self, position: &Position) -> Option<u64>
+        ensures index { result ≡ index_of self.now.broker.ledgers position.now }
+        ensures within { IfSome result (λ i. i < length self.now.broker.entries) }
+    {
+        index_of(self.ledgers.as_slice(), position)
     }
 
     /// The subscriptions.

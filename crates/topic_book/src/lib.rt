@@ -5,10 +5,12 @@
 //! Entries are messages; the types of entries and packets say so.
 #![tactic(auto)]
 
+pub mod acknowledging;
 pub mod action;
 pub mod book;
 pub mod cursor;
 pub mod message;
+pub mod offering;
 pub mod packet;
 pub mod prepared;
 pub mod receiving;
@@ -17,6 +19,7 @@ pub mod senders;
 pub mod sending;
 pub mod serving;
 pub mod site;
+pub mod subscribing;
 pub mod subscription;
 pub mod subscriptions;
 pub mod topic;

@@ -131,11 +131,19 @@ impl Sub {
         self.cursor.is_acked(index)
     }
 
-    /// The consumer that messages go to, which is the first.
-    pub fn consumer(&self) -> Option<Consumer>
-        ensures { result ≡ slice_get self.now.sub.consumers 0 }
+    /// The consumer that messages go to, which is the first; one without permits where there is none.
+    pub fn consumer(&self) -> Consumer
+        ensures consumer { result ≡ consumer_at self.now.sub.consumers 0 }
+        ensures plain { IsPlain self.now.sub }
     {
-        self.consumers.first().copied()
+        if self.consumers.is_empty() {
+            return Consumer {
+                client: 0,
+                id: 0,
+                permits: 0,
+            };
+        }
+        self.consumers[0]
     }
 
     /// Whether a client has a consumer here.
@@ -156,7 +164,8 @@ impl Sub {
 
     /// Whether a consumer is here that another one of kind Exclusive can't join.
     pub fn is_busy(&self) -> bool
-        ensures { result ≡ is_busy sub_kind.Exclusive self.now.sub }
+        ensures busy { result ≡ is_busy sub_kind.Exclusive self.now.sub }
+        ensures plain { IsPlain self.now.sub }
     {
         !self.consumers.is_empty()
     }
