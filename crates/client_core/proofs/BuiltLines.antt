@@ -1,5 +1,5 @@
 -- The lines that a script has are built.
-use Rattle.std.proofs.Common.{◌≡◌, ◌≤◌, nat_le, true, length, refl, arith}
+use Rattle.std.proofs.Common.{◌≡◌, nat_le, true, length, refl, arith}
 use Rattle.std.proofs.lemmas.Bool.Decides.{nat_tests}
 use Rattle.geo_base.specs.declared.client.Line.{Line}
 use Rattle.geo_base.specs.declared.client.Line.TheVariants as line

@@ -1,5 +1,5 @@
 -- Held messages: the first of an identity, and the first so many.
-use Rattle.std.proofs.Common.{◌≡◌, ℕ, ◌<◌, true, false, List, [], ◌∷◌, ◌++◌, length, take, drop, map, get_or, Option, Some, None, refl, arith, drop-cons}
+use Rattle.std.proofs.Common.{◌≡◌, ℕ, ◌<◌, true, List, [], ◌∷◌, ◌++◌, length, take, drop, map, get_or, Some, refl, arith, drop-cons}
 use Rattle.std.specs.Prelude.{remove}
 use Rattle.geo_base.specs.declared.client.Held.{Held}
 use Rattle.geo_base.specs.declared.entry.Ident.{Ident}

@@ -9,7 +9,7 @@ use Rattle.geo_base.specs.declared.entry.Targets.TheVariants as targets
 use Rattle.geo_base.specs.Client.{target_names}
 use Rattle.geo_base.specs.Entry.{goes_to}
 use Rattle.geo_base.specs.Message.{is_message}
-use Rattle.geo_base.specs.Name.{is_name, name_byte}
+use Rattle.geo_base.specs.Name.{is_name}
 use Rattle.geo_base.specs.Scripted.{is_optional_name}
 use Rattle.geo_base.specs.Setup.{Declared, Setup}
 use Rattle.geo_base.specs.Sizes.{optional_text, repeated_text, text_field, varint_groups, varint_size}

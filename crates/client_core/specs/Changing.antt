@@ -1,5 +1,5 @@
 -- What an event changes at a client, and what it sends: prepared before it is done, and no copy of the client.
-use Rattle.std.specs.Prelude.{◌≡◌, ℕ, ◌+◌, ◌<◌, ◌^◌, true, not, List, [], ◌∷◌, ◌++◌, length, filter, drop, remove, Option, Some, None, is_some, ⊤}
+use Rattle.std.specs.Prelude.{◌+◌, ◌<◌, ◌^◌, true, not, List, [], ◌∷◌, ◌++◌, length, filter, drop, remove, Option, Some, None, is_some, ⊤}
 use Rattle.geo_base.specs.declared.client.Held.{Held}
 use Rattle.geo_base.specs.declared.packet.Out.{Out}
 use Rattle.geo_base.specs.Client.{Acted, Client, connected_to}

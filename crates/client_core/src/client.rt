@@ -7,13 +7,13 @@ ghost use Rattle.geo_base.specs.Client.{new_client};
 ghost use Rattle.geo_base.specs.Going.{past};
 ghost use Rattle.client_core.specs.Changing.{ChangeFits, ClientFits, acted, changed};
 
-pub mod acknowledging;
-pub mod commands;
-pub mod connecting;
-pub mod getting;
-pub mod going;
-pub mod held;
-pub mod line;
+mod acknowledging;
+mod commands;
+mod connecting;
+mod getting;
+mod going;
+mod held;
+mod line;
 pub mod outgoing;
 pub mod prepared;
 

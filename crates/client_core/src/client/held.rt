@@ -14,13 +14,13 @@ use std::alloc::Global;
 
 /// A held message as it is found: its place, and the position under which it came.
 #[derive(Clone, Copy, Debug, Drop)]
-pub struct Found {
+pub(super) struct Found {
     pub at: usize,
     pub position: Position,
 }
 
 /// The first held message of an identity.
-pub fn first_held(held: &[Held], ident: &Ident) -> Option<Found>
+pub(super) fn first_held(held: &[Held], ident: &Ident) -> Option<Found>
     ensures within { IfSome result (λ f. f.at < length held.now) }
     ensures position { IfSome result (λ f. first_held held.now ident.now ≡ Some f.position) }
     ensures rest { IfSome result (λ f. without_first held.now ident.now ≡ remove held.now f.at) }
@@ -45,7 +45,7 @@ fn is_same(one: &Ident, other: &Ident) -> bool
 }
 
 /// The positions of the first so many held messages, or of all.
-pub fn first_positions(
+pub(super) fn first_positions(
     alloc: Global,
     held: &[Held],
     most: usize,
@@ -62,7 +62,7 @@ pub fn first_positions(
 
 /// Gives up the first so many held messages, or all.
 #[tactic(auto, using(std::proofs::lemmas::List::drop_min))]
-pub fn forget_first(held: &mut Vec<Held>, most: usize)
+pub(super) fn forget_first(held: &mut Vec<Held>, most: usize)
     ensures { held.new.items ≡ drop most held.old.items }
 {
     let count = most.min(held.len());
@@ -70,7 +70,7 @@ pub fn forget_first(held: &mut Vec<Held>, most: usize)
 }
 
 /// Gives up what is held up to a position, that one too.
-pub fn forget_to(held: &mut Vec<Held>, position: Position)
+pub(super) fn forget_to(held: &mut Vec<Held>, position: Position)
     ensures { held.new.items ≡ filter (λ (h : HeldMessage). not (position_le h.position position)) held.old.items }
 {
     held.retain(|message| !is_at_most(message.position, position));

@@ -8,7 +8,7 @@ use script::ClientDecl;
 
 /// A client's line at an index. A list in memory has fewer than 2 ^ 63 lines.
 #[tactic(auto, using(crate::proofs::BuiltLines::is_built))]
-pub fn line_at(declared: &ClientDecl, index: usize) -> Option<&Line>
+pub(super) fn line_at(declared: &ClientDecl, index: usize) -> Option<&Line>
     ensures value { option_copied result ≡ slice_get declared.now.lines index }
     ensures built { IfSome result (λ l. is_built_line l.now ≡ true) }
     ensures within { OnSome result (index < 2 ^ 63) }

@@ -1,4 +1,3 @@
-use Rattle.std.proofs.Common.{sym, ◌∙◌}
 use Rattle.client_core.proofs.Published.{published_is_message}
 use Rattle.client_core.proofs.client.Client.published.Goals as goal
 

@@ -1,4 +1,4 @@
-use Rattle.std.proofs.Common.{◌≡◌, ◌<◌, true, length, sym, ◌∙◌, arith}
+use Rattle.std.proofs.Common.{◌<◌, length, sym, ◌∙◌, arith}
 use Rattle.client_core.proofs.Getting.{without_publish_at}
 use Rattle.client_core.proofs.client.getting.first_publish.Goals as goal
 
