@@ -90,19 +90,23 @@ none_above n (p ∷ ps) h =
 in_front : (p : Part) (ps qs : List Part) → AllByRecursion (λ q. place p < place q) qs → AllByRecursion (λ q. values (place q) (flat_map part_fields ps) ≡ values (place q) (part_fields q)) qs → AllByRecursion (λ q. values (place q) (flat_map part_fields (p ∷ ps)) ≡ values (place q) (part_fields q)) qs
 in_front p ps [] h k = tt
 in_front p ps (q ∷ qs) h k =
-    let lt = h.0 in
-    (ap (λ (fs : List Field). values (place q) fs) (flat_map-cons part_fields p ps) ∙ values-append (place q) (part_fields p) (flat_map part_fields ps)
-    ∙ ap (λ (vs : List Value). vs ++ values (place q) (flat_map part_fields ps)) (elsewhere (place q) p (λ e. omega (arith, lt, e)))
-    ∙ k.0, in_front p ps qs h.1 k.1)
+    let lt = h.0 in (
+      ap (λ (fs : List Field). values (place q) fs) (flat_map-cons part_fields p ps) ∙ values-append (place q) (part_fields p) (flat_map part_fields ps)
+          ∙ ap (λ (vs : List Value). vs ++ values (place q) (flat_map part_fields ps)) (elsewhere (place q) p (λ e. omega (arith, lt, e)))
+          ∙ k.0,
+      in_front p ps qs h.1 k.1,
+    )
 
 pub at_place : (low : ℕ) (ps : List Part) → above low ps ≡ true → AllByRecursion (λ p. values (place p) (flat_map part_fields ps) ≡ values (place p) (part_fields p)) ps
 at_place low [] h = tt
 at_place low (p ∷ ps) h =
     let rest : above (place p) ps ≡ true = others low p ps h in
-    let higher = all_above (place p) ps rest in
-    (ap (λ (fs : List Field). values (place p) fs) (flat_map-cons part_fields p ps) ∙ values-append (place p) (part_fields p) (flat_map part_fields ps)
-    ∙ ap (λ (vs : List Value). values (place p) (part_fields p) ++ vs) (none_above (place p) ps higher)
-    ∙ append-nil (values (place p) (part_fields p)), in_front p ps ps higher (at_place (place p) ps rest))
+    let higher = all_above (place p) ps rest in (
+      ap (λ (fs : List Field). values (place p) fs) (flat_map-cons part_fields p ps) ∙ values-append (place p) (part_fields p) (flat_map part_fields ps)
+          ∙ ap (λ (vs : List Value). values (place p) (part_fields p) ++ vs) (none_above (place p) ps higher)
+          ∙ append-nil (values (place p) (part_fields p)),
+      in_front p ps ps higher (at_place (place p) ps rest),
+    )
 
 -- ---- rows
 

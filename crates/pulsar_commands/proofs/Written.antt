@@ -243,9 +243,9 @@ module _ (n : ℕ) (above_one : 1 < n) (body : List ℕ) where
 
   there : lowest_absent (required n form.Message ∷ []) both_fields ≡ None
   there =
-    let other : eqb 1 n ≡ false = ne_eqb _ _ one_not in
-    let same : eqb n n ≡ true = eq-eqb _ _ refl in
-    rw (other, same) refl
+      let other : eqb 1 n ≡ false = ne_eqb _ _ one_not in
+      let same : eqb n n ≡ true = eq-eqb _ _ refl in
+      rw (other, same) refl
 
   holds_message : (Right : ℕ → List ℕ → Type 0) → Right n body → IsMessageWith Right (required n form.Message ∷ []) both_fields
   holds_message Right right = record {
@@ -254,10 +254,13 @@ module _ (n : ℕ) (above_one : 1 < n) (body : List ℕ) where
         fits = unknown_fits (required n form.Message ∷ []) type_field (no_row 1 (required n form.Message) not_one);
         holds = λ content h. absurd (let known = h.known in let none = no_row 1 (required n form.Message) not_one in cc);
       },
-      (record {
-        fits = fits_row (required n form.Message ∷ []) n (required n form.Message) (value.Bytes body) (its_row (required n form.Message) refl) tt;
-        holds = λ content h. subst (λ (c : List ℕ). Right n c) (same_content body content h.value) right;
-      }, tt),
+      (
+        record {
+          fits = fits_row (required n form.Message ∷ []) n (required n form.Message) (value.Bytes body) (its_row (required n form.Message) refl) tt;
+          holds = λ content h. subst (λ (c : List ℕ). Right n c) (same_content body content h.value) right;
+        },
+        tt,
+      ),
     );
     complete = there;
   }

@@ -88,7 +88,7 @@ impl Kind {
     }
 
     /// The fields of a command of the type.
-    pub fn rows(self) -> &'static [Row]
+    pub(crate) fn rows(self) -> &'static [Row]
         ensures { result.now ≡ rows_of self }
     {
         match self {
@@ -113,7 +113,7 @@ impl Kind {
     }
 
     /// The fields that hold values of enumerations, by ascending numbers.
-    pub fn choices(self) -> &'static [Choice]
+    pub(crate) fn choices(self) -> &'static [Choice]
         ensures { result.now ≡ choices_of self }
     {
         match self {

@@ -10,7 +10,7 @@ pub mod kind;
 mod laws;
 mod parts;
 mod read;
-pub mod table;
+mod table;
 mod write;
 
 pub use command::{Command, PositionList};

@@ -4,7 +4,7 @@ use pb_fields::message::{Form, Row};
 
 /// A field that holds a value of an enumeration.
 #[derive(Clone, Copy, Debug, Drop)]
-pub struct Choice {
+pub(crate) struct Choice {
     /// The field's number.
     pub number: u32,
     /// The enumeration's values are those from 0 below this.
@@ -34,7 +34,7 @@ macro_rules! optional {
 }
 
 /// The type of a BaseCommand.
-pub const TYPE: u32 = 1;
+pub(crate) const TYPE: u32 = 1;
 
 pub(crate) const TYPE_ROWS: [Row; 1] = [required!(TYPE, Varint)];
 
