@@ -8,12 +8,13 @@ use Rattle.geo_base.specs.Setup.{Setup}
 use Rattle.geo_base.specs.World.{LinkName, World, opening_world, taken_from}
 use Rattle.world_core.specs.declared.world.run.RunFault.{RunFault}
 use Rattle.world_core.specs.declared.world.run.RunFault.TheVariants as run_fault
+use Rattle.topic_book.specs.Room.{Room}
 use Rattle.world_laws.specs.Within.{WorldPlaces, WorldWithin}
 
 -- with the room of each broker
 pub record Machine : Type 0 where
   pub world : World
-  pub rooms : List ℕ
+  pub rooms : List Room
 
 -- the sizes of frames are not summed up yet; no report shows the sum
 abbrev pub uncounted : World → World
