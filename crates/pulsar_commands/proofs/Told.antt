@@ -1,8 +1,8 @@
 -- The canonical fields of one part say it, fit its row, and can be written.
 use Rattle.std.proofs.Common.{◌≡◌, ◌≢◌, ℕ, ◌+◌, ◌*◌, ◌^◌, ◌<◌, ◌≤◌, arith, Bool, true, false, List, [], ◌∷◌, ◌++◌, Option, Some, None, length, length-append, map, refl, sym, ap, subst, ◌∙◌}
-use Rattle.std.specs.Prelude.{nat_lt, if◌then◌else◌, IfSome, option_to_list}
+use Rattle.std.specs.Prelude.{nat_lt, if◌then◌else◌}
 use Rattle.std.specs.Option.{option_map}
-use Rattle.std.specs.List.{AllByRecursion, last_or, flat_map}
+use Rattle.std.specs.List.{AllByRecursion, last_or}
 use Rattle.geo_base.specs.declared.position.Position.{Position}
 use Rattle.pb_fields.specs.declared.field.Field.{Field}
 use Rattle.pb_fields.specs.declared.field.Value.{Value}
@@ -11,17 +11,16 @@ use Rattle.pb_fields.specs.declared.message.Form.{Form}
 use Rattle.pb_fields.specs.declared.message.Form.TheVariants as form
 use Rattle.pb_fields.specs.declared.message.Row.{Row}
 use Rattle.pb_fields.specs.Field.{IsFieldNumber, IsField, varint_field, bytes_field}
-use Rattle.pb_fields.specs.Canonical as canonical
 use Rattle.pb_fields.specs.Canonical.{varint, field_text}
-use Rattle.pb_fields.specs.Message.{row_of, HasForm, Fits, values, last_value, lowest_absent}
-use Rattle.pb_fields.specs.Embedded.{Holds, FitsWith, IsMessageWith, IsMessageText, AnyContent}
+use Rattle.pb_fields.specs.Message.{row_of, HasForm, Fits, values}
+use Rattle.pb_fields.specs.Embedded.{FitsWith, AnyContent}
 use Rattle.pb_fields.proofs.LastValues.{values-same}
-use Rattle.pb_fields.proofs.Parts.{AllByRecursion-append, AllByRecursion-map, AllByRecursion-optional, fits_row, values-optional, values-map, last_or-option}
+use Rattle.pb_fields.proofs.Parts.{AllByRecursion-map, fits_row, values-optional, values-map, last_or-option}
 use Rattle.pb_fields.proofs.Written.{text-is, varint-is}
 use Rattle.pulsar_commands.specs.Table.{id_rows}
-use Rattle.pulsar_commands.specs.Part.{Part, text, optional_text, number, optional_number, number_or, flag, id, optional_id, ids, place, IsIdText, IsId, IsOptionalId, AreIds, IsNumberOr, IsFlag, Told}
+use Rattle.pulsar_commands.specs.Part.{Part, text, optional_text, number, optional_number, number_or, flag, id, optional_id, ids, place, IsIdText, AreIds, Told}
 use Rattle.pulsar_commands.specs.Text.{IdRight}
-use Rattle.pulsar_commands.specs.Canonical.{id_text, id_field, part_fields, IsTextOf64, IsPosition, IsPart}
+use Rattle.pulsar_commands.specs.Canonical.{id_text, id_field, part_fields, IsPosition, IsPart}
 use Rattle.pulsar_commands.proofs.Ascending.{row}
 
 -- ---- ids

@@ -1,5 +1,5 @@
 -- Bytes are a text of one command at most, have one fault at most, and not both.
-use Rattle.std.proofs.Common.{◌≡◌, ◌≢◌, ℕ, ◌-◌, ◌<◌, ◌≤◌, arith, List, [], ◌∷◌, Option, Some, None, Result, Ok, Err, inl, inr, get_or, refl, sym, ap, subst, ◌∙◌}
+use Rattle.std.proofs.Common.{◌≡◌, ℕ, ◌-◌, arith, List, [], ◌∷◌, Option, Some, Result, Ok, Err, inl, inr, get_or, refl, sym, ap, subst, ◌∙◌}
 use Rattle.std.specs.Prelude.{IfOk, IfErr}
 use Rattle.std.specs.List.{AllByRecursion}
 use Rattle.pb_fields.specs.declared.field.Field.{Field}
@@ -8,7 +8,7 @@ use Rattle.pb_fields.specs.declared.field.Value.TheVariants as value
 use Rattle.pb_fields.specs.declared.message.MessageFault.{MessageFault}
 use Rattle.pb_fields.specs.Text.{IsText}
 use Rattle.pb_fields.specs.Faults.{Answers}
-use Rattle.pb_fields.specs.Message.{last_value, WrongMessage}
+use Rattle.pb_fields.specs.Message.{last_value}
 use Rattle.pb_fields.proofs.Unique.{text_one}
 use Rattle.pb_fields.proofs.Messages.{message_one, message_sound}
 use Rattle.pb_fields.proofs.Nested.{fields_one, fields_sound}

@@ -1,13 +1,13 @@
 -- One part written behind others.
-use Rattle.std.proofs.Common.{◌≡◌, ℕ, List, [], ◌∷◌, ◌++◌, Result, Ok, Err, refl, sym, ap, ◌∙◌, append_assoc}
+use Rattle.std.proofs.Common.{◌≡◌, ℕ, List, [], ◌∷◌, ◌++◌, Result, Ok, Err, sym, ap, ◌∙◌, append_assoc}
 use Rattle.std.specs.Prelude.{OnOk}
-use Rattle.std.specs.List.{AllByRecursion, flat_map}
+use Rattle.std.specs.List.{flat_map}
 use Rattle.std.proofs.lemmas.List.{append-nil}
-use Rattle.std.proofs.lemmas.List.Concat.{flat_map-cons, flat_map-append}
+use Rattle.std.proofs.lemmas.List.Concat.{flat_map-append}
 use Rattle.pb_fields.specs.declared.field.Field.{Field}
 use Rattle.pb_fields.specs.Canonical.{field_text, text}
 use Rattle.pulsar_commands.specs.Part.{Part}
-use Rattle.pulsar_commands.specs.Canonical.{part_fields, IsPart, WritesPart, Writes}
+use Rattle.pulsar_commands.specs.Canonical.{part_fields, WritesPart, Writes}
 
 pub text-append : (xs ys : List Field) → text (xs ++ ys) ≡ text xs ++ text ys
 text-append xs ys = flat_map-append field_text xs ys

@@ -1,6 +1,6 @@
 -- The canonical text of a command is a text of it.
-use Rattle.std.proofs.Common.{◌≡◌, ◌≢◌, ℕ, ◌<◌, ◌≤◌, ◌^◌, arith, Bool, true, false, eqb, eq-eqb, ne_eqb, List, [], ◌∷◌, ◌++◌, Option, Some, None, length, map, refl, sym, ap, subst, ◌∙◌}
-use Rattle.std.specs.Prelude.{nat_lt, if◌then◌else◌}
+use Rattle.std.proofs.Common.{◌≡◌, ℕ, ◌<◌, ◌^◌, arith, Bool, true, false, eqb, eq-eqb, ne_eqb, List, [], ◌∷◌, Option, Some, None, length, map, refl, sym, ap, subst, ◌∙◌}
+use Rattle.std.specs.Prelude.{if◌then◌else◌}
 use Rattle.std.specs.List.{AllByRecursion, last_or, flat_map}
 use Rattle.std.proofs.lemmas.List.Concat.{flat_map-cons}
 use Rattle.geo_base.specs.declared.frame.AckKind.{AckKind}
@@ -13,10 +13,9 @@ use Rattle.pb_fields.specs.declared.field.Value.TheVariants as value
 use Rattle.pb_fields.specs.declared.message.Form.TheVariants as form
 use Rattle.pb_fields.specs.declared.message.Row.{Row}
 use Rattle.pb_fields.specs.Field.{IsFieldNumber, IsField, varint_field, bytes_field}
-use Rattle.pb_fields.specs.Canonical as canonical
 use Rattle.pb_fields.specs.Text.{IsText}
-use Rattle.pb_fields.specs.Message.{row_of, HasForm, Fits, values, last_value, lowest_absent, IsMessage}
-use Rattle.pb_fields.specs.Embedded.{Holds, FitsWith, IsMessageWith, IsMessageText}
+use Rattle.pb_fields.specs.Message.{row_of, Fits, values, last_value, lowest_absent, IsMessage}
+use Rattle.pb_fields.specs.Embedded.{FitsWith, IsMessageWith, IsMessageText}
 use Rattle.pb_fields.proofs.LastValues.{values-same, values-other}
 use Rattle.pb_fields.proofs.Parts.{AllByRecursion-append, fits_row}
 use Rattle.pb_fields.proofs.Written.{text-is}
@@ -24,11 +23,10 @@ use Rattle.pulsar_commands.specs.declared.command.Command.{Command}
 use Rattle.pulsar_commands.specs.declared.command.Command.TheVariants as command
 use Rattle.pulsar_commands.specs.declared.kind.Kind.{Kind}
 use Rattle.pulsar_commands.specs.declared.kind.Kind.TheVariants as kind
-use Rattle.pulsar_commands.specs.Table.{kind_number, type_rows, held_rows, rows_of, choices_of, required, IsKnown}
-use Rattle.pulsar_commands.specs.Part.{Part, number, flag, place, IsFlag, Told, Says}
+use Rattle.pulsar_commands.specs.Table.{kind_number, type_rows, rows_of, choices_of, required, IsKnown}
+use Rattle.pulsar_commands.specs.Part.{Part, number, place, Told, Says}
 use Rattle.pulsar_commands.specs.Parts.{kind_of, parts, sub_number, ack_number}
-use Rattle.pulsar_commands.specs.Text as meaning
-use Rattle.pulsar_commands.specs.Text.{IdRight, BodyRight, HasType, IsLast, Tells, IsCommand, IsCommandText}
+use Rattle.pulsar_commands.specs.Text.{IdRight, BodyRight, IsCommandText}
 use Rattle.pulsar_commands.specs.Canonical.{part_fields, IsPart, body_text, command_fields, command_text, IsWritable}
 use Rattle.pulsar_commands.proofs.Ascending.{above, all_numbers, at_place, row, row_at}
 use Rattle.pulsar_commands.proofs.Told.{told, part_fits, part_ok}

@@ -1,5 +1,5 @@
 -- The canonical text of a command: every field that it has a value for, by ascending numbers.
-use Rattle.std.specs.Prelude.{◌≡◌, ◌++◌, ℕ, ◌<◌, ◌^◌, if◌then◌else◌, List, [], ◌∷◌, Option, map, length, IsUtf8, IfSome}
+use Rattle.std.specs.Prelude.{◌≡◌, ◌++◌, ℕ, ◌<◌, ◌^◌, if◌then◌else◌, List, [], ◌∷◌, map, length, IsUtf8, IfSome}
 use Rattle.std.specs.List.{flat_map, AllByRecursion}
 use Rattle.geo_base.specs.declared.position.Position.{Position}
 use Rattle.pb_fields.specs.declared.field.Field.{Field}

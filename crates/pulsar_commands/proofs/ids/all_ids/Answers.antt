@@ -1,7 +1,6 @@
 use Rattle.std.proofs.Common.{refl}
 use Rattle.pb_fields.proofs.Nested.{values_held, IsHeld}
 use Rattle.pb_fields.proofs.LastValues.{values-at}
-use Rattle.pb_fields.specs.declared.field.Value.{Value}
 use Rattle.pulsar_commands.specs.Text.{IdRight}
 use Rattle.pb_fields.specs.declared.field.Field.{Field}
 use Rattle.pulsar_commands.specs.Part.{IsId}
