@@ -7,3 +7,4 @@ pub mod Written
 pub mod Reading
 pub mod Fed
 pub mod Sizes
+pub mod Complete

@@ -5,6 +5,8 @@ ghost use Rattle.pulsar_frames.specs.Layout.{IsUnfinished};
 ghost use Rattle.pulsar_frames.specs.Viewed.{layout, body_layout};
 ghost use Rattle.pulsar_frames.specs.Frames.{carries, MeansBody, MeansFrame, TakesFrame, WrongFrame, HasFault, IsFaultOrMemory, WrongBody};
 ghost use Rattle.message_meta.specs.Metadata.{IsMetaText};
+ghost use Rattle.std.specs.List.{AllByRecursion};
+ghost use Rattle.pulsar_frames.specs.Canonical.{IsComplete};
 ghost use Rattle.pulsar_frames.specs.Streams.{IsStream};
 ghost use Rattle.pulsar_commands.specs.Parts.{kind_of};
 
@@ -74,6 +76,7 @@ pub(crate) struct Parsed {
 /// The frames at the front of the bytes, as many as are whole.
 pub(crate) fn parse(alloc: Global, bytes: &[u8]) -> Result<Parsed, Memory>
     ensures used { IfOk result (λ p. p.used ≤ length bytes.now) }
+    ensures complete { IfOk result (λ p. AllByRecursion IsComplete p.frames) }
     ensures stream { IfOk result (λ p. IsStream bytes.now p.frames (drop p.used bytes.now) p.fault) }
 {
     let mut frames = Queue::new(alloc);
@@ -97,6 +100,7 @@ pub(crate) fn parse(alloc: Global, bytes: &[u8]) -> Result<Parsed, Memory>
 fn up_to_rest(bytes: &[u8], frames: Queue<Frame>, rest: &[u8], fault: Option<FrameFault>) -> Parsed
     requires { IsStream bytes.now frames rest.now fault }
     ensures used { result.used ≤ length bytes.now }
+    ensures complete { AllByRecursion IsComplete result.frames }
     ensures stream { IsStream bytes.now result.frames (drop result.used bytes.now) result.fault }
 {
     Parsed {

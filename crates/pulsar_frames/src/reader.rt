@@ -1,7 +1,8 @@
 //! A reader of a stream of frames that comes in any pieces.
 
-ghost use Rattle.std.specs.Prelude.{◌≡◌, ◌≤◌, [], length, drop, Some, None, Err, MatchOption, OnOk, OnErr};
+ghost use Rattle.std.specs.Prelude.{◌≡◌, ◌≤◌, [], length, drop, Some, None, Err, MatchOption, OnOk, OnErr, IfSome};
 ghost use Rattle.pulsar_frames.specs.declared.fault.FrameFault.{FrameFault};
+ghost use Rattle.pulsar_frames.specs.Canonical.{IsComplete};
 ghost use Rattle.pulsar_frames.specs.Streams.{Reading, fresh, Feeds, Answered, CameTo, answer, Takes};
 
 use crate::fault::FrameFault;
@@ -23,11 +24,15 @@ pub struct FrameReader {
 }
 
 impl Model for FrameReader {
+    ghost use Rattle.std.specs.List.{AllByRecursion};
+    ghost use Rattle.pulsar_frames.specs.Canonical.{IsComplete};
     ghost use Rattle.pulsar_frames.specs.Streams.{Reading};
 
     ghost Value = { Reading };
 
     ghost view = { λ r. record { waiting = r.waiting; rest = r.rest.items; fault = r.fault } };
+
+    ghost invariant = { λ r. AllByRecursion IsComplete r.waiting };
 }
 
 impl FrameReader {
@@ -102,12 +107,15 @@ impl FrameReader {
     /// Takes the frame that was read first; takes no memory. None exactly where no whole frame that was not yet taken
     /// stands in the bytes so far.
     pub fn next(&mut self) -> Option<Frame>
-        ensures { MatchOption result ((self.old.waiting ≡ []) × (self.new ≡ self.old)) (λ f. Takes self.old f self.new) }
+        ensures taken { MatchOption result ((self.old.waiting ≡ []) × (self.new ≡ self.old)) (λ f. Takes self.old f self.new) }
+        // What is taken can be written again, unless that is too large.
+        ensures complete { IfSome result IsComplete }
     {
         self.waiting.pop()
     }
 
-    /// How many of the bytes so far stand after the last whole frame; takes no memory.
+    /// How many of the bytes so far stand after the last whole frame, of a refused stream up to its refusal; takes no
+    /// memory.
     pub fn rest(&self) -> usize
         ensures { result ≡ length self.now.rest }
     {
