@@ -5,12 +5,13 @@ use Rattle.geo_base.specs.declared.event.Step.TheVariants as step
 use Rattle.geo_base.specs.Happening.{happens}
 use Rattle.geo_base.specs.Setup.{Setup}
 use Rattle.geo_base.specs.World.{World, opening_world}
+use Rattle.topic_book.specs.Room.{Room}
 use Rattle.world_laws.specs.Within.{WorldPlaces, WorldWithin}
 
 -- with the room of each broker
 pub record Machine : Type 0 where
   pub world : World
-  pub rooms : List ℕ
+  pub rooms : List Room
 
 -- the sizes of frames are not summed up yet; no report shows the sum
 abbrev pub uncounted : World → World

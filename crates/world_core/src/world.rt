@@ -5,7 +5,8 @@ ghost use Rattle.geo_base.specs.Client.{new_client};
 ghost use Rattle.geo_base.specs.Scripted.{IsScripted};
 ghost use Rattle.geo_base.specs.Happening.{broker_does, client_does};
 ghost use Rattle.geo_base.specs.World.{ToClient, broker_at, client_at, node as node_number, opening_world, site as site_at, topic_at};
-ghost use Rattle.topic_book.specs.Fits.{PlanFits, steps};
+ghost use Rattle.topic_book.specs.Fits.{HasRoom, PlanFits};
+ghost use Rattle.world_core.specs.Books.{room_at};
 ghost use Rattle.world_core.specs.Inputs.{input_link};
 ghost use Rattle.world_core.specs.Machines.{WorldFits, uncounted};
 ghost use Rattle.geo_base.specs.Worlds.{IsWorldOf};
@@ -155,7 +156,7 @@ impl World {
         requires topic { topic < length setup.now.topics }
         requires cluster { cluster < length setup.now.clusters }
         requires fits { PlanFits setup.now.per_ledger (broker_at self.old.world (node_number setup.now topic cluster)) prepared }
-        requires room { steps prepared ≤ slice_index self.old.rooms (node_number setup.now topic cluster) }
+        requires room { HasRoom (room_at self.old.rooms (node_number setup.now topic cluster)) prepared }
         ensures ok { OnOk result (self.new.world ≡ uncounted (broker_does setup.now self.old.world
             (record { topic = topic; cluster = cluster; takes = input_link input; plan = prepared }))) }
         ensures err { OnErr result (self.new.world ≡ self.old.world) }
