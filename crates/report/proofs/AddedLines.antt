@@ -8,9 +8,10 @@ use Rattle.geo_base.specs.declared.entry.Entry.{Entry}
 use Rattle.geo_base.specs.declared.position.Position.{Position}
 use Rattle.geo_base.specs.Broker.{Broker, sender_at}
 use Rattle.geo_base.specs.Client.{Client}
-use Rattle.geo_base.specs.Report.{broker_lines, client_line, client_lines, cluster_lines, entry_line, entry_lines, got_line, sender_line, sender_lines, topic_lines, with_line_feeds, words}
+use Rattle.geo_base.specs.Report.{broker_lines, client_line, client_lines, cluster_lines, entry_line, entry_lines, got_line, sender_line, sender_lines, sub_line, topic_lines, with_line_feeds, words}
 use Rattle.geo_base.specs.Sender.{Sender, new_sender}
 use Rattle.geo_base.specs.Setup.{Declared, Setup}
+use Rattle.geo_base.specs.Subscription.{Subscription}
 use Rattle.geo_base.specs.Topic.{position_at}
 use Rattle.geo_base.specs.World.{World, client_at, topic_at}
 
@@ -73,7 +74,16 @@ senders_end own i names senders new whole past before =
       | inr all ↦ sym (append-nil new) ∙ (rw (drop_of_length-le names all) at before)
     ]
 
--- entries, then senders, and no subscription
-pub broker_whole : (names : List (List ℕ)) (own : ℕ) (b : Broker) (old mid : List ℕ) → b.subs ≡ [] → mid ≡ old ++ with_line_feeds (entry_lines names b.ledgers 0 b.entries)
-    → old ++ with_line_feeds (broker_lines names own b) ≡ mid ++ with_line_feeds (sender_lines own 0 names b.senders)
-broker_whole names own b old mid none entries = rw (none, append-nil, with_line_feeds-append, entries, append_assoc) refl
+-- entries, then senders, then subscriptions
+pub broker_whole : (names : List (List ℕ)) (own : ℕ) (b : Broker) (old one two new : List ℕ) → one ≡ old ++ with_line_feeds (entry_lines names b.ledgers 0 b.entries)
+    → two ≡ one ++ with_line_feeds (sender_lines own 0 names b.senders) → new ≡ two ++ with_line_feeds (map (sub_line b) b.subs)
+    → new ≡ old ++ with_line_feeds (broker_lines names own b)
+broker_whole names own b old one two new entries senders subs = rw (subs, senders, entries, with_line_feeds-append, with_line_feeds-append, append_assoc, append_assoc) refl
+
+-- a subscription of those that are left
+pub sub_added : (b : Broker) (subs : List Subscription) (i : ℕ) (s : Subscription) (old new text whole : List ℕ)
+    → slice_get subs i ≡ Some s → text ≡ sub_line b s ++ 10 ∷ [] → new ≡ old ++ text
+    → old ++ with_line_feeds (map (sub_line b) (drop i subs)) ≡ whole
+    → new ++ with_line_feeds (map (sub_line b) (drop (i + 1) subs)) ≡ whole
+sub_added b subs i s old new text whole here is added before =
+    line_added old new text (sub_line b s) whole (map (sub_line b) (drop (i + 1) subs)) is added (rw (drop_here subs i s here) at before)

@@ -1,10 +1,10 @@
 //! The lines of a broker.
-ghost use Rattle.std.specs.Prelude.{◌≡◌, ◌<◌, ◌≤◌, ◌==◌, ◌++◌, ◌∷◌, [], if◌then◌else◌, length, OnOk};
+ghost use Rattle.std.specs.Prelude.{◌≡◌, ◌<◌, ◌≤◌, ◌==◌, ◌++◌, ◌∷◌, [], if◌then◌else◌, length, map, OnOk};
 ghost use Rattle.geo_base.specs.Broker.{sender_at};
-ghost use Rattle.geo_base.specs.Report.{broker_lines, entry_lines, sender_line, sender_lines, with_line_feeds};
+ghost use Rattle.geo_base.specs.Report.{broker_lines, entry_lines, sender_line, sender_lines, sub_line, with_line_feeds};
 
 use crate::add;
-use crate::lines::{entry_line, sender_line};
+use crate::lines::{entry_line, sender_line, sub_line};
 use crate::positions::Positions;
 use geo_base::bytes::Blob;
 use geo_base::limits::CLUSTERS;
@@ -13,7 +13,7 @@ use geo_base::name::ClusterName;
 use std::alloc::Global;
 use topic_book::book::Book;
 
-/// Appends the lines of a broker: its entries, and its senders.
+/// Appends the lines of a broker: its entries, its senders, and its subscriptions.
 pub fn add_broker(
     alloc: Global,
     lines: &mut Blob,
@@ -25,7 +25,8 @@ pub fn add_broker(
     ensures { OnOk result (lines.new ≡ lines.old ++ with_line_feeds (broker_lines clusters.now own broker.now.broker)) }
 {
     add_entries(alloc, lines, clusters, broker)?;
-    add_senders(alloc, lines, clusters, own, broker)
+    add_senders(alloc, lines, clusters, own, broker)?;
+    add_subs(alloc, lines, broker)
 }
 
 /// The entries of a topic.
@@ -36,8 +37,7 @@ fn add_entries(
     broker: &Book,
 ) -> Result<(), Memory>
     requires { length clusters.now ≤ CLUSTERS }
-    ensures lines { OnOk result (lines.new ≡ lines.old ++ with_line_feeds (entry_lines clusters.now broker.now.broker.ledgers 0 broker.now.broker.entries)) }
-    ensures unsubscribed { broker.now.broker.subs ≡ [] }
+    ensures { OnOk result (lines.new ≡ lines.old ++ with_line_feeds (entry_lines clusters.now broker.now.broker.ledgers 0 broker.now.broker.entries)) }
 {
     let mut positions = Positions::new(broker.ledgers());
     let count = broker.len();
@@ -95,4 +95,17 @@ fn add_sender(
         lines,
         sender_line(alloc, name, sender.session(), sender.state(), sender.mark())?,
     )
+}
+
+/// The subscriptions.
+fn add_subs(alloc: Global, lines: &mut Blob, broker: &Book) -> Result<(), Memory>
+    ensures { OnOk result (lines.new ≡ lines.old ++ with_line_feeds (map (sub_line broker.now.broker) broker.now.broker.subs)) }
+{
+    let count = broker.subs().len();
+    for place in 0..count {
+        let sub = broker.subs().at(place);
+        let line = sub_line(alloc, sub.name().as_str(), sub.mark(), broker.backlog(sub))?;
+        add(lines, line)?;
+    }
+    Ok(())
 }

@@ -63,6 +63,13 @@ pub fn sender_line(
     Ok(format!(in alloc; "sender {name} session {session} {state} mark {mark}\n")?)
 }
 
+/// A subscription of kind Exclusive that is not replicated and was never sought.
+pub fn sub_line(alloc: Global, name: &str, mark: u64, backlog: u64) -> Result<String, Memory>
+    ensures { IfOk result (λ line. string_bytes line ≡ words (codes "sub" ∷ name.now ∷ codes "exclusive" ∷ codes "local" ∷ codes "mark" ∷ decimal mark ∷ codes "backlog" ∷ decimal backlog ∷ []) ++ 10 ∷ []) }
+{
+    Ok(format!(in alloc; "sub {name} exclusive local mark {mark} backlog {backlog}\n")?)
+}
+
 /// A client.
 pub fn client_line(
     alloc: Global,

@@ -4,15 +4,17 @@ use Rattle.std.specs.Prelude.{max, if◌then◌else◌, Option, Some, None}
 use Rattle.std.specs.List.{All, range_with_len}
 use Rattle.std.specs.Str.{bytes_eq}
 use Rattle.std.proofs.lemmas.List.FromFn.{get_or-range_with_len, length-range_with_len}
+use Rattle.geo_base.specs.declared.frame.AckKind.TheVariants as ack_kind
 use Rattle.geo_base.specs.declared.change.Change.TheVariants as change
 use Rattle.geo_base.specs.declared.position.Position.{Position}
 use Rattle.geo_base.specs.declared.write.Write.TheVariants as write
-use Rattle.geo_base.specs.Acknowledging.{acks, stored_indexes, with_stored}
+use Rattle.geo_base.specs.Acknowledging.{acks, cumulative_indexes, serve_ack}
 use Rattle.geo_base.specs.Broker.{Broker, Site}
 use Rattle.geo_base.specs.Cursor.{below}
-use Rattle.geo_base.specs.Plan.{plan_of, quiet_plan}
+use Rattle.geo_base.specs.Plan.{Plan, plan_of, quiet_plan}
 use Rattle.geo_base.specs.Subscription.{Subscription}
 use Rattle.geo_base.specs.Topic.{index_of}
+use Rattle.topic_book.specs.Fits.{PlanFits}
 use Rattle.topic_book.specs.SubRoom.{IsPlain, need}
 use Rattle.topic_book.proofs.SubTables.{need_to}
 
@@ -40,3 +42,10 @@ need_one i n = omega (arith, need_to i)
 
 pub all_within : (i n : ℕ) → i < n → All (λ j. j < n) (below (i + 1))
 all_within i n h k d l = omega (arith, get_or-range_with_len 0 (i + 1) k d (omega (arith, length-range_with_len 0 (i + 1))), length-range_with_len 0 (i + 1))
+
+pub acked_fits : (per : ℕ) (b : Broker) (p : Plan) (n m : List ℕ) (i : ℕ) → p ≡ plan_of (write.Acks n (below (i + 1)) ∷ []) (change.Acked m ∷ []) [] → i < length b.entries → PlanFits per b p
+acked_fits per b p n m i is h = rw is ((all_within i (length b.entries) h, tt), (tt, tt))
+
+-- kind Exclusive allows it
+pub cumulative : (h : Site) (b : Broker) (ps : List Position) (s : Subscription) → IsPlain s → serve_ack h b ack_kind.Cumulative ps (Some s) ≡ acks h b s (cumulative_indexes b.ledgers ps)
+cumulative h b ps s p = rw p.kind refl

@@ -13,3 +13,4 @@ pub mod Ledgers
 pub mod Consumers
 pub mod Acks
 pub mod Offers
+pub mod Backlogs

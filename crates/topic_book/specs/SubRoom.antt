@@ -23,10 +23,11 @@ pub record SubHolds (room len cap len' cap' len'' cap'' : ℕ) (indexes : List �
   pub due : len'' + (len' + room) ≤ cap''
   pub ascending : IsAscending indexes
 
--- of kind Exclusive and not replicated, never sought and without snapshots
+-- of kind Exclusive, not replicated, and never sought
 pub record IsPlain (s : Subscription) : Type 0 where
   pub kind : s.kind ≡ sub_kind.Exclusive
   pub local : s.replicated ≡ false
+  pub unsought : s.seeks ≡ 0
 
 -- an index is due, and no lower one is
 pub record IsLeast (s : Subscription) (i : ℕ) : Type 0 where

@@ -24,6 +24,7 @@ use std::alloc::Global;
 
 impl Book {
     /// What ACK will do: the consumer's subscription acknowledges the positions that are stored, or all up to the one position.
+    #[tactic(auto, using(crate::proofs::Acks::cumulative))]
     pub(crate) fn serve_ack(
         &self,
         alloc: Global,

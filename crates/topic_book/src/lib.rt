@@ -7,6 +7,7 @@
 
 pub mod acknowledging;
 pub mod action;
+pub mod backlog;
 pub mod book;
 pub mod cursor;
 pub mod message;

@@ -155,7 +155,8 @@ impl Sub {
 
     /// Whether a client has a consumer of this id here.
     pub fn has_consumer(&self, client: u32, id: u64) -> bool
-        ensures { result ≡ has_consumer client id self.now.sub }
+        ensures here { result ≡ has_consumer client id self.now.sub }
+        ensures plain { IsPlain self.now.sub }
     {
         self.consumers
             .iter()

@@ -8,7 +8,7 @@ ghost use Rattle.geo_base.specs.Cursor.{below};
 ghost use Rattle.geo_base.specs.Subscribing.{consumed_by};
 ghost use Rattle.geo_base.specs.Subscription.{Subscription, is_attached, new_subscription};
 ghost use Rattle.geo_base.specs.declared.frame.SubKind.TheVariants as sub_kind;
-ghost use Rattle.topic_book.specs.SubRoom.{AllKeepRoom, AllSubsFit, AllSubsHaveRoom, IsFresh, SubBook, SubBooks, SubStepFits, selected, sub_of, sub_stepped, subs_of};
+ghost use Rattle.topic_book.specs.SubRoom.{AllKeepRoom, AllSubsFit, AllSubsHaveRoom, IsFresh, IsPlain, SubBook, SubBooks, SubStepFits, selected, sub_of, sub_stepped, subs_of};
 
 use crate::subscription::{Sub, SubStep};
 use geo_base::memory::Memory;
@@ -71,7 +71,8 @@ impl SubTable {
 
     /// The subscription where a client has the consumer of an id.
     pub fn consumed_by(&self, client: u32, id: u64) -> Option<&Sub>
-        ensures { option_map sub_of (option_copied result) ≡ consumed_by self.now.subs client id }
+        ensures sub { option_map sub_of (option_copied result) ≡ consumed_by self.now.subs client id }
+        ensures plain { IfSome result (λ s. IsPlain s.now.sub) }
     {
         consumed_by(self.subs.as_slice(), client, id)
     }
@@ -167,7 +168,8 @@ fn named<'a>(subs: &'a [Sub], name: &[u8]) -> Option<&'a Sub>
 
 /// The subscription where a client has the consumer of an id.
 fn consumed_by(subs: &[Sub], client: u32, id: u64) -> Option<&Sub>
-    ensures { option_map sub_of (option_copied result) ≡ consumed_by (subs_of subs.now) client id }
+    ensures sub { option_map sub_of (option_copied result) ≡ consumed_by (subs_of subs.now) client id }
+    ensures plain { IfSome result (λ s. IsPlain s.now.sub) }
 {
     for sub in subs {
         if sub.has_consumer(client, id) {

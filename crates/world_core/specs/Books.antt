@@ -1,5 +1,5 @@
 -- The brokers of a world, with the room of each.
-use Rattle.std.specs.Prelude.{List, map}
+use Rattle.std.specs.Prelude.{ℕ, List, map, slice_index_or}
 use Rattle.geo_base.specs.Broker.{Broker}
 use Rattle.topic_book.specs.Room.{BrokerBook, Room}
 
@@ -13,6 +13,6 @@ brokers_of bs = map (λ (b : BrokerBook). b.broker) bs
 abbrev pub rooms_of : List BrokerBook → List Room
 rooms_of bs = map (λ (b : BrokerBook). b.room) bs
 
--- that of a broker which is not there
-abbrev pub no_room : Room
-no_room = record { steps = 0; acks = 0 }
+-- the room of a broker
+abbrev pub room_at : List Room → ℕ → Room
+room_at rooms node = slice_index_or rooms node (record { steps = 0; acks = 0 })
