@@ -3,10 +3,12 @@ use Rattle.std.proofs.Common.{◌≡◌, ℕ, zero, suc, ◌+◌, ◌<◌, ◌�
 use Rattle.std.proofs.Math.ListN.{drop_of_length-le}
 use Rattle.std.proofs.lemmas.Bool.{cases_lt}
 use Rattle.std.proofs.lemmas.List.{append-nil, drop_more}
-use Rattle.std.specs.Prelude.{codes, slice_get}
+use Rattle.std.specs.Prelude.{codes, decimal, slice_get}
 use Rattle.geo_base.specs.declared.entry.Entry.{Entry}
 use Rattle.geo_base.specs.declared.position.Position.{Position}
-use Rattle.geo_base.specs.Broker.{Broker, sender_at}
+use Rattle.geo_base.specs.Broker.{Broker, backlog, sender_at}
+use Rattle.geo_base.specs.Cursor.{mark}
+use Rattle.topic_book.specs.SubRoom.{IsPlain}
 use Rattle.geo_base.specs.Client.{Client}
 use Rattle.geo_base.specs.Report.{broker_lines, client_line, client_lines, cluster_lines, entry_line, entry_lines, got_line, sender_line, sender_lines, sub_line, topic_lines, with_line_feeds, words}
 use Rattle.geo_base.specs.Sender.{Sender, new_sender}
@@ -75,10 +77,14 @@ senders_end own i names senders new whole past before =
     ]
 
 -- entries, then senders, then subscriptions
-pub broker_whole : (names : List (List ℕ)) (own : ℕ) (b : Broker) (old one two new : List ℕ) → one ≡ old ++ with_line_feeds (entry_lines names b.ledgers 0 b.entries)
-    → two ≡ one ++ with_line_feeds (sender_lines own 0 names b.senders) → new ≡ two ++ with_line_feeds (map (sub_line b) b.subs)
-    → new ≡ old ++ with_line_feeds (broker_lines names own b)
-broker_whole names own b old one two new entries senders subs = rw (subs, senders, entries, with_line_feeds-append, with_line_feeds-append, append_assoc, append_assoc) refl
+pub broker_whole : (names : List (List ℕ)) (own : ℕ) (b : Broker) (old one two : List ℕ) → one ≡ old ++ with_line_feeds (entry_lines names b.ledgers 0 b.entries)
+    → two ≡ one ++ with_line_feeds (sender_lines own 0 names b.senders)
+    → old ++ with_line_feeds (broker_lines names own b) ≡ two ++ with_line_feeds (map (sub_line b) b.subs)
+broker_whole names own b old one two entries senders =
+    let es = entry_lines names b.ledgers 0 b.entries in
+    let ss = sender_lines own 0 names b.senders in
+    let ks = map (sub_line b) b.subs in
+    rw (senders, entries, with_line_feeds-append es (ss ++ ks), with_line_feeds-append ss ks) (simp append_assoc)
 
 -- a subscription of those that are left
 pub sub_added : (b : Broker) (subs : List Subscription) (i : ℕ) (s : Subscription) (old new text whole : List ℕ)
@@ -87,3 +93,8 @@ pub sub_added : (b : Broker) (subs : List Subscription) (i : ℕ) (s : Subscript
     → new ++ with_line_feeds (map (sub_line b) (drop (i + 1) subs)) ≡ whole
 sub_added b subs i s old new text whole here is added before =
     line_added old new text (sub_line b s) whole (map (sub_line b) (drop (i + 1) subs)) is added (rw (drop_here subs i s here) at before)
+
+-- a subscription that is plain shows its kind, and no seeks
+pub plain_line : (b : Broker) (s : Subscription) (name : List ℕ) (m k : ℕ) → IsPlain s → name ≡ s.name → m ≡ mark s.cursor → k ≡ backlog b s
+    → words (codes "sub" ∷ name ∷ codes "exclusive" ∷ codes "local" ∷ codes "mark" ∷ decimal m ∷ codes "backlog" ∷ decimal k ∷ []) ++ 10 ∷ [] ≡ sub_line b s ++ 10 ∷ []
+plain_line b s name m k p n e f = rw (n, e, f, p.kind, p.local, p.unsought) refl

@@ -18,10 +18,27 @@ next_left set [] k i e h = absurd (cc)
 next_left set (x ∷ es) zero i e h = ap (λ (y : Entry). (if is_data y.content && not (has set i) then 1 else 0) + backlog_from set (i + 1) (flags es)) (same x e h)
 next_left set (x ∷ es) (suc k) i e h = next_left set es k i e h
 
-pub left : (set : List ℕ) (es : List Entry) (k : ℕ) (e : Entry) → slice_get es k ≡ Some e → (is_data e.content && not (has set k)) ≡ true
-    → backlog_from set k (flags (drop k es)) ≡ 1 + backlog_from set (k + 1) (flags (drop (k + 1) es))
-left set es k e h is = rw add-one (next_left set es k k e h ∙ ap (λ (b : Bool). (if b then 1 else 0) + backlog_from set (k + 1) (flags (drop (suc k) es))) is)
+next_counted : (set : List ℕ) (es : List Entry) (k i : ℕ) (e : Entry) → slice_get es k ≡ Some e
+    → backlog_from set i (flags (drop k es)) ≡ (if is_data e.content && not (has set i) then 1 else 0) + backlog_from set (i + 1) (flags (drop (k + 1) es))
+next_counted set es k i e h =
+    let more : suc k ≡ k + 1 = omega arith in
+    rw more at (next_left set es k i e h)
 
-pub not_left : (set : List ℕ) (es : List Entry) (k : ℕ) (e : Entry) → slice_get es k ≡ Some e → (is_data e.content && not (has set k)) ≡ false
-    → backlog_from set k (flags (drop k es)) ≡ backlog_from set (k + 1) (flags (drop (k + 1) es))
-not_left set es k e h is = rw add-one (next_left set es k k e h ∙ ap (λ (b : Bool). (if b then 1 else 0) + backlog_from set (k + 1) (flags (drop (suc k) es))) is)
+abbrev pub one : Bool → ℕ
+one b = if b then 1 else 0
+
+pub counts : (n m : ℕ) (b : Bool) → m ≡ n + 1 → b ≡ true → m ≡ n + one b
+counts n m b h e = rw e h
+
+pub counts_not : (n m : ℕ) (b : Bool) → m ≡ n → b ≡ false → m ≡ n + one b
+counts_not n m b h e =
+    let none : n + 0 ≡ n = omega arith in
+    rw (e, none) h
+
+-- an entry that is left counts as one
+pub counted : (set : List ℕ) (es : List Entry) (k : ℕ) (e : Entry) (b : Bool) (count count' whole : ℕ) → slice_get es k ≡ Some e → b ≡ (is_data e.content && not (has set k))
+    → count' ≡ count + one b → count + backlog_from set k (flags (drop k es)) ≡ whole
+    → count' + backlog_from set (k + 1) (flags (drop (k + 1) es)) ≡ whole
+counted set es k e b count count' whole h is next before =
+    let same : one b ≡ one (is_data e.content && not (has set k)) = ap one is in
+    omega (arith, next, before, next_counted set es k k e h, same)
