@@ -3,8 +3,9 @@ use Rattle.std.proofs.lemmas.Bool.{lt-ltb}
 use Rattle.std.proofs.lemmas.Bool.Decides.{nat_tests}
 use Rattle.std.proofs.Common.{◌≡◌, ℕ, ◌≤◌, arith, Bool, true, false, List, [], ◌∷◌, ◌++◌, refl, sym, ap, subst, ◌∙◌, inl, inr}
 use Rattle.std.proofs.lemmas.List.{append-nil}
-use Rattle.std.specs.Prelude.{Option, Some, None, IfSome, Result, Ok, Err, IsOkAnd, if◌then◌else◌, length, nat_lt, take, ⊤}
+use Rattle.std.specs.Prelude.{Option, Some, None, IfOk, IfSome, Result, Ok, Err, IsOkAnd, if◌then◌else◌, length, nat_lt, take, ⊤}
 use Rattle.geo_base.specs.declared.event.Event.{Event}
+use Rattle.geo_base.specs.declared.memory.Memory.{Memory}
 use Rattle.geo_base.specs.Run.{no_limits}
 use Rattle.geo_io.specs.Faults.{Rose}
 use Rattle.geo_io.specs.Sink.{Gains}
@@ -18,8 +19,9 @@ use Rattle.geo_top.specs.declared.top.command.Command.{Command}
 use Rattle.geo_top.specs.declared.top.command.Command.TheVariants as command
 use Rattle.geo_top.specs.declared.top.status.Status.{Status}
 use Rattle.geo_top.specs.declared.top.status.Status.TheVariants as status
-use Rattle.geo_top.specs.Outputs.{IsAlwaysOnce, IsCaused, IsFounded, IsLine, UnlessReadFault, WentOut, WritesLine, answer_for, answer_to, refused, report_of}
+use Rattle.geo_top.specs.Outputs.{IsAlwaysOnce, IsCaused, IsFounded, IsLine, UnlessReadFault, WentOut, WritesLine, answer_for, answer_to, answer_to_run, passed_limit, refused, report_of}
 use Rattle.geo_top.specs.Statuses.{IsDue, refusal_line}
+use Rattle.geo_top.proofs.Limits.{IsOnlyLimit, only_limit}
 
 -- once and in order, always
 pub always_once : (n : Script) → IsAlwaysOnce n
@@ -29,10 +31,18 @@ always_once n = record {
 }
 
 -- an answer to a script that is Ok, or names a line
+ok_run : (m : Script) (a : Answer) (o : Option ℕ) → a ≡ answer_to_run m o → a.status ≡ status.Ok → a.bytes ≡ report_of m
+ok_run m a None is ok = ap (λ (a : Answer). a.bytes) is
+ok_run m a (Some limit) is ok = absurd (cc (ap (λ (a : Answer). a.status) is))
+
+not_bad : (m : Script) (a : Answer) (o : Option ℕ) (line rule : ℕ) → a ≡ answer_to_run m o → a.status ≡ status.BadScript line rule → ⊥
+not_bad m a None line rule is bad = cc (ap (λ (a : Answer). a.status) is)
+not_bad m a (Some limit) line rule is bad = cc (ap (λ (a : Answer). a.status) is)
+
 ok_is : (a : Answer) (t : Bool) (r : Result Script Fault) → a ≡ (if t then refused (status.TooLarge 1) else answer_to r) → a.status ≡ status.Ok
     → IsOkAnd r (λ m. a.bytes ≡ report_of m)
 ok_is a true r is ok = absurd (cc (ap (λ (a : Answer). a.status) is))
-ok_is a false (Ok m) is ok = ap (λ (a : Answer). a.bytes) is
+ok_is a false (Ok m) is ok = ok_run m a (passed_limit m) is ok
 ok_is a false (Err f) is ok = absurd (cc (ap (λ (a : Answer). a.status) is))
 
 fault_is : (f : Fault) (line rule : ℕ) → f.line ≡ line → f.rule ≡ rule → f ≡ record { line = line; rule = rule }
@@ -42,7 +52,7 @@ fault_is f line rule l r =
 bad_is : (a : Answer) (t : Bool) (r : Result Script Fault) (line rule : ℕ) → a ≡ (if t then refused (status.TooLarge 1) else answer_to r)
     → a.status ≡ status.BadScript line rule → r ≡ Err (record { line = line; rule = rule })
 bad_is a true r line rule is bad = absurd (cc (ap (λ (a : Answer). a.status) is))
-bad_is a false (Ok m) line rule is bad = absurd (cc (ap (λ (a : Answer). a.status) is))
+bad_is a false (Ok m) line rule is bad = absurd (not_bad m a (passed_limit m) line rule is bad)
 bad_is a false (Err f) line rule is bad =
     let e : status.BadScript f.line f.rule ≡ status.BadScript line rule = sym (ap (λ (a : Answer). a.status) is) ∙ bad in
     let same_line : f.line ≡ line = cc in
@@ -205,7 +215,7 @@ founded_read b n left a is rose =
 
 pub founded_large : (b n : ℕ) (left : Option (List ℕ)) (a : Answer) → a ≡ refused (status.TooLarge 1) → LongerThan left 67108864 → IsFounded (Some command.Run) b n left a
 founded_large b n left a is long =
-    subst (λ (a : Answer). IsFounded (Some command.Run) b n left a) (sym is) (record { cause = (refl, refl, long); line = refl; due = told left long })
+    subst (λ (a : Answer). IsFounded (Some command.Run) b n left a) (sym is) (record { cause = (refl, inl (refl, long)); line = refl; due = told left long })
   where
     told : (left : Option (List ℕ)) → LongerThan left 67108864 → IfSome left (λ input. refused (status.TooLarge 1) ≡ answer_for (Some command.Run) input)
     told None long = tt
@@ -213,23 +223,42 @@ founded_large b n left a is long =
         ap (λ (t : Bool). if t then refused (status.TooLarge 1) else answer_to (script_of input)) (sym (lt-ltb 67108864 (length input) long))
 
 -- an answer to the bytes that were read
-caused_answer : (b n : ℕ) (left : Option (List ℕ)) (r : Result Script Fault) → IsCaused (Some command.Run) b n left (answer_to r).status
-caused_answer b n left (Ok m) = refl
-caused_answer b n left (Err f) = refl
+caused_run : (b n : ℕ) (left : Option (List ℕ)) (bytes : List ℕ) (m : Script) (o : Option ℕ) → IfSome left (λ input. bytes ≡ input) → script_of bytes ≡ Ok m → passed_limit m ≡ o
+    → IsOnlyLimit o → IsCaused (Some command.Run) b n left (answer_to_run m o).status
+caused_run b n left bytes m None told script passed only = refl
+caused_run b n left bytes m (Some limit) told script passed only = (refl, inr (only, passed_of left told))
+  where
+    passed_of : (left : Option (List ℕ)) → IfSome left (λ input. bytes ≡ input) → IfSome left (λ input. IsOkAnd (script_of input) (λ n. passed_limit n ≡ Some 2))
+    passed_of None told = tt
+    passed_of (Some input) told =
+        subst (λ (r : Result Script Fault). IsOkAnd r (λ n. passed_limit n ≡ Some 2)) (sym (sym (ap script_of told) ∙ script)) (passed ∙ ap (λ (k : ℕ). Some k) only)
+
+caused_answer : (b n : ℕ) (left : Option (List ℕ)) (bytes : List ℕ) (r : Result Script Fault) → IfSome left (λ input. bytes ≡ input) → script_of bytes ≡ r
+    → IsCaused (Some command.Run) b n left (answer_to r).status
+caused_answer b n left bytes (Ok m) told script = caused_run b n left bytes m (passed_limit m) told script refl (only_limit m.setup m.steps)
+caused_answer b n left bytes (Err f) told script = refl
+
+line_run : (m : Script) (o : Option ℕ) → IsLine (answer_to_run m o).status (answer_to_run m o).bytes
+line_run m None = tt
+line_run m (Some limit) = refl
 
 line_answer : (r : Result Script Fault) → IsLine (answer_to r).status (answer_to r).bytes
-line_answer (Ok m) = tt
+line_answer (Ok m) = line_run m (passed_limit m)
 line_answer (Err f) = refl
 
+due_run : (m : Script) (o : Option ℕ) (d : Answer) → answer_to_run m o ≡ d → UnlessReadFault (answer_to_run m o).status (answer_to_run m o ≡ d)
+due_run m None d is = is
+due_run m (Some limit) d is = is
+
 due_answer : (r : Result Script Fault) (d : Answer) → answer_to r ≡ d → UnlessReadFault (answer_to r).status (answer_to r ≡ d)
-due_answer (Ok m) d is = is
+due_answer (Ok m) d is = due_run m (passed_limit m) d is
 due_answer (Err f) d is = is
 
 pub founded_script : (b n : ℕ) (left : Option (List ℕ)) (bytes : List ℕ) (a : Answer) → a ≡ answer_to (script_of bytes) → length bytes ≤ 67108864
     → IfSome left (λ input. bytes ≡ input) → IsFounded (Some command.Run) b n left a
 founded_script b n left bytes a is short told =
     subst (λ (a : Answer). IsFounded (Some command.Run) b n left a) (sym is) (record {
-      cause = caused_answer b n left (script_of bytes);
+      cause = caused_answer b n left bytes (script_of bytes) told refl;
       line = line_answer (script_of bytes);
       due = due_of left told;
     })
@@ -243,3 +272,8 @@ founded_script b n left bytes a is short told =
         ap (λ (t : Bool). if t then refused (status.TooLarge 1) else answer_to (script_of bytes)) (sym small) in
         subst (λ (input : List ℕ). UnlessReadFault (answer_to (script_of bytes)).status (answer_to (script_of bytes) ≡ answer_for (Some command.Run) input)) told
         (due_answer (script_of bytes) (answer_for (Some command.Run) bytes) same)
+
+pub answered_script : (b n : ℕ) (left : Option (List ℕ)) (bytes : List ℕ) (r : Result Answer Memory) → IfOk r (λ a. a ≡ answer_to (script_of bytes)) → length bytes ≤ 67108864
+    → IfSome left (λ input. bytes ≡ input) → IfOk r (λ a. IsFounded (Some command.Run) b n left a)
+answered_script b n left bytes (Ok a) is short told = founded_script b n left bytes a is short told
+answered_script b n left bytes (Err e) is short told = tt

@@ -1,10 +1,10 @@
 -- What the program is to write.
-use Rattle.std.specs.Prelude.{◌≡◌, ◌⊎◌, ℕ, nat_lt, ⊤, if◌then◌else◌, List, [], length, take, Option, Some, None, IfSome, Result, Ok, Err, slice_get}
+use Rattle.std.specs.Prelude.{◌≡◌, ◌⊎◌, ℕ, nat_lt, ⊤, if◌then◌else◌, List, [], length, take, Option, Some, None, IfSome, IsOkAnd, Result, Ok, Err, slice_get}
 use Rattle.geo_base.specs.declared.event.Event.{Event}
 use Rattle.geo_base.specs.declared.event.Step.TheVariants as step
 use Rattle.geo_base.specs.Planned.{planned}
 use Rattle.geo_base.specs.Report.{report}
-use Rattle.geo_base.specs.Run.{run}
+use Rattle.geo_base.specs.Run.{event_limit, run, run_under}
 use Rattle.geo_base.specs.Safe.{IsOnce}
 use Rattle.geo_base.specs.World.{World, broker_at}
 use Rattle.geo_io.specs.Faults.{Rose}
@@ -27,8 +27,17 @@ report_of n = report n.setup (run n.setup n.steps)
 abbrev pub refused : Status → Answer
 refused s = record { status = s; bytes = refusal_line s }
 
+-- the number of the limit that a script's run passes: 2, where events and idle events together would be more than 2,000,000
+abbrev pub passed_limit : Script → Option ℕ
+passed_limit n = (run_under event_limit n.setup n.steps).ended
+
+-- to a script, whose run passes a limit or none
+abbrev pub answer_to_run : Script → Option ℕ → Answer
+answer_to_run n None = record { status = status.Ok; bytes = report_of n }
+answer_to_run n (Some limit) = refused (status.TooLarge limit)
+
 abbrev pub answer_to : Result Script Fault → Answer
-answer_to (Ok n) = record { status = status.Ok; bytes = report_of n }
+answer_to (Ok n) = answer_to_run n (passed_limit n)
 answer_to (Err f) = refused (status.BadScript f.line f.rule)
 
 -- to an input: 67,108,864 bytes at most are read (limit 1; own, so that reading ends)
@@ -57,6 +66,10 @@ pub record IsAlwaysOnce (n : Script) : Type 0 where
   pub within : (k j z : ℕ) (e : Event) → slice_get n.steps k ≡ Some (step.Plain e)
       → let w : World = run n.setup (take k n.steps) in IsOnce (broker_at (partly_written n.setup w j (planned n.setup w e)) z)
 
+-- A limit that a run of the program passes: 1, more bytes than are read; 2, more events than are done.
+abbrev pub IsPassed : Option (List ℕ) → ℕ → Type 0
+IsPassed left limit = ((limit ≡ 1) × LongerThan left 67108864) ⊎ ((limit ≡ 2) × IfSome left (λ input. IsOkAnd (script_of input) (λ n. passed_limit n ≡ Some 2)))
+
 -- What is known of an answer that was made, by its status: which words and which faults of the source it had for its cause, and
 -- that a refusal is its line.
 abbrev pub IsCaused : Option Command → ℕ → ℕ → Option (List ℕ) → Status → Type 0
@@ -64,7 +77,7 @@ IsCaused c before now left status.Ok = c ≡ Some command.Run
 IsCaused c before now left status.Usage = c ≡ None
 IsCaused c before now left (status.BadScript line rule) = c ≡ Some command.Run
 IsCaused c before now left status.ReadFault = (c ≡ Some command.Run) × Rose before now
-IsCaused c before now left (status.TooLarge limit) = (c ≡ Some command.Run) × (limit ≡ 1) × LongerThan left 67108864
+IsCaused c before now left (status.TooLarge limit) = (c ≡ Some command.Run) × IsPassed left limit
 IsCaused c before now left status.WriteFault = ⊥
 IsCaused c before now left status.OutOfMemory = ⊥
 

@@ -4,5 +4,6 @@ pub mod Fields
 pub mod Unique
 pub mod Written
 pub mod Messages
+pub mod Nested
 pub mod LastValues
 pub mod Parts

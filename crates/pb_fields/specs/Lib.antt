@@ -4,3 +4,4 @@ pub mod Text
 pub mod Faults
 pub mod Canonical
 pub mod Message
+pub mod Embedded

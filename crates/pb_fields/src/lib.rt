@@ -5,6 +5,7 @@
 #![tactic(auto)]
 
 mod byte_list;
+pub mod embedded;
 mod fault;
 mod field;
 mod laws;

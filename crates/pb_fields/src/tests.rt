@@ -1,3 +1,5 @@
+use super::embedded::{OfTable, Unread, optional_message, read_message_with};
+use super::message::{Form, Row};
 use super::*;
 use std::alloc::{AllocError, Global};
 use std::test::Fail;
@@ -157,5 +159,94 @@ fn fields_are_written_shortest(rt: HostRuntime) -> Result<(), Fail> {
         value: Value::Bytes(ByteList::from_vec(copy.into_vec())),
     })?;
     assert_eq!(rt; list.len(), 1);
+    Ok(())
+}
+
+/// A text, and messages of two numbers.
+const OUTER: [Row; 2] = [
+    Row {
+        number: 1,
+        form: Form::Text,
+        required: true,
+    },
+    Row {
+        number: 2,
+        form: Form::Message,
+        required: false,
+    },
+];
+
+const INNER: [Row; 2] = [
+    Row {
+        number: 1,
+        form: Form::Varint,
+        required: true,
+    },
+    Row {
+        number: 2,
+        form: Form::Varint,
+        required: true,
+    },
+];
+
+/// How many bytes the last embedded message has, or the fault.
+fn described_outer(alloc: Global, bytes: &[u8]) -> Result<String, AllocError> {
+    let inner = OfTable {
+        rows: &INNER,
+        embedded: Unread,
+    };
+    let fields = match read_message_with(alloc, &OUTER, &inner, bytes) {
+        Ok(fields) => fields,
+        Err(fault) => return format!(in alloc; "{fault}"),
+    };
+    match optional_message(&OUTER, &inner, fields.as_slice(), 2) {
+        Some(content) => {
+            let size = content.len();
+            format!(in alloc; "{size}")
+        }
+        None => format!(in alloc; "none"),
+    }
+}
+
+/// Rows are bytes, and what the last embedded message's length is, or the fault.
+const EMBEDDED: [(&[u8], &str); 11] = [
+    (&[0x0a, 0x01, 0x61], "none"),
+    (&[0x0a, 0x01, 0x61, 0x12, 0x04, 0x08, 0x01, 0x10, 0x02], "4"),
+    // the last of two counts
+    (
+        &[
+            0x12, 0x04, 0x08, 0x01, 0x10, 0x02, 0x0a, 0x00, 0x12, 0x06, 0x08, 0x01, 0x08, 0x01,
+            0x10, 0x02,
+        ],
+        "6",
+    ),
+    // but the first is judged too
+    (
+        &[
+            0x12, 0x02, 0x08, 0x01, 0x12, 0x04, 0x08, 0x01, 0x10, 0x02, 0x0a, 0x01, 0x61,
+        ],
+        "Missing(2)",
+    ),
+    // in its place among the fields
+    (&[0x12, 0x02, 0x08, 0x01, 0x08, 0x05], "Missing(2)"),
+    (&[0x08, 0x05, 0x12, 0x02, 0x08, 0x01], "WrongWire(1)"),
+    (&[0x12, 0x02, 0x0a, 0x00, 0x0a, 0x01, 0xff], "WrongWire(1)"),
+    (&[0x10, 0x01], "WrongWire(2)"),
+    // an offset counts from the embedded message's first byte
+    (
+        &[0x0a, 0x01, 0x61, 0x12, 0x03, 0x08, 0x01, 0x0b],
+        "Pb(WireType(3, 2))",
+    ),
+    // what the outer message lacks comes last
+    (&[0x12, 0x04, 0x08, 0x01, 0x10, 0x02], "Missing(1)"),
+    (&[0x12, 0x00], "Missing(1)"),
+];
+
+#[test]
+fn embedded_messages_are_judged_in_their_place(rt: HostRuntime) -> Result<(), Fail> {
+    for (bytes, wanted) in EMBEDDED.iter() {
+        let said = described_outer(rt.alloc(), bytes)?;
+        assert_eq!(rt; said.as_str(), *wanted, "at {bytes:?}");
+    }
     Ok(())
 }

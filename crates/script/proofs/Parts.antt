@@ -1,5 +1,6 @@
 -- What a definition by parts, by tests or by rules gives, taken apart.
-use Rattle.std.proofs.Common.{◌≡◌, ℕ, Bool, true, false, cond, Option, Some, None, is_none, Result, Ok, Err, ◌⊎◌, inl, inr, refl}
+use Rattle.std.proofs.Common.{◌≡◌, ℕ, ◌+◌, ◌<◌, Bool, true, false, cond, List, length, get_or, drop, Option, Some, None, is_none, Result, Ok, Err, find, ◌⊎◌, inl, inr, refl}
+use Rattle.std.proofs.lemmas.List.{drop_more}
 use Rattle.std.proofs.lemmas.Option.{none-some}
 use Rattle.script.specs.declared.fault.Rule.{Rule}
 use Rattle.script.specs.Rules.{unless_broken, at_line}
@@ -28,6 +29,10 @@ some_from_test (Some x) e = (x, refl)
 pub none_found : {A : Type 0} (b : Bool) (x : A) (rest : Option A) → cond b (Some x) rest ≡ None → (b ≡ false) × (rest ≡ None)
 none_found true x rest e = cc
 none_found false x rest e = (refl, e)
+
+-- a search passes over an element that fails
+pub found_later : {X : Type 0} (p : X → Bool) (xs : List X) (i : ℕ) (d : X) → i < length xs → p (get_or xs i d) ≡ false → find p (drop i xs) ≡ find p (drop (i + 1) xs)
+found_later p xs i d within fails = rw (drop_more xs i d within, fails) refl
 
 pub unbroken : {A : Type 0} (o : Option Rule) (a b : A) → unless_broken o a ≡ Ok b → (o ≡ None) × (a ≡ b)
 unbroken None a b e = (refl, cc)

@@ -1,10 +1,14 @@
--- The kinds of line, by a line's first word.
+-- The words that a row of the table begins with: a line's first word, and of a `do` line the word after the client.
 use Rattle.std.specs.Prelude.{ℕ, if◌then◌else◌, List, Option, Some, None, option_map, codes}
 use Rattle.std.specs.Str.{bytes_eq}
+use Rattle.script.specs.declared.kind.ActKind.{ActKind}
+use Rattle.script.specs.declared.kind.ActKind.TheVariants as act_kind
 use Rattle.script.specs.declared.kind.EventKind.{EventKind}
 use Rattle.script.specs.declared.kind.EventKind.TheVariants as event_kind
 use Rattle.script.specs.declared.kind.Kind.{Kind}
 use Rattle.script.specs.declared.kind.Kind.TheVariants as kind
+use Rattle.script.specs.declared.kind.Stage.{Stage}
+use Rattle.script.specs.declared.kind.Stage.TheVariants as stage
 
 abbrev pub event_kind_of : List ℕ → Option EventKind
 event_kind_of word =
@@ -18,6 +22,13 @@ event_kind_of word =
     else if bytes_eq word (codes "receipt") then Some event_kind.Receipt
     else None
 
+-- the word after `do C`
+abbrev pub act_kind_of : List ℕ → Option ActKind
+act_kind_of word =
+    if bytes_eq word (codes "produce") then Some act_kind.Produce
+    else if bytes_eq word (codes "pub") then Some act_kind.Pub
+    else None
+
 abbrev pub kind_of : List ℕ → Option Kind
 kind_of word =
     if bytes_eq word (codes "geo") then Some kind.Geo
@@ -26,3 +37,12 @@ kind_of word =
     else if bytes_eq word (codes "client") then Some kind.Client
     else if bytes_eq word (codes "do") then Some kind.Do
     else option_map kind.Event (event_kind_of word)
+
+-- the kinds of line come in this order
+abbrev pub rank : Stage → ℕ
+rank stage.Geo = 0
+rank stage.Cluster = 1
+rank stage.Topic = 2
+rank stage.Client = 3
+rank stage.Do = 4
+rank stage.Event = 5

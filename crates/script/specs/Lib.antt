@@ -2,9 +2,10 @@ pub mod Lines
 pub mod Numbers
 pub mod Kinds
 pub mod Words
+pub mod Rows
+pub mod Naming
 pub mod Script
-pub mod Declaring
-pub mod Happenings
+pub mod Adding
 pub mod Rules
 pub mod Scenario
 pub mod Drafts

@@ -1,28 +1,31 @@
 -- What is known of each script that is accepted.
-use Rattle.std.specs.Prelude.{◌≡◌, ◌≢◌, ℕ, ◌<◌, ◌≤◌, ◌^◌, Bool, true, List, length, All, None, ⊤}
+use Rattle.std.specs.Prelude.{◌≡◌, ◌≢◌, ℕ, ◌<◌, ◌≤◌, ◌^◌, Bool, true, List, length, All, Option, ⊤}
 use Rattle.std.specs.List.{list_all}
 use Rattle.geo_base.specs.declared.client.Line.{Line}
 use Rattle.geo_base.specs.declared.client.Line.TheVariants as line
-use Rattle.geo_base.specs.declared.entry.Targets.TheVariants as targets
+use Rattle.geo_base.specs.declared.entry.Targets.{Targets}
 use Rattle.geo_base.specs.declared.event.Event.{Event}
 use Rattle.geo_base.specs.declared.event.Event.TheVariants as event
 use Rattle.geo_base.specs.declared.event.Fate.TheVariants as fate
 use Rattle.geo_base.specs.declared.event.Step.{Step}
 use Rattle.geo_base.specs.declared.event.Step.TheVariants as step
-use Rattle.geo_base.specs.Scripted.{IsScripted}
+use Rattle.geo_base.specs.Scripted.{IsScripted, is_optional_name, names_some}
 use Rattle.geo_base.specs.Setup.{Declared, Setup}
 use Rattle.script.specs.Lines.{is_printable}
 use Rattle.script.specs.Script.{Script}
 
--- a publish to all clusters, without a key: its sequence id fits a signed number, and its text is short
-pub record IsPublish (seq : ℕ) (text : List ℕ) : Type 0 where
+-- a publish: its sequence id fits a signed number, its list is for all or names a cluster, its key is a name, and its text
+-- is short
+pub record IsPublish (seq : ℕ) (to : Targets) (key : Option (List ℕ)) (text : List ℕ) : Type 0 where
   pub id : seq < 2 ^ 63
+  pub some : names_some 8 to ≡ true
+  pub name : is_optional_name key ≡ true
   pub short : length text ≤ 1024
 
 -- the lines that a client may have: no other kind is read yet
 abbrev pub IsClientLine : Line → Type 0
 IsClientLine line.Produce = ⊤
-IsClientLine (line.Pub seq to key text) = (to ≡ targets.All) × (key ≡ None) × IsPublish seq text
+IsClientLine (line.Pub seq to key text) = IsPublish seq to key text
 IsClientLine l = ⊥
 
 -- the topic and the two ends of a link

@@ -1,6 +1,8 @@
--- So many words and no more, and what may go wrong between them.
-use Rattle.std.specs.Prelude.{ℕ, Bool, if◌then◌else◌, List, [], ◌∷◌, Option, Some, None, option_and_then}
-use Rattle.std.specs.List.{join_with_byte}
+-- Words, so many and no more, and what a word of each form is.
+use Rattle.std.specs.Prelude.{ℕ, nat_lt, ◌==◌, Bool, ◌&&◌, if◌then◌else◌, List, [], ◌∷◌, length, Option, Some, None, option_map, option_and_then, codes}
+use Rattle.std.specs.List.{list_all, slice_split, join_with_byte}
+use Rattle.std.specs.Str.{bytes_eq}
+use Rattle.geo_base.specs.Name.{name_byte}
 
 abbrev pub Word : Type 0
 Word = List ℕ
@@ -12,6 +14,9 @@ part >>= f = option_and_then f part
 
 abbrev pub given : {A : Type 0} → Bool → A → Option A
 given test a = if test then Some a else None
+
+abbrev pub none_left : List Word → Bool
+none_left ws = length ws == 0
 
 abbrev pub one : List Word → Option Word
 one (a ∷ []) = Some a
@@ -29,6 +34,10 @@ abbrev pub four : List Word → Option (Word × Word × Word × Word)
 four (a ∷ b ∷ c ∷ d ∷ []) = Some (a, b, c, d)
 four ws = None
 
+abbrev pub fourth : List Word → Option Word
+fourth (a ∷ b ∷ c ∷ d ∷ more) = Some d
+fourth ws = None
+
 -- the text that words write: all that stands after one space, spaces and nothing included
 abbrev pub text_of : List Word → Option (List ℕ)
 text_of [] = None
@@ -39,3 +48,23 @@ three_and_text (a ∷ b ∷ c ∷ more) = do
   text ← text_of more
   Some (a, b, c, text)
 three_and_text ws = None
+
+-- the bytes are those of a name, of whatever length
+abbrev pub has_name_bytes : Word → Bool
+has_name_bytes w = nat_lt 0 (length w) && list_all name_byte w
+
+abbrev pub name_of : Word → Option Word
+name_of w = given (has_name_bytes w) w
+
+-- the names between commas
+abbrev pub listed : Word → List Word
+listed w = slice_split (λ b. b == 44) w
+
+-- TO: `*`, which is no list, or names with commas
+abbrev pub targets_of : Word → Option (Option (List Word))
+targets_of w =
+    if bytes_eq w (codes "*") then Some None else given (list_all has_name_bytes (listed w)) (Some (listed w))
+
+-- KEY: `-`, which is no key, or a name
+abbrev pub key_of : Word → Option (Option Word)
+key_of w = if bytes_eq w (codes "-") then Some None else option_map Some (name_of w)

@@ -16,15 +16,41 @@ pub enum ScriptFault {
     Memory,
 }
 
-/// A rule that a line may break.
+/// A rule that a line may break; `number` gives the number under which a refusal names it.
 #[derive(Clone, Copy, Debug, Drop, PartialEq, Eq)]
 pub(crate) enum Rule {
     /// Each byte is printable, and a line feed ends the line.
     Bytes,
     /// The first line is `geo 1`.
     Head,
-    /// The line is what the form has at its place.
+    /// The first word, and the word after `do C`, are known.
+    Word,
+    /// The words have the row's number and form.
     Form,
+    /// A name has at most 16 bytes.
+    LongName,
+    /// The line's kind comes after that of the previous line, or is the same.
+    Order,
+    /// `geo` comes once.
+    Twice,
+    /// There are at most eight clusters.
+    Clusters,
+    /// A name is declared once among its kind.
+    NameTwice,
+    /// Two clusters come before a topic, and there is a topic.
+    Lone,
+    /// There are at most 16 topics.
+    Topics,
+    /// A topic has at most 32 clients.
+    Clients,
+    /// A text has at most 1,024 bytes.
+    LongText,
+    /// Clusters, topics and clients that are named are declared.
+    Undeclared,
+    /// The two ends of a link differ.
+    Loop,
+    /// A list names a cluster once.
+    TargetTwice,
 }
 
 impl Rule {
@@ -35,7 +61,20 @@ impl Rule {
         match self {
             Rule::Bytes => 1,
             Rule::Head => 2,
-            Rule::Form => 3,
+            Rule::Word => 3,
+            Rule::Form => 4,
+            Rule::LongName => 5,
+            Rule::Order => 6,
+            Rule::Twice => 7,
+            Rule::Clusters => 8,
+            Rule::NameTwice => 9,
+            Rule::Lone => 10,
+            Rule::Topics => 11,
+            Rule::Clients => 12,
+            Rule::LongText => 14,
+            Rule::Undeclared => 15,
+            Rule::Loop => 18,
+            Rule::TargetTwice => 19,
         }
     }
 }
@@ -46,9 +85,6 @@ pub(crate) enum LineFault {
     Broken(Rule),
     Memory,
 }
-
-/// A line that is not what the form has at its place.
-pub(crate) const OUT_OF_FORM: LineFault = LineFault::Broken(Rule::Form);
 
 impl From<Memory> for LineFault {
     ghost use Rattle.std.specs.Prelude.{◌≡◌};

@@ -1,6 +1,6 @@
-//! The kinds of line, by a line's first word.
+//! The kinds of line, by the words that they begin with.
 ghost use Rattle.std.specs.Prelude.{◌≡◌};
-ghost use Rattle.script.specs.Kinds.{kind_of, event_kind_of};
+ghost use Rattle.script.specs.Kinds.{act_kind_of, event_kind_of, kind_of, rank};
 
 /// The kind of an event line.
 #[derive(Clone, Copy, Debug, PartialEq, Eq)]
@@ -15,7 +15,14 @@ pub(crate) enum EventKind {
     Receipt,
 }
 
-/// The kind of a line.
+/// The kind of a client's line, by the word after `do C`.
+#[derive(Clone, Copy, Debug, PartialEq, Eq)]
+pub(crate) enum ActKind {
+    Produce,
+    Pub,
+}
+
+/// The kind of a line, by its first word.
 #[derive(Clone, Copy, Debug, PartialEq, Eq)]
 pub(crate) enum Kind {
     Geo,
@@ -24,6 +31,17 @@ pub(crate) enum Kind {
     Client,
     Do,
     Event(EventKind),
+}
+
+/// The part of a script that a line stands in; the parts come in this order.
+#[derive(Clone, Copy, Debug, Drop, PartialEq, Eq)]
+pub(crate) enum Stage {
+    Geo,
+    Cluster,
+    Topic,
+    Client,
+    Do,
+    Event,
 }
 
 impl EventKind {
@@ -45,6 +63,21 @@ impl EventKind {
     }
 }
 
+impl ActKind {
+    /// The kind of client line that a word after `do C` stands for.
+    pub(crate) fn of(word: &[u8]) -> Option<ActKind>
+        ensures { result ≡ act_kind_of word.now }
+    {
+        if word == b"produce".as_slice() {
+            Some(ActKind::Produce)
+        } else if word == b"pub".as_slice() {
+            Some(ActKind::Pub)
+        } else {
+            None
+        }
+    }
+}
+
 impl Kind {
     /// The kind of line that begins with a word.
     pub(crate) fn of(word: &[u8]) -> Option<Kind>
@@ -62,6 +95,22 @@ impl Kind {
             Some(Kind::Do)
         } else {
             Some(Kind::Event(EventKind::of(word)?))
+        }
+    }
+}
+
+impl Stage {
+    /// Its place in the order.
+    pub(crate) fn rank(self) -> u8
+        ensures { result ≡ rank self }
+    {
+        match self {
+            Stage::Geo => 0,
+            Stage::Cluster => 1,
+            Stage::Topic => 2,
+            Stage::Client => 3,
+            Stage::Do => 4,
+            Stage::Event => 5,
         }
     }
 }

@@ -1,5 +1,5 @@
 //! The lines of a script.
-ghost use Rattle.std.specs.Prelude.{◌≡◌, [], ◌∷◌, MatchOption, length};
+ghost use Rattle.std.specs.Prelude.{◌≡◌, ◌&&◌, [], ◌∷◌, MatchOption};
 ghost use Rattle.std.specs.List.{list_all};
 ghost use Rattle.script.specs.Lines.{lines_of, is_skipped, is_printable, words_of};
 
@@ -30,13 +30,6 @@ impl<'a> TextLine<'a> {
         self.bytes
     }
 
-    /// Whether a line feed ends it.
-    pub(crate) fn is_ended(&self) -> bool
-        ensures { result ≡ self.now.ended }
-    {
-        self.ended
-    }
-
     /// Whether it is empty or a comment.
     pub(crate) fn is_skipped(&self) -> bool
         ensures { result ≡ is_skipped self.now.bytes }
@@ -47,8 +40,15 @@ impl<'a> TextLine<'a> {
         }
     }
 
+    /// Whether each of its bytes is printable, and a line feed ends it.
+    pub(crate) fn is_plain(&self) -> bool
+        ensures { result ≡ (list_all is_printable self.now.bytes && self.now.ended) }
+    {
+        self.is_printable() && self.ended
+    }
+
     /// Whether each of its bytes is printable.
-    pub(crate) fn is_printable(&self) -> bool
+    fn is_printable(&self) -> bool
         ensures { result ≡ list_all is_printable self.now.bytes }
     {
         self.bytes.iter().all(|b| is_printable_byte(*b))

@@ -1,16 +1,16 @@
 //! The reader of a script.
-ghost use Rattle.std.specs.Prelude.{◌≡◌, ℕ, ◌<◌, ◌^◌, ◌⊎◌, length, Err, Ok, IfOk};
-ghost use Rattle.script.specs.Drafts.{Declares, Judges};
-ghost use Rattle.script.specs.Rules.{declared, judged, script_of};
+ghost use Rattle.std.specs.Prelude.{◌≡◌, ℕ, ◌+◌, ◌<◌, ◌^◌, ◌⊎◌, length, Err, Ok, IfOk};
+ghost use Rattle.script.specs.Drafts.{Judges};
+ghost use Rattle.script.specs.Rules.{judged, script_of};
 ghost use Rattle.script.specs.Scenario.{IsScenario};
 ghost use Rattle.script.specs.Script.{Script};
 
 use crate::draft::Draft;
-use crate::fault::{LineFault, OUT_OF_FORM, Rule, ScriptFault};
-use crate::kind::Kind;
+use crate::fault::{LineFault, Rule, ScriptFault};
 use crate::lines::{Lines, TextLine};
+use crate::parse::has_unknown_word;
+use crate::row::Row;
 use crate::scenario::Scenario;
-use crate::words::Words;
 use std::alloc::Global;
 
 /// Reads a script of fewer than 2^32 bytes.
@@ -60,36 +60,28 @@ pub fn read_script(alloc: Global, bytes: &[u8]) -> Result<Scenario, ScriptFault>
 impl Draft {
     /// Takes the next line in, unless it breaks a rule.
     fn read_line(&mut self, alloc: Global, line: &TextLine<'_>) -> Result<(), LineFault>
+        requires { length self.old.setup.clients + 1 < 2 ^ 32 }
         ensures { Judges result self.new (judged self.old line.now) }
     {
         if line.is_skipped() {
             return Ok(());
         }
-        if !(line.is_printable() && line.is_ended()) {
+        if !line.is_plain() {
             return Err(LineFault::Broken(Rule::Bytes));
         }
         if !self.is_begun() && line.bytes() != b"geo 1".as_slice() {
             return Err(LineFault::Broken(Rule::Head));
         }
-        self.declare(alloc, line.words())
-    }
-
-    /// Takes in what a line of these words declares.
-    fn declare(&mut self, alloc: Global, mut words: Words<'_>) -> Result<(), LineFault>
-        ensures { Declares result self.new (declared self.old words.entry) }
-    {
-        let word = words.next_word().ok_or(OUT_OF_FORM)?;
-        let kind = Kind::of(word).ok_or(OUT_OF_FORM)?;
-        if !self.asks_for(kind) {
-            return Err(OUT_OF_FORM);
+        if has_unknown_word(line.words()) {
+            return Err(LineFault::Broken(Rule::Word));
         }
-        match kind {
-            Kind::Geo => self.geo_line(words),
-            Kind::Cluster => self.cluster_line(alloc, words),
-            Kind::Topic => self.topic_line(alloc, words),
-            Kind::Client => self.client_line(alloc, words),
-            Kind::Do => self.do_line(alloc, words),
-            Kind::Event(kind) => self.event_line(kind, words),
+        let Some(row) = Row::of(line.words()) else {
+            return Err(LineFault::Broken(Rule::Form));
+        };
+        if let Some(rule) = self.broken(&row) {
+            return Err(LineFault::Broken(rule));
         }
+        self.add(alloc, &row)?;
+        Ok(())
     }
 }

@@ -1,16 +1,18 @@
 //! What an accepted script says.
-ghost use Rattle.std.specs.Prelude.{◌≡◌, ◌<◌, ◌≤◌, ◌^◌, true, [], ◌∷◌, ◌++◌, length, All, OnOk, OnErr};
+ghost use Rattle.std.specs.Prelude.{◌≡◌, true, [], ◌∷◌, ◌++◌, All, OnOk, OnErr};
 ghost use Rattle.geo_base.specs.Name.{is_name};
 ghost use Rattle.geo_base.specs.Scripted.{is_produce, IsScripted};
 ghost use Rattle.geo_base.specs.Setup.{Declared};
-ghost use Rattle.script.specs.Scenario.{IsClientLine, IsClient, IsStep, IsScenario};
+ghost use Rattle.script.specs.Scenario.{IsClientLine, IsClient, IsPublish, IsStep, IsScenario};
 ghost use Rattle.script.specs.Script.{script_with};
 
-use geo_base::{Blob, ClusterName, Line, Memory, ProducerName, Sequence, Step, Targets, TopicName};
+use geo_base::{
+    Blob, ClusterName, Line, Memory, ProducerName, Sequence, Step, Targets, Text, TopicName,
+};
 use std::alloc::Global;
 use std::marker::Model;
 
-/// A line of a client: `produce`, or a publish to all clusters, without a key, of at most 1,024 bytes.
+/// A line of a client: `produce`, or a publish of at most 1,024 bytes to all clusters or to some.
 #[derive(Debug, Drop)]
 pub struct ScriptLine {
     line: Line,
@@ -37,19 +39,13 @@ impl ScriptLine {
         }
     }
 
-    /// `pub SEQ * - TEXT`
-    pub(crate) fn publish(seq: u64, text: Blob) -> ScriptLine
-        requires id { seq < 2 ^ 63 }
-        requires short { length text ≤ 1024 }
-        ensures { result ≡ Line.Pub seq Targets.All None text }
+    /// `pub SEQ TO KEY TEXT`
+    pub(crate) fn publish(seq: u64, to: Targets, key: Option<Text>, text: Blob) -> ScriptLine
+        requires { IsPublish seq to key text }
+        ensures { result ≡ Line.Pub seq to key text }
     {
         ScriptLine {
-            line: Line::Pub {
-                seq,
-                to: Targets::All,
-                key: None,
-                text,
-            },
+            line: Line::Pub { seq, to, key, text },
         }
     }
 

@@ -2,7 +2,7 @@
 ghost use Rattle.std.specs.Prelude.{◌≡◌, [], ◌∷◌, List, ℕ, ◌↔◌, IsTrue, MatchOption, option_map};
 ghost use Rattle.std.specs.Option.{option_copied};
 ghost use Rattle.script.specs.Lines.{words_of};
-ghost use Rattle.script.specs.Words.{one, two, three, four, text_of, three_and_text};
+ghost use Rattle.script.specs.Words.{fourth, one, two, three, four, text_of, three_and_text};
 
 use crate::cut::cut_at;
 use std::marker::Model;
@@ -99,6 +99,16 @@ impl<'a> Words<'a> {
             self.next_word()?,
         );
         if self.is_empty() { Some(words) } else { None }
+    }
+
+    /// The fourth of the words that are left.
+    pub(crate) fn fourth(mut self) -> Option<&'a [u8]>
+        ensures { option_copied result ≡ fourth self.entry }
+    {
+        let _first = self.next_word()?;
+        let _second = self.next_word()?;
+        let _third = self.next_word()?;
+        self.next_word()
     }
 
     /// The three next words, and the text after them.

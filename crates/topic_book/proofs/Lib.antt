@@ -5,3 +5,11 @@ pub mod SenderTables
 pub mod Pendings
 pub mod Messages
 pub mod Refusals
+pub mod Mapped
+pub mod SubLists
+pub mod LeastDue
+pub mod SubTables
+pub mod Ledgers
+pub mod Consumers
+pub mod Acks
+pub mod Offers

@@ -1,17 +1,24 @@
 -- Plans that a broker can commit: their numbers name what is there, and what they append is accepted.
-use Rattle.std.specs.Prelude.{◌≡◌, ℕ, ◌+◌, ◌<◌, ◌^◌, true, List, [], ◌∷◌, length, ⊤}
+use Rattle.std.specs.Prelude.{◌≡◌, ℕ, ◌+◌, ◌<◌, ◌≤◌, ◌^◌, true, List, [], ◌∷◌, length, max, None, ⊤}
+use Rattle.std.specs.List.{All}
 use Rattle.geo_base.specs.declared.change.Change.{Change}
+use Rattle.geo_base.specs.declared.frame.Frame.{Frame}
+use Rattle.geo_base.specs.declared.frame.Frame.TheVariants as frame
 use Rattle.geo_base.specs.declared.write.Write.{Write}
 use Rattle.geo_base.specs.declared.change.Change.TheVariants as change
 use Rattle.geo_base.specs.declared.write.Write.TheVariants as write
-use Rattle.geo_base.specs.Broker.{Broker, changed, sender_at, written}
+use Rattle.geo_base.specs.Broker.{Broker, changed, sender_at, sub_named, written}
 use Rattle.geo_base.specs.Plan.{Plan, all_written}
 use Rattle.geo_base.specs.Topic.{accepts}
 use Rattle.geo_base.specs.Message.{is_message}
+use Rattle.topic_book.specs.Room.{Room}
+use Rattle.topic_book.specs.Writes.{AcksFit}
 
--- subscriptions, and ledgers that a restart opens, are not built yet
+-- what alters, deletes or seeks a subscription, and ledgers that a restart opens, are not built yet
 abbrev pub WriteFits : Broker → Write → Type 0
 WriteFits b (write.Append e) = (is_message e ≡ true) × (accepts b.entries e.ident ≡ true)
+WriteFits b (write.Create n kind replicated latest) = sub_named b.subs n ≡ None
+WriteFits b (write.Acks n is) = All (λ i. i < length b.entries) is
 WriteFits b (write.SenderAck y i) = y < length b.senders
 WriteFits b (write.SessionNumber y n) = y < length b.senders
 WriteFits b w = ⊥
@@ -25,6 +32,10 @@ abbrev pub ChangeFits : Broker → Change → Type 0
 ChangeFits b (change.Receiver x r) = x < length b.receivers
 ChangeFits b (change.Client c s) = c < length b.sessions
 ChangeFits b (change.Detach c) = ⊤
+ChangeFits b (change.Attach n k) = ⊤
+ChangeFits b (change.Permit n c permits) = ⊤
+ChangeFits b (change.Given n i at) = i + 1 < 2 ^ 64
+ChangeFits b (change.Acked n) = ⊤
 ChangeFits b (change.Opening y) = y < length b.senders
 ChangeFits b (change.Opened y) = y < length b.senders
 ChangeFits b (change.Pend y i) = (y < length b.senders) × (i + 1 < 2 ^ 64) × ((sender_at b y).next + 1 < 2 ^ 64)
@@ -48,3 +59,17 @@ pub record SameShape (old new : Broker) : Type 0 where
 -- each write and each change takes at most one place in each table
 abbrev pub steps : Plan → ℕ
 steps p = length p.writes + length p.changes
+
+-- a plan finds the room that it needs
+pub record HasRoom (room : Room) (p : Plan) : Type 0 where
+  pub few : steps p ≤ room.steps
+  pub acks : AcksFit room.acks p.writes
+
+-- an event has at most two steps
+abbrev pub room_for : ℕ → Room
+room_for acks = record { steps = 2; acks = acks }
+
+-- how many acknowledged indexes a command needs room for in a cursor
+abbrev pub acks_for : Frame → ℕ
+acks_for (frame.Ack id kind ps) = max (length ps) 1
+acks_for f = 0

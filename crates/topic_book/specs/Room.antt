@@ -1,5 +1,6 @@
 -- A broker's state as its owner sees it: the state itself, and how many more steps find memory.
 use Rattle.std.specs.Prelude.{◌≡◌, ℕ, ◌+◌, ◌≤◌, ◌<◌, Bool, true, List, length, map, All, take, slice_index_or}
+use Rattle.std.specs.List.{sum}
 use Rattle.geo_base.specs.declared.entry.Entry.{Entry}
 use Rattle.geo_base.specs.Broker.{Broker}
 use Rattle.geo_base.specs.Sender.{Sender}
@@ -36,17 +37,27 @@ pub record SenderBooks : Type 0 where
   pub senders : List Sender
   pub room : ℕ
 
+-- how many more steps find room, and how many acknowledged indexes in each cursor before the first of them
+pub record Room : Type 0 where
+  pub steps : ℕ
+  pub acks : ℕ
+
 pub record BrokerBook : Type 0 where
   pub broker : Broker
-  pub room : ℕ
+  pub room : Room
 
 -- each entry was accepted after those before it, so that the last one of a stream has its greatest sequence id
 pub record IsTopic (es : List Entry) : Type 0 where
   pub accepted : (k : ℕ) (d : Entry) → k < length es → accepts (take k es) (slice_index_or es k d).ident ≡ true
 
-pub record BookHolds (room len cap len' cap' room' : ℕ) (es : List Entry) : Type 0 where
-  pub entries : len + room ≤ cap
-  pub ledgers : len' + room ≤ cap'
-  pub senders : room ≤ room'
+-- a subscription that is created has room for as many steps as an event has: 2
+pub record BookHolds (room acks len cap len' cap' senders subs sub_acks : ℕ) (es : List Entry) (ledgers : List ℕ) : Type 0 where
+  pub in_entries : len + room ≤ cap
+  pub in_ledgers : len' + room ≤ cap'
+  pub in_senders : room ≤ senders
+  pub in_subs : room ≤ subs
+  pub few : subs ≤ 2
+  pub in_cursors : acks ≤ sub_acks
   pub opened : 0 < len'
   pub topic : IsTopic es
+  pub counted : sum ledgers ≡ len

@@ -1,7 +1,7 @@
 //! What a broker may be asked to do.
 ghost use Rattle.std.specs.Prelude.{◌≡◌, ◌≤◌, IfOk};
 ghost use Rattle.topic_book.specs.Actions.{ActionFits, action_plan};
-ghost use Rattle.topic_book.specs.Fits.{PlanFits, steps};
+ghost use Rattle.topic_book.specs.Fits.{HasRoom, PlanFits};
 
 use crate::book::Book;
 use crate::packet::{ClientPacket, ForwardPacket};
@@ -32,6 +32,9 @@ pub enum Action<'a> {
         remote: u32,
         input: Option<&'a Packet>,
     },
+    Offer {
+        sub: &'a str,
+    },
 }
 
 impl Book {
@@ -45,7 +48,7 @@ impl Book {
         requires { ActionFits self.old.broker action }
         ensures plan { IfOk result (λ p. p ≡ action_plan site.now self.old.broker action.entry) }
         ensures fits { IfOk result (λ p. PlanFits site.now.per_ledger self.old.broker p) }
-        ensures room { IfOk result (λ p. steps p ≤ self.new.room) }
+        ensures room { IfOk result (λ p. HasRoom self.new.room p) }
         ensures kept { self.new.broker ≡ self.old.broker }
     {
         match action {
@@ -54,6 +57,7 @@ impl Book {
             Action::Read { remote } => self.prepare_read(alloc, site, remote),
             Action::Take { source, input } => self.prepare_take(alloc, site, source, input),
             Action::Receipt { remote, input } => self.prepare_receipt(alloc, site, remote, input),
+            Action::Offer { sub } => self.prepare_offer(alloc, site, sub),
         }
     }
 }

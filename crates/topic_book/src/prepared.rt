@@ -3,13 +3,14 @@ ghost use Rattle.std.specs.Prelude.{◌≡◌, ◌++◌, ◌∷◌, [], true, le
 ghost use Rattle.geo_base.specs.Plan.{idle_plan, quiet_plan};
 ghost use Rattle.geo_base.specs.Built.{fits_link};
 ghost use Rattle.topic_book.specs.Fits.{steps};
+ghost use Rattle.topic_book.specs.Writes.{IsReady, machine_write};
 
 use crate::packet::Outgoing;
+use crate::write::{BookWrite, PlannedWrite};
 use geo_base::change::Change;
 use geo_base::frame::Frame;
 use geo_base::memory::Memory;
 use geo_base::packet::{Out, Peer};
-use geo_base::write::Write;
 use std::alloc::Global;
 use std::marker::Model;
 
@@ -17,7 +18,7 @@ use std::marker::Model;
 #[derive(Debug, Drop)]
 pub struct Prepared {
     idle: bool,
-    writes: Vec<Write>,
+    writes: Vec<PlannedWrite>,
     changes: Vec<Change>,
     sent: Vec<Outgoing>,
 }
@@ -56,10 +57,11 @@ impl Prepared {
     }
 
     /// One more durable write.
-    pub fn write(&mut self, write: Write) -> Result<(), Memory>
-        ensures { OnOk result (self.new ≡ record self.old { writes = self.old.writes ++ write ∷ [] }) }
+    pub fn write(&mut self, write: BookWrite) -> Result<(), Memory>
+        requires { IsReady write }
+        ensures { OnOk result (self.new ≡ record self.old { writes = self.old.writes ++ machine_write write ∷ [] }) }
     {
-        match self.writes.push(write) {
+        match self.writes.push(PlannedWrite::new(write)) {
             Ok(()) => Ok(()),
             Err(_) => Err(Memory),
         }
@@ -103,7 +105,7 @@ impl Prepared {
     }
 
     /// The writes and the changes.
-    pub fn into_steps(self) -> (Vec<Write>, Vec<Change>)
+    pub fn into_steps(self) -> (Vec<PlannedWrite>, Vec<Change>)
         ensures writes { result.0.items ≡ self.writes }
         ensures changes { result.1.items ≡ self.changes }
     {

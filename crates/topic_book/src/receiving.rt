@@ -5,10 +5,10 @@ ghost use Rattle.geo_base.specs.Forwarding.{closes, take_command, take_frame, ta
 ghost use Rattle.geo_base.specs.Receiver.{is_from};
 ghost use Rattle.geo_base.specs.declared.event.Fate.TheVariants as fate;
 ghost use Rattle.geo_base.specs.Built.{is_forward_frame};
-ghost use Rattle.topic_book.specs.Fits.{PlanFits, steps};
+ghost use Rattle.topic_book.specs.Fits.{HasRoom, PlanFits, room_for};
 ghost use Rattle.geo_base.specs.Message.{is_message};
 
-use crate::book::{Book, STEPS};
+use crate::book::Book;
 use crate::packet::ForwardPacket;
 use crate::prepared::Prepared;
 use crate::site::Site;
@@ -33,10 +33,10 @@ impl Book {
         requires source { source < length self.old.broker.receivers }
         ensures plan { IfOk result (λ p. p ≡ take_packet site.now self.old.broker source fate.Good (option_copied input.entry)) }
         ensures fits { IfOk result (λ p. PlanFits site.now.per_ledger self.old.broker p) }
-        ensures room { IfOk result (λ p. steps p ≤ self.new.room) }
+        ensures room { IfOk result (λ p. HasRoom self.new.room p) }
         ensures kept { self.new.broker ≡ self.old.broker }
     {
-        self.reserve(STEPS)?;
+        self.reserve(0)?;
         match input {
             None => Ok(Prepared::idle(alloc)),
             Some(input) => self.take_frame(alloc, site, source, input.packet()),
@@ -54,7 +54,7 @@ impl Book {
         requires carried { is_forward_frame packet.now.frame ≡ true }
         ensures plan { IfOk result (λ p. p ≡ take_frame site.now self.now.broker source packet.now packet.now.frame) }
         ensures fits { IfOk result (λ p. PlanFits site.now.per_ledger self.now.broker p) }
-        ensures few { IfOk result (λ p. steps p ≤ STEPS) }
+        ensures few { IfOk result (λ p. HasRoom (room_for 0) p) }
     {
         match &packet.frame {
             Frame::Unreadable => closing(alloc, source),
@@ -91,7 +91,7 @@ impl Book {
         requires carried { is_forward_frame packet.now.frame ≡ true }
         ensures plan { IfOk result (λ p. p ≡ take_in site.now self.now.broker source packet.now) }
         ensures fits { IfOk result (λ p. PlanFits site.now.per_ledger self.now.broker p) }
-        ensures few { IfOk result (λ p. steps p ≤ STEPS) }
+        ensures few { IfOk result (λ p. HasRoom (room_for 0) p) }
     {
         if self.receiver(source) != Some(packet.session) {
             return Ok(Prepared::quiet(alloc));
@@ -111,7 +111,7 @@ impl Book {
         requires carried { is_forward_frame frame.now ≡ true }
         ensures plan { IfOk result (λ p. p ≡ take_command site.now self.now.broker source session frame.now) }
         ensures fits { IfOk result (λ p. PlanFits site.now.per_ledger self.now.broker p) }
-        ensures few { IfOk result (λ p. steps p ≤ STEPS) }
+        ensures few { IfOk result (λ p. HasRoom (room_for 0) p) }
     {
         match frame {
             Frame::Send {
@@ -140,7 +140,7 @@ impl Book {
         requires message { is_message entry.now ≡ true }
         ensures plan { IfOk result (λ p. p ≡ take_send site.now self.now.broker source session seq from.now entry.now) }
         ensures fits { IfOk result (λ p. PlanFits site.now.per_ledger self.now.broker p) }
-        ensures few { IfOk result (λ p. steps p ≤ STEPS) }
+        ensures few { IfOk result (λ p. HasRoom (room_for 0) p) }
     {
         if !is_from(source, from) {
             return closing(alloc, source);

@@ -8,13 +8,14 @@ ghost use Rattle.geo_base.specs.Reading.{forwards, read, read_at, read_entry};
 ghost use Rattle.geo_base.specs.Sender.{Sender};
 ghost use Rattle.geo_base.specs.Updating.{handled};
 ghost use Rattle.geo_base.specs.declared.event.Fate.TheVariants as fate;
-ghost use Rattle.topic_book.specs.Fits.{PlanFits, steps};
+ghost use Rattle.topic_book.specs.Fits.{HasRoom, PlanFits, room_for};
 ghost use Rattle.geo_base.specs.Message.{is_message};
 
-use crate::book::{Book, STEPS};
+use crate::book::Book;
 use crate::prepared::Prepared;
 use crate::sender::Sender;
 use crate::site::Site;
+use crate::write::BookWrite;
 use geo_base::bytes::Text;
 use geo_base::change::Change;
 use geo_base::entry::Entry;
@@ -23,7 +24,6 @@ use geo_base::marker::Place;
 use geo_base::memory::Memory;
 use geo_base::packet::{Packet, Peer};
 use geo_base::sender::SenderState;
-use geo_base::write::Write;
 use std::alloc::Global;
 
 impl Book {
@@ -39,16 +39,16 @@ impl Book {
         requires session { (sender_at self.old.broker remote).session + 1 < 2 ^ 64 }
         ensures plan { IfOk result (λ p. p ≡ reset site.now self.old.broker remote) }
         ensures fits { IfOk result (λ p. PlanFits site.now.per_ledger self.old.broker p) }
-        ensures room { IfOk result (λ p. steps p ≤ self.new.room) }
+        ensures room { IfOk result (λ p. HasRoom self.new.room p) }
         ensures kept { self.new.broker ≡ self.old.broker }
     {
-        self.reserve(STEPS)?;
+        self.reserve(0)?;
         if !site.is_remote(remote) {
             return Ok(Prepared::idle(alloc));
         }
         let session = self.sender(remote).session() + 1;
         let mut plan = Prepared::quiet(alloc);
-        plan.write(Write::SessionNumber { remote, session })?;
+        plan.write(BookWrite::SessionNumber { remote, session })?;
         plan.change(Change::Opening { remote })?;
         let opening = Frame::Producer {
             topic: Text::from_str(alloc, site.topic())?,
@@ -72,10 +72,10 @@ impl Book {
         requires next { (sender_at self.old.broker remote).next + 1 < 2 ^ 64 }
         ensures plan { IfOk result (λ p. p ≡ read site.now self.old.broker remote) }
         ensures fits { IfOk result (λ p. PlanFits site.now.per_ledger self.old.broker p) }
-        ensures room { IfOk result (λ p. steps p ≤ self.new.room) }
+        ensures room { IfOk result (λ p. HasRoom self.new.room p) }
         ensures kept { self.new.broker ≡ self.old.broker }
     {
-        self.reserve(STEPS)?;
+        self.reserve(0)?;
         if !site.is_remote(remote) {
             return Ok(Prepared::idle(alloc));
         }
@@ -94,7 +94,7 @@ impl Book {
         requires next { (sender_at self.now.broker remote).next + 1 < 2 ^ 64 }
         ensures plan { IfOk result (λ p. p ≡ read_at site.now self.now.broker remote index) }
         ensures fits { IfOk result (λ p. PlanFits site.now.per_ledger self.now.broker p) }
-        ensures few { IfOk result (λ p. steps p ≤ STEPS) }
+        ensures few { IfOk result (λ p. HasRoom (room_for 0) p) }
     {
         let Some(index) = index else {
             return Ok(Prepared::idle(alloc));
@@ -120,7 +120,7 @@ impl Book {
         requires message { is_message entry.now ≡ true }
         ensures plan { IfOk result (λ p. p ≡ read_entry site.now self.now.broker remote index (Some entry.now)) }
         ensures fits { IfOk result (λ p. PlanFits site.now.per_ledger self.now.broker p) }
-        ensures few { IfOk result (λ p. steps p ≤ STEPS) }
+        ensures few { IfOk result (λ p. HasRoom (room_for 0) p) }
     {
         if is_sent(site.own(), remote, entry) {
             self.forward(alloc, site, remote, index, entry)
@@ -166,10 +166,10 @@ impl Book {
         requires remote { remote < length self.old.broker.senders }
         ensures plan { IfOk result (λ p. p ≡ receipt site.now self.old.broker remote fate.Good (option_copied input.entry)) }
         ensures fits { IfOk result (λ p. PlanFits site.now.per_ledger self.old.broker p) }
-        ensures room { IfOk result (λ p. steps p ≤ self.new.room) }
+        ensures room { IfOk result (λ p. HasRoom self.new.room p) }
         ensures kept { self.new.broker ≡ self.old.broker }
     {
-        self.reserve(STEPS)?;
+        self.reserve(0)?;
         let Some(packet) = input else {
             return Ok(Prepared::idle(alloc));
         };
@@ -194,7 +194,7 @@ fn passing(alloc: Global, remote: u32, index: u64) -> Result<Prepared, Memory>
     ensures { IfOk result (λ p. p ≡ handled remote index [] []) }
 {
     let mut plan = Prepared::quiet(alloc);
-    plan.write(Write::SenderAck { remote, index })?;
+    plan.write(BookWrite::SenderAck { remote, index })?;
     plan.change(Change::ReadTo {
         remote,
         index: index + 1,
@@ -210,7 +210,7 @@ fn receipt_command(
     frame: &Frame,
 ) -> Result<Prepared, Memory>
     ensures plan { IfOk result (λ p. p ≡ receipt_command remote sender.now.sender frame.now) }
-    ensures few { IfOk result (λ p. steps p ≤ STEPS) }
+    ensures few { IfOk result (λ p. HasRoom (room_for 0) p) }
 {
     let mut plan = Prepared::quiet(alloc);
     match frame {
@@ -219,7 +219,7 @@ fn receipt_command(
         }
         Frame::SendReceipt { seq, .. } => {
             if let Some(index) = sender.pending_index(*seq) {
-                plan.write(Write::SenderAck { remote, index })?;
+                plan.write(BookWrite::SenderAck { remote, index })?;
                 plan.change(Change::Unpend {
                     remote,
                     number: *seq,

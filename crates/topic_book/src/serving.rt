@@ -1,4 +1,4 @@
-//! A broker and its clients: CONNECT, PRODUCER and SEND.
+//! A broker and its clients: CONNECT, PRODUCER and SEND, and what the commands of consumers have in common with them.
 ghost use Rattle.std.specs.Prelude.{◌≡◌, ◌≢◌, ◌==◌, ◌&&◌, ◌<◌, ◌≤◌, ◌++◌, ◌∷◌, [], true, length, IfOk};
 ghost use Rattle.std.specs.List.{list_any};
 ghost use Rattle.std.specs.Option.{option_copied};
@@ -6,15 +6,15 @@ ghost use Rattle.std.specs.Str.{bytes_eq};
 ghost use Rattle.geo_base.specs.Answers.{answers, refuses, unknown_error};
 ghost use Rattle.geo_base.specs.Broker.{Site, session_at};
 ghost use Rattle.geo_base.specs.Entry.{with_origin};
-ghost use Rattle.geo_base.specs.Producing.{attaches, is_sound, is_taken, may_attach, name_with, stores, uses_name, without_producer};
+ghost use Rattle.geo_base.specs.Producing.{attaches, is_sound, is_taken, may_attach, name_with, serve_producer, serve_send, stores, uses_name, without_producer};
 ghost use Rattle.geo_base.specs.Serving.{serve, serve_command, serve_frame, serve_in};
 ghost use Rattle.geo_base.specs.declared.frame.Frame.TheVariants as frame;
 ghost use Rattle.geo_base.specs.Built.{is_client_frame};
-ghost use Rattle.topic_book.specs.Fits.{PlanFits, steps};
+ghost use Rattle.topic_book.specs.Fits.{HasRoom, PlanFits, acks_for, room_for};
 ghost use Rattle.geo_base.specs.Message.{is_message};
 ghost use Rattle.topic_book.specs.Refusing.{refusal};
 
-use crate::book::{Book, STEPS};
+use crate::book::Book;
 use crate::packet::ClientPacket;
 use crate::prepared::Prepared;
 use crate::site::Site;
@@ -30,7 +30,7 @@ use geo_base::session::{AttachedProducer, Session};
 use std::alloc::Global;
 
 /// UnknownError of ServerError in PulsarApi.proto.
-const UNKNOWN_ERROR: u64 = 0;
+pub(crate) const UNKNOWN_ERROR: u64 = 0;
 
 /// ProducerBusy of ServerError in PulsarApi.proto.
 const PRODUCER_BUSY: u64 = 16;
@@ -51,14 +51,14 @@ impl Book {
         requires client { client < length self.old.broker.sessions }
         ensures plan { IfOk result (λ p. p ≡ serve site.now self.old.broker client (option_copied input.entry)) }
         ensures fits { IfOk result (λ p. PlanFits site.now.per_ledger self.old.broker p) }
-        ensures room { IfOk result (λ p. steps p ≤ self.new.room) }
+        ensures room { IfOk result (λ p. HasRoom self.new.room p) }
         ensures kept { self.new.broker ≡ self.old.broker }
     {
-        self.reserve(STEPS)?;
-        match input {
-            None => Ok(Prepared::idle(alloc)),
-            Some(input) => self.serve_frame(alloc, site, client, input.packet()),
-        }
+        let Some(input) = input else {
+            return Ok(Prepared::idle(alloc));
+        };
+        self.reserve(acks_for(&input.packet().frame))?;
+        self.serve_frame(alloc, site, client, input.packet())
     }
 
     fn serve_frame(
@@ -72,7 +72,7 @@ impl Book {
         requires carried { is_client_frame packet.now.frame ≡ true }
         ensures plan { IfOk result (λ p. p ≡ serve_frame site.now self.now.broker client packet.now packet.now.frame) }
         ensures fits { IfOk result (λ p. PlanFits site.now.per_ledger self.now.broker p) }
-        ensures few { IfOk result (λ p. steps p ≤ STEPS) }
+        ensures few { IfOk result (λ p. HasRoom (room_for (acks_for packet.now.frame)) p) }
     {
         match &packet.frame {
             Frame::Connect => {
@@ -105,7 +105,7 @@ impl Book {
         requires opened { packet.now.frame ≢ frame.Connect }
         ensures plan { IfOk result (λ p. p ≡ serve_in site.now self.now.broker client packet.now (session_at self.now.broker client)) }
         ensures fits { IfOk result (λ p. PlanFits site.now.per_ledger self.now.broker p) }
-        ensures few { IfOk result (λ p. steps p ≤ STEPS) }
+        ensures few { IfOk result (λ p. HasRoom (room_for (acks_for packet.now.frame)) p) }
     {
         match self.session(client) {
             Some(session) if session.number == packet.session => {
@@ -115,7 +115,7 @@ impl Book {
         }
     }
 
-    #[tactic(auto, using(crate::proofs::Refusals::producer_served))]
+    #[tactic(auto, using(crate::proofs::Consumers::plain_frame))]
     fn serve_command(
         &self,
         alloc: Global,
@@ -129,37 +129,89 @@ impl Book {
         requires opened { command.now ≢ frame.Connect }
         ensures plan { IfOk result (λ p. p ≡ serve_command site.now self.now.broker client session.now command.now) }
         ensures fits { IfOk result (λ p. PlanFits site.now.per_ledger self.now.broker p) }
-        ensures few { IfOk result (λ p. steps p ≤ STEPS) }
+        ensures few { IfOk result (λ p. HasRoom (room_for (acks_for command.now)) p) }
     {
         match command {
             Frame::Producer {
                 topic,
                 id,
                 request,
-                name: Some(name),
-            } => match self.refusal(site, client, topic, name) {
-                Some(code) => refusing(alloc, client, session, *request, code),
-                None => attaching(alloc, client, session, *id, *request, name),
-            },
-            Frame::Producer { request, .. } => refusing(
-                alloc,
-                client,
-                session,
-                *request,
-                UNKNOWN_ERROR,
-            ),
+                name,
+            } => self.serve_producer(alloc, site, client, session, topic, *id, *request, name),
             Frame::Send {
                 id,
                 seq,
                 source,
                 entry,
-            } => match name_with(*id, session.producers.as_slice()) {
-                Some(name) if is_sound(name, *seq, source, entry) => {
-                    self.publish(alloc, site, client, session, *id, *seq, entry)
-                }
-                _ => failing(alloc, client, session, *id, *seq),
-            },
+            } => self.serve_send(alloc, site, client, session, *id, *seq, source, entry),
+            Frame::Subscribe {
+                topic,
+                sub,
+                id,
+                request,
+                earliest,
+                ..
+            } => self.serve_subscribe(
+                alloc, site, client, session, topic, sub, *id, *request, *earliest,
+            ),
+            Frame::Flow { id, permits } => self.serve_flow(alloc, client, *id, *permits),
+            Frame::Ack {
+                id,
+                kind,
+                positions,
+            } => self.serve_ack(alloc, client, *id, *kind, positions.as_slice()),
             _ => unreachable!(),
+        }
+    }
+
+    #[tactic(auto, using(crate::proofs::Refusals::producer_served))]
+    fn serve_producer(
+        &self,
+        alloc: Global,
+        site: &Site,
+        client: u32,
+        session: &Session,
+        topic: &Text,
+        id: u64,
+        request: u64,
+        name: &Option<Text>,
+    ) -> Result<Prepared, Memory>
+        requires client { client < length self.now.broker.sessions }
+        ensures plan { IfOk result (λ p. p ≡ serve_producer site.now self.now.broker client session.now topic.now id request name.now) }
+        ensures fits { IfOk result (λ p. PlanFits site.now.per_ledger self.now.broker p) }
+        ensures few { IfOk result (λ p. HasRoom (room_for 0) p) }
+    {
+        let Some(name) = name else {
+            return refusing(alloc, client, session, request, UNKNOWN_ERROR);
+        };
+        match self.refusal(site, client, topic, name) {
+            Some(code) => refusing(alloc, client, session, request, code),
+            None => attaching(alloc, client, session, id, request, name),
+        }
+    }
+
+    fn serve_send(
+        &self,
+        alloc: Global,
+        site: &Site,
+        client: u32,
+        session: &Session,
+        id: u64,
+        seq: u64,
+        source: &Option<Place>,
+        entry: &Entry,
+    ) -> Result<Prepared, Memory>
+        requires client { client < length self.now.broker.sessions }
+        requires message { is_message entry.now ≡ true }
+        ensures plan { IfOk result (λ p. p ≡ serve_send site.now self.now.broker client session.now id seq source.now entry.now (name_with id session.now.producers)) }
+        ensures fits { IfOk result (λ p. PlanFits site.now.per_ledger self.now.broker p) }
+        ensures few { IfOk result (λ p. HasRoom (room_for 0) p) }
+    {
+        match name_with(id, session.producers.as_slice()) {
+            Some(name) if is_sound(name, seq, source, entry) => {
+                self.publish(alloc, site, client, session, id, seq, entry)
+            }
+            _ => failing(alloc, client, session, id, seq),
         }
     }
 
@@ -190,7 +242,7 @@ impl Book {
         requires message { is_message entry.now ≡ true }
         ensures plan { IfOk result (λ p. p ≡ stores site.now self.now.broker client session.now id seq (with_origin site.now.own entry.now)) }
         ensures fits { IfOk result (λ p. PlanFits site.now.per_ledger self.now.broker p) }
-        ensures few { IfOk result (λ p. steps p ≤ STEPS) }
+        ensures few { IfOk result (λ p. HasRoom (room_for 0) p) }
     {
         let mut plan = Prepared::quiet(alloc);
         let position = self.store(alloc, site, site.own(), entry, &mut plan)?;
@@ -201,6 +253,16 @@ impl Book {
         };
         plan.send(Peer::Client(client), session.number, receipt)?;
         Ok(plan)
+    }
+}
+
+/// How many acknowledged indexes a command needs room for in a cursor.
+fn acks_for(command: &Frame) -> usize
+    ensures { result ≡ acks_for command.now }
+{
+    match command {
+        Frame::Ack { positions, .. } => positions.len().max(1),
+        _ => 0,
     }
 }
 
@@ -219,7 +281,7 @@ fn answering(
 }
 
 /// A request is refused.
-fn refusing(
+pub(crate) fn refusing(
     alloc: Global,
     client: u32,
     session: &Session,

@@ -1,6 +1,8 @@
-//! What a topic accepts, and where its next entry goes.
-ghost use Rattle.std.specs.Prelude.{◌≡◌, ◌<◌, ◌≤◌, ◌^◌, ◌+◌, length, vec_len, vec_capacity};
-ghost use Rattle.geo_base.specs.Topic.{accepts, grown, next_position};
+//! What a topic accepts, where its next entry goes, and where its entries stand.
+ghost use Rattle.std.specs.Prelude.{◌≡◌, ◌<◌, ◌≤◌, ◌^◌, ◌+◌, Some, None, length, nat_lt, vec_len, vec_capacity, if◌then◌else◌};
+ghost use Rattle.std.specs.List.{sum};
+ghost use Rattle.std.specs.Option.{IfSome};
+ghost use Rattle.geo_base.specs.Topic.{accepts, grown, index_of, next_position, position_at};
 ghost use Rattle.topic_book.specs.Room.{IsTopic};
 
 use crate::message::Message;
@@ -62,5 +64,54 @@ pub fn grow(per_ledger: u64, ledgers: &mut Vec<u64>)
         ledgers[last] += 1;
     } else {
         ledgers.push_reserved(1);
+    }
+}
+
+/// The position of the entry at an index; 0:0 where the ledgers have no such entry.
+pub fn position_at(ledgers: &[u64], index: u64) -> Position
+    ensures { result ≡ position_at ledgers.now index }
+{
+    let mut left = index;
+    for ledger in 0..ledgers.len() {
+        if left < ledgers[ledger] {
+            return Position {
+                ledger: ledger as u64,
+                entry: left,
+            };
+        }
+        left -= ledgers[ledger];
+    }
+    Position {
+        ledger: 0,
+        entry: 0,
+    }
+}
+
+/// The index that a position counts to; `None` where nothing stands there.
+pub fn index_of(ledgers: &[u64], position: &Position) -> Option<u64>
+    requires { sum ledgers.now < 2 ^ 64 }
+    ensures index { result ≡ index_of ledgers.now position.now }
+    ensures within { IfSome result (λ i. i < sum ledgers.now) }
+{
+    let mut before = 0;
+    for ledger in 0..ledgers.len() {
+        if ledger as u64 == position.ledger {
+            return entry_of(before, ledgers[ledger], position.entry);
+        }
+        before += ledgers[ledger];
+    }
+    None
+}
+
+/// The index of an entry of a ledger of so many entries, with so many before it.
+fn entry_of(before: u64, len: u64, entry: u64) -> Option<u64>
+    requires { before + len < 2 ^ 64 }
+    ensures index { result ≡ (if nat_lt entry len then Some (before + entry) else None) }
+    ensures within { IfSome result (λ i. i < before + len) }
+{
+    if entry < len {
+        Some(before + entry)
+    } else {
+        None
     }
 }

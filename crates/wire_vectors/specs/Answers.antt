@@ -1,5 +1,5 @@
 -- What is answered for the bytes of a message: the canonical bytes of what they say, or why they say nothing.
-use Rattle.std.specs.Prelude.{◌≡◌, ◌≢◌, ℕ, List}
+use Rattle.std.specs.Prelude.{◌≡◌, ◌≢◌, ℕ, List, ◌⊎◌}
 use Rattle.pb_fields.specs.declared.field.Field.{Field}
 use Rattle.pb_fields.specs.declared.fault.PbFault.TheVariants as pb
 use Rattle.pb_fields.specs.declared.message.MessageFault.TheVariants as message
@@ -10,6 +10,20 @@ use Rattle.pb_fields.specs.Message.{WrongMessage, IsWrongOrMemory}
 use Rattle.message_meta.specs.declared.table.TheConstants.{ROWS}
 use Rattle.message_meta.specs.Metadata.{Metadata, IsMetaText}
 use Rattle.message_meta.specs.Canonical.{canonical_fields}
+use Rattle.marker_codec.specs.declared.fault.MarkerFault.TheVariants as marker_fault
+use Rattle.marker_codec.specs.declared.marker.Marker.{Marker}
+use Rattle.marker_codec.specs.Markers.{IsMarkerText}
+use Rattle.marker_codec.specs.Faults.{WrongMarker}
+use Rattle.marker_codec.specs.Canonical.{canonical_fields as marker_fields}
+use Rattle.pulsar_commands.specs.declared.command.Command.{Command}
+use Rattle.pulsar_commands.specs.declared.fault.CommandFault.TheVariants as command_fault
+use Rattle.pulsar_commands.specs.Text.{IsCommandText}
+use Rattle.pulsar_commands.specs.Faults.{WrongCommand}
+use Rattle.pulsar_commands.specs.Canonical.{command_text}
+use Rattle.pulsar_frames.specs.declared.frame.Frame.{Frame}
+use Rattle.pulsar_frames.specs.Layout.{IsUnfinished}
+use Rattle.pulsar_frames.specs.Frames.{TakesFrame, HasFault}
+use Rattle.pulsar_frames.specs.Canonical.{frame_text, frame_size, IsTooLarge}
 use Rattle.wire_vectors.specs.declared.answer.Answer.{Answer}
 use Rattle.wire_vectors.specs.declared.answer.Answer.TheVariants as answer
 use Rattle.wire_vectors.specs.declared.answer.Kind.{Kind}
@@ -25,6 +39,32 @@ IsMetaAnswer bytes (answer.Canonical out) = (m : Metadata) × IsMetaText bytes m
 IsMetaAnswer bytes (answer.NoMeta fault) = (fault ≢ message.Memory) × IsWrongOrMemory (WrongMessage ROWS bytes) fault
 IsMetaAnswer bytes a = ⊥
 
+abbrev pub IsMarkerAnswer : ℕ → List ℕ → Answer → Type 0
+IsMarkerAnswer number bytes (answer.Canonical out) = (m : Marker) × IsMarkerText number bytes m × (out ≡ text (marker_fields m))
+IsMarkerAnswer number bytes (answer.NoMarker fault) = (fault ≢ marker_fault.Memory) × WrongMarker number bytes fault
+IsMarkerAnswer number bytes a = ⊥
+
+abbrev pub IsCommandAnswer : List ℕ → Answer → Type 0
+IsCommandAnswer bytes (answer.Canonical out) = (c : Command) × IsCommandText bytes c × (out ≡ command_text c)
+IsCommandAnswer bytes (answer.NoCommand fault) = (fault ≢ command_fault.Memory) × WrongCommand bytes fault
+IsCommandAnswer bytes a = ⊥
+
+-- The first frame of a stream is written again. What is written has every field, so it can be larger than what was read.
+abbrev pub IsFrameAnswer : List ℕ → Answer → Type 0
+IsFrameAnswer bytes (answer.Canonical out) = (f : Frame) × (rest : List ℕ) × TakesFrame bytes f rest × (out ≡ frame_text f)
+IsFrameAnswer bytes (answer.NoFrame fault) = HasFault bytes fault ⊎ ((f : Frame) × (rest : List ℕ) × TakesFrame bytes f rest × IsTooLarge (frame_size f) fault)
+IsFrameAnswer bytes answer.Incomplete = IsUnfinished bytes
+IsFrameAnswer bytes a = ⊥
+
+-- the same of the frame alone
+abbrev pub IsWritten : Frame → Answer → Type 0
+IsWritten f (answer.Canonical out) = out ≡ frame_text f
+IsWritten f (answer.NoFrame fault) = IsTooLarge (frame_size f) fault
+IsWritten f a = ⊥
+
 abbrev pub IsAnswer : Kind → List ℕ → Answer → Type 0
 IsAnswer kind.Fields bytes a = IsFieldsAnswer bytes a
 IsAnswer kind.Meta bytes a = IsMetaAnswer bytes a
+IsAnswer (kind.Marker number) bytes a = IsMarkerAnswer number bytes a
+IsAnswer kind.Command bytes a = IsCommandAnswer bytes a
+IsAnswer kind.Frame bytes a = IsFrameAnswer bytes a

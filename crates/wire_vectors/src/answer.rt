@@ -1,10 +1,14 @@
 //! What a codec says of a message.
 
 ghost use Rattle.std.specs.Prelude.{IfOk};
-ghost use Rattle.wire_vectors.specs.Answers.{IsFieldsAnswer, IsMetaAnswer, IsAnswer};
+ghost use Rattle.wire_vectors.specs.Answers.{IsFieldsAnswer, IsMetaAnswer, IsMarkerAnswer, IsCommandAnswer, IsFrameAnswer, IsWritten, IsAnswer};
+ghost use Rattle.pulsar_frames.specs.Canonical.{IsComplete};
 
+use marker_codec::{Marker, MarkerFault};
 use message_meta::{Meta, MetaFault};
 use pb_fields::{ByteList, Memory, PbFault, read_fields, write_fields};
+use pulsar_commands::{Command, CommandFault};
+use pulsar_frames::{Frame, FrameFault, FrameReader, write_frame};
 use std::alloc::Global;
 use std::fmt;
 
@@ -15,6 +19,12 @@ pub enum Kind {
     Fields,
     /// The metadata of a message.
     Meta,
+    /// A marker of the number's kind.
+    Marker(u64),
+    /// A command.
+    Command,
+    /// The first frame of a stream.
+    Frame,
 }
 
 /// The canonical bytes of what was read, or why it was not.
@@ -23,6 +33,11 @@ pub enum Answer {
     Canonical(ByteList),
     NoFields(PbFault),
     NoMeta(MetaFault),
+    NoMarker(MarkerFault),
+    NoCommand(CommandFault),
+    NoFrame(FrameFault),
+    /// No whole frame stands in the bytes, and none is refused.
+    Incomplete,
     BadLine,
 }
 
@@ -32,6 +47,10 @@ impl fmt::Display for Answer {
             Answer::Canonical(bytes) => write_hex(f, bytes.as_slice()),
             Answer::NoFields(fault) => write!(f, "{fault}"),
             Answer::NoMeta(fault) => write!(f, "{fault}"),
+            Answer::NoMarker(fault) => write!(f, "{fault}"),
+            Answer::NoCommand(fault) => write!(f, "{fault}"),
+            Answer::NoFrame(fault) => write!(f, "{fault}"),
+            Answer::Incomplete => write!(f, "incomplete"),
             Answer::BadLine => write!(f, "bad line"),
         }
     }
@@ -56,6 +75,9 @@ pub fn answer_of(alloc: Global, kind: Kind, bytes: &[u8]) -> Result<Answer, Memo
     match kind {
         Kind::Fields => fields_answer(alloc, bytes),
         Kind::Meta => meta_answer(alloc, bytes),
+        Kind::Marker(number) => marker_answer(alloc, number, bytes),
+        Kind::Command => command_answer(alloc, bytes),
+        Kind::Frame => frame_answer(alloc, bytes),
     }
 }
 
@@ -83,5 +105,67 @@ fn meta_answer(alloc: Global, bytes: &[u8]) -> Result<Answer, Memory>
     match meta.write(alloc) {
         Ok(out) => Ok(Answer::Canonical(out)),
         Err(_) => Err(Memory),
+    }
+}
+
+fn marker_answer(alloc: Global, number: u64, bytes: &[u8]) -> Result<Answer, Memory>
+    ensures { IfOk result (IsMarkerAnswer number bytes.now) }
+{
+    let marker = match Marker::read(alloc, number, bytes) {
+        Ok(marker) => marker,
+        Err(fault) => match fault {
+            MarkerFault::Memory => return Err(Memory),
+            _ => return Ok(Answer::NoMarker(fault)),
+        },
+    };
+    match marker.write(alloc) {
+        Ok(out) => Ok(Answer::Canonical(out)),
+        Err(_) => Err(Memory),
+    }
+}
+
+fn command_answer(alloc: Global, bytes: &[u8]) -> Result<Answer, Memory>
+    ensures { IfOk result (IsCommandAnswer bytes.now) }
+{
+    let command = match Command::read(alloc, bytes) {
+        Ok(command) => command,
+        Err(fault) => match fault {
+            CommandFault::Memory => return Err(Memory),
+            _ => return Ok(Answer::NoCommand(fault)),
+        },
+    };
+    match command.write(alloc) {
+        Ok(out) => Ok(Answer::Canonical(out)),
+        Err(_) => Err(Memory),
+    }
+}
+
+fn frame_answer(alloc: Global, bytes: &[u8]) -> Result<Answer, Memory>
+    ensures { IfOk result (IsFrameAnswer bytes.now) }
+{
+    let mut reader = FrameReader::new(alloc);
+    let answer = reader.feed(bytes);
+    match reader.next() {
+        Some(frame) => written_frame(alloc, &frame),
+        None => match answer {
+            Ok(()) => Ok(Answer::Incomplete),
+            Err(fault) => match fault {
+                FrameFault::Memory => Err(Memory),
+                _ => Ok(Answer::NoFrame(fault)),
+            },
+        },
+    }
+}
+
+fn written_frame(alloc: Global, frame: &Frame) -> Result<Answer, Memory>
+    requires { IsComplete frame.now }
+    ensures { IfOk result (IsWritten frame.now) }
+{
+    match write_frame(alloc, frame) {
+        Ok(out) => Ok(Answer::Canonical(ByteList::from_slice(alloc, out.as_slice())?)),
+        Err(fault) => match fault {
+            FrameFault::Memory => Err(Memory),
+            _ => Ok(Answer::NoFrame(fault)),
+        },
     }
 }

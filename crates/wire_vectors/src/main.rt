@@ -1,6 +1,7 @@
-//! Answers codec vectors: reads lines `KIND HEX`, a kind of message and its bytes in hexadecimal, `-` for none, and
-//! writes a line for each: `ok HEX` with the canonical bytes of what was read, or the fault. A line that has another
-//! form or an unknown kind is answered by `bad line`.
+//! Answers codec vectors: reads lines `KIND HEX`, a kind of message (`fields`, `meta`, `marker NUMBER`, `command` or
+//! `frame`) and its bytes in hexadecimal, `-` for none, and writes a line for each: `ok HEX` with the canonical bytes of
+//! what was read, or the fault. Of a stream the first frame counts, and the answer is `incomplete` where it has none yet.
+//! A line that has another form or an unknown kind is answered by `bad line`.
 #![tactic(auto)]
 
 mod answer;

@@ -19,13 +19,21 @@ pub fn answer_line(alloc: Global, line: &[u8]) -> Result<Answer, Memory> {
 /// The kind and the digits of a line.
 fn words_of(line: &[u8]) -> Option<(Kind, &str)> {
     let text = str::from_utf8(line).ok()?;
-    let (kind, digits) = text.split_once(' ')?;
-    let kind = match kind {
-        "fields" => Kind::Fields,
-        "meta" => Kind::Meta,
-        _ => return None,
-    };
-    Some((kind, digits))
+    let (kind, rest) = text.split_once(' ')?;
+    match kind {
+        "fields" => Some((Kind::Fields, rest)),
+        "meta" => Some((Kind::Meta, rest)),
+        "marker" => numbered(rest),
+        "command" => Some((Kind::Command, rest)),
+        "frame" => Some((Kind::Frame, rest)),
+        _ => None,
+    }
+}
+
+/// The kind of a marker by its number, and the digits behind it.
+fn numbered(words: &str) -> Option<(Kind, &str)> {
+    let (number, digits) = words.split_once(' ')?;
+    Some((Kind::Marker(number.parse().ok()?), digits))
 }
 
 /// The bytes that hexadecimal digits stand for, two digits each; `-` stands for none.

@@ -11,12 +11,13 @@ use Rattle.geo_base.specs.Getting.{get}
 use Rattle.geo_base.specs.Going.{go}
 use Rattle.geo_base.specs.Happening.{broker_does, client_does, does_planned, happens, next_stamp}
 use Rattle.geo_base.specs.Link.{next_packet}
+use Rattle.geo_base.specs.Offering.{offer}
 use Rattle.geo_base.specs.Plan.{Plan}
 use Rattle.geo_base.specs.Planned.{Planned, in_range, planned, planned_in}
 use Rattle.geo_base.specs.Reading.{read}
 use Rattle.geo_base.specs.Serving.{serve}
 use Rattle.geo_base.specs.declared.packet.Packet.{Packet}
-use Rattle.geo_base.specs.Setup.{Declared, Setup, declared_at}
+use Rattle.geo_base.specs.Setup.{Declared, Setup, declared_at, sub_name}
 use Rattle.geo_base.specs.World.{Back, Forward, LinkName, ToBroker, ToClient, World, client_at, link_at, node, packet_at, site, topic_at}
 use Rattle.world_core.specs.Machines.{client_took, uncounted}
 
@@ -76,6 +77,15 @@ unfolding happens
 was_received s w t x y p a b c is =
     ap (λ (p : Plan). broker_does s w (at_node t x (Some (Back (node s t x) y)) p)) is
     ∙ sym (ap (does_planned s w) (in_plan s w (event.Receipt t x y fate.Good) (pair_in s t x y a b c)))
+
+pub was_offered : (s : Setup) (w : World) (t x n : ℕ) (p : Plan) → t < length s.topics → x < length s.clusters
+    → p ≡ offer (site s t x) (topic_at s w t x) (sub_name s t n)
+    → broker_does s w (at_node t x None p) ≡ happens s w (event.Offer t x n)
+unfolding happens
+was_offered s w t x n p a b is =
+    ap (λ (p : Plan). broker_does s w (at_node t x None p)) is
+    ∙ sym (ap (does_planned s w) (in_plan s w (event.Offer t x n)
+    (both (nat_lt t (length s.topics)) (nat_lt x (length s.clusters)) (lt-ltb t (length s.topics) a) (lt-ltb x (length s.clusters) b))))
 
 -- at clients
 pub went : (s : Setup) (w : World) (c : ℕ) (a : Acted) → a ≡ go s (declared_at s c) (client_at s w c)

@@ -1,12 +1,13 @@
 //! The world: every broker, client and link, and the counts. An event is prepared at its node, its packets go out whole or not
 //! at all, and then it is committed; so one that finds no memory changes nothing.
-ghost use Rattle.std.specs.Prelude.{◌≡◌, ◌+◌, ◌<◌, ◌≤◌, ◌^◌, None, length, map, max, OnOk, OnErr, IfOk, slice_index};
+ghost use Rattle.std.specs.Prelude.{◌≡◌, ◌+◌, ◌<◌, ◌≤◌, ◌^◌, None, length, map, max, OnOk, OnErr, IfOk, slice_index, slice_index_or};
 ghost use Rattle.geo_base.specs.Client.{new_client};
 ghost use Rattle.geo_base.specs.Scripted.{IsScripted};
 ghost use Rattle.client_core.specs.Changing.{ClientFits, acted};
 ghost use Rattle.geo_base.specs.Happening.{broker_does, client_does, next_stamp as stamp_after};
 ghost use Rattle.geo_base.specs.World.{broker_at, client_at, node as node_number, opening_world, packet_at, site as site_at, topic_at};
-ghost use Rattle.topic_book.specs.Fits.{PlanFits, steps};
+ghost use Rattle.topic_book.specs.Fits.{HasRoom, PlanFits};
+ghost use Rattle.world_core.specs.Books.{no_room};
 ghost use Rattle.world_core.specs.Inputs.{input_link};
 ghost use Rattle.world_core.specs.Machines.{WorldFits, client_took, uncounted};
 ghost use Rattle.geo_base.specs.Worlds.{IsWorldOf};
@@ -156,7 +157,7 @@ impl World {
         requires topic { topic < length setup.now.topics }
         requires cluster { cluster < length setup.now.clusters }
         requires fits { PlanFits setup.now.per_ledger (broker_at self.old.world (node_number setup.now topic cluster)) prepared }
-        requires room { steps prepared ≤ slice_index self.old.rooms (node_number setup.now topic cluster) }
+        requires room { HasRoom (slice_index_or self.old.rooms (node_number setup.now topic cluster) no_room) prepared }
         ensures ok { OnOk result (self.new.world ≡ uncounted (broker_does setup.now self.old.world
             (record { topic = topic; cluster = cluster; takes = input_link input; plan = prepared }))) }
         ensures err { OnErr result (self.new.world ≡ self.old.world) }

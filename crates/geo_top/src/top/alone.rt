@@ -4,9 +4,8 @@ ghost use Rattle.geo_base.specs.Report.{report};
 ghost use Rattle.geo_base.specs.Run.{run};
 ghost use Rattle.geo_io.specs.Faults.{Rose};
 ghost use Rattle.geo_io.specs.Sink.{Gains};
-ghost use Rattle.geo_io.specs.Source.{LongerThan};
 ghost use Rattle.geo_top.specs.Commands.{command_of};
-ghost use Rattle.geo_top.specs.Outputs.{IsAlwaysOnce, WentOut, WritesLine, answer_for};
+ghost use Rattle.geo_top.specs.Outputs.{IsAlwaysOnce, IsPassed, WentOut, WritesLine, answer_for};
 ghost use Rattle.geo_top.specs.Statuses.{IsDue};
 ghost use Rattle.geo_top.specs.declared.top.command.Command.TheVariants as command;
 ghost use Rattle.script.specs.Rules.{script_of};
@@ -21,7 +20,8 @@ use std::alloc::Global;
 /// sink, or the one line of a refusal. It takes no runtime and starts no thread.
 ///
 /// The whole output is made before its first byte is written. The first of these refusals wins: words that are no command; a
-/// fault of the source, or more than 67,108,864 bytes; a line of the script that breaks a rule; a fault of the sink.
+/// fault of the source, or more than 67,108,864 bytes; a line of the script that breaks a rule; more than 2,000,000 events and
+/// idle events; a fault of the sink.
 #[tactic(auto, using(crate::proofs::Answering::ok_report, crate::proofs::Answering::ok_once, crate::proofs::Answering::caused, crate::proofs::Answering::bad_script, crate::proofs::Answering::no_command, crate::proofs::Answering::due, crate::proofs::Answering::whole_out, crate::proofs::Answering::part_out, crate::proofs::Answering::nothing_out, crate::proofs::Answering::nothing_gained, crate::proofs::Answering::free_due, crate::proofs::Answering::written_due, crate::proofs::Answering::line_out))]
 pub fn geo_alone<S: Source, K: Sink>(
     alloc: Global,
@@ -40,7 +40,8 @@ pub fn geo_alone<S: Source, K: Sink>(
     ensures usage { result ≡ Status.Usage → command_of words.now ≡ None }
     ensures read { result ≡ Status.ReadFault
         → (command_of words.now ≡ Some command.Run) × Rose (S.faults source.old) (S.faults source.new) }
-    ensures large { (limit : ℕ) → result ≡ Status.TooLarge limit → (limit ≡ 1) × LongerThan (S.left source.old) 67108864 }
+    // Limit 1 is on the bytes that are read, limit 2 on events and idle events together.
+    ensures large { (limit : ℕ) → result ≡ Status.TooLarge limit → IsPassed (S.left source.old) limit }
     ensures script { (line rule : ℕ) → result ≡ Status.BadScript line rule
         → IfSome (S.left source.old) (λ input. script_of input ≡ Err (record { line = line; rule = rule })) }
     ensures write { result ≡ Status.WriteFault → Rose (K.faults sink.old) (K.faults sink.new) }

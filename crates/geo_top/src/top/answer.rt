@@ -1,7 +1,9 @@
 //! What the program is to write, made whole before its first byte goes out.
 ghost use Rattle.std.specs.Prelude.{◌≡◌, ◌≤◌, Some, IfOk, string_bytes, length};
+ghost use Rattle.geo_base.specs.Report.{report};
+ghost use Rattle.geo_base.specs.Worlds.{IsWorldOf};
 ghost use Rattle.geo_top.specs.Commands.{command_of};
-ghost use Rattle.geo_top.specs.Outputs.{IsFounded, answer_to, refused, report_of};
+ghost use Rattle.geo_top.specs.Outputs.{IsFounded, answer_to, answer_to_run, passed_limit, refused};
 ghost use Rattle.geo_top.specs.Statuses.{refusal_line};
 ghost use Rattle.geo_top.specs.declared.top.command.Command.TheVariants as command;
 ghost use Rattle.script.specs.Rules.{script_of};
@@ -17,7 +19,8 @@ use geo_base::memory::Memory;
 use geo_io::{ReadFault, Source, read_all};
 use script::{Scenario, ScriptFault, read_script};
 use std::alloc::Global;
-use world_core::world::run::run;
+use world_core::world::World;
+use world_core::world::run::{RunFault, run};
 
 /// How the program is to end, and what goes out.
 #[derive(Debug, Drop)]
@@ -42,7 +45,7 @@ pub fn answer_to_words<S: Source>(
 }
 
 /// The answer to the script that a source holds.
-#[tactic(auto, using(crate::proofs::Answering::founded_read, crate::proofs::Answering::founded_large, crate::proofs::Answering::founded_script))]
+#[tactic(auto, using(crate::proofs::Answering::founded_read, crate::proofs::Answering::founded_large))]
 fn answer_to_script<S: Source>(alloc: Global, source: &mut S) -> Result<Answer, Memory>
     ensures { IfOk result (IsFounded (Some command.Run) (S.faults source.old) (S.faults source.new) (S.left source.old)) }
 {
@@ -60,25 +63,36 @@ fn answer_to_bytes(alloc: Global, bytes: &[u8]) -> Result<Answer, Memory>
     ensures { IfOk result (λ a. a ≡ answer_to (script_of bytes.now)) }
 {
     match read_script(alloc, bytes) {
-        Ok(scenario) => Ok(Answer {
-            status: Status::Ok,
-            bytes: report(alloc, &scenario)?,
-        }),
+        Ok(scenario) => answer_to_scenario(alloc, &scenario),
         Err(ScriptFault::Rule { line, rule }) => refusal(alloc, Status::BadScript { line, rule }),
         Err(ScriptFault::Memory) => Err(Memory),
     }
 }
 
-/// The report of the run of a script.
-#[tactic(auto, using(crate::proofs::Reporting::uncounted_report))]
-fn report(alloc: Global, scenario: &Scenario) -> Result<Blob, Memory>
+/// The report of the run of a script, or the limit that the run passes.
+#[tactic(auto, using(crate::proofs::Reporting::reports, crate::proofs::Reporting::passes))]
+fn answer_to_scenario(alloc: Global, scenario: &Scenario) -> Result<Answer, Memory>
     requires { IsScenario scenario.now }
-    ensures { IfOk result (λ bytes. bytes ≡ report_of scenario.now) }
+    ensures { IfOk result (λ a. a ≡ answer_to_run scenario.now (passed_limit scenario.now)) }
 {
     let setup = Declarations::new(scenario);
-    let world = run(alloc, &setup, scenario.steps())?;
+    match run(alloc, &setup, scenario.steps()) {
+        Ok(world) => Ok(Answer {
+            status: Status::Ok,
+            bytes: report(alloc, &setup, &world)?,
+        }),
+        Err(RunFault::TooLarge(limit)) => refusal(alloc, Status::TooLarge(limit)),
+        Err(RunFault::Memory) => Err(Memory),
+    }
+}
+
+/// The report of a world.
+fn report(alloc: Global, setup: &Declarations, world: &World) -> Result<Blob, Memory>
+    requires { IsWorldOf setup.now world.now.world }
+    ensures { IfOk result (λ bytes. bytes ≡ report setup.now world.now.world) }
+{
     let mut bytes = Blob::new(alloc);
-    append_report(alloc, &mut bytes, &setup, &world)?;
+    append_report(alloc, &mut bytes, setup, world)?;
     Ok(bytes)
 }
 

@@ -1,10 +1,10 @@
 //! The brokers of the world.
-ghost use Rattle.std.specs.Prelude.{◌≡◌, ◌+◌, ◌*◌, ◌<◌, ◌≤◌, length, replicate, slice_index, slice_index_or, slice_set, IfOk};
+ghost use Rattle.std.specs.Prelude.{◌≡◌, ◌+◌, ◌*◌, ◌<◌, length, replicate, slice_index_or, slice_set, IfOk};
 ghost use Rattle.geo_base.specs.Broker.{new_broker, no_broker};
 ghost use Rattle.geo_base.specs.Plan.{done};
 ghost use Rattle.topic_book.specs.Actions.{ActionFits, action_plan};
-ghost use Rattle.world_core.specs.Books.{brokers_of};
-ghost use Rattle.topic_book.specs.Fits.{PlanFits, steps};
+ghost use Rattle.world_core.specs.Books.{brokers_of, no_room};
+ghost use Rattle.topic_book.specs.Fits.{HasRoom, PlanFits};
 
 use geo_base::memory::Memory;
 use std::alloc::Global;
@@ -71,7 +71,7 @@ impl Books {
         requires fits { ActionFits (slice_index_or self.old.brokers node no_broker) action }
         ensures plan { IfOk result (λ p. p ≡ action_plan site.now (slice_index_or self.old.brokers node no_broker) action.entry) }
         ensures fits { IfOk result (λ p. PlanFits site.now.per_ledger (slice_index_or self.old.brokers node no_broker) p) }
-        ensures room { IfOk result (λ p. steps p ≤ slice_index self.new.rooms node) }
+        ensures room { IfOk result (λ p. HasRoom (slice_index_or self.new.rooms node no_room) p) }
         ensures kept { self.new.brokers ≡ self.old.brokers }
     {
         self.books[node].prepare(alloc, site, action)
@@ -81,7 +81,7 @@ impl Books {
     #[tactic(auto, using(crate::proofs::BookTable::broker_is, crate::proofs::BookTable::many, crate::proofs::BookTable::set_broker, crate::proofs::BookTable::room_is))]
     pub fn commit(&mut self, node: usize, per_ledger: u64, prepared: Prepared)
         requires node { node < length self.old.brokers }
-        requires room { steps prepared ≤ slice_index self.old.rooms node }
+        requires room { HasRoom (slice_index_or self.old.rooms node no_room) prepared }
         requires fits { PlanFits per_ledger (slice_index_or self.old.brokers node no_broker) prepared }
         ensures { self.new.brokers ≡ slice_set self.old.brokers node (done per_ledger (slice_index_or self.old.brokers node no_broker) prepared) }
     {

@@ -2,12 +2,12 @@ use Rattle.std.proofs.Common.{◌<◌, ◌≤◌, length, arith, subst}
 use Rattle.std.specs.Prelude.{List, All, slice_index_or}
 use Rattle.geo_base.specs.declared.event.Step.{Step}
 use Rattle.world_core.specs.Machines.{IsRun}
-use Rattle.world_core.proofs.Running.{run_ends, run_goes_on, take_whole, world_of}
+use Rattle.world_core.proofs.Running.{run_ends, run_goes_on, run_passes, run_within, take_whole, world_of}
 use Rattle.world_core.proofs.world.run.run.Goals as goal
 
 pub loop-step-preserved : goal.loop-step-preserved
 loop-step-preserved c =
-    run_goes_on c.args.setup.now c.args.steps.now c.loop-step.step-index _ c.loop-step.world.world c.do_step.new.self.world (omega arith) c.loop-step.invariant c.in_ok-do_step.ensures
+    run_goes_on c.args.setup.now c.args.steps.now c.loop-step.step-index _ c.loop-step.world.world c.do_step.new.self.world (omega arith) c.loop-step.invariant c.in-Ok-do_step.ensures.ok
 
 pub returns-clause-world : goal.returns-clause-world
 returns-clause-world c = run_ends c.args.setup.now c.args.steps.now c.loop-step.world.world c.requires.scripted
@@ -15,3 +15,7 @@ returns-clause-world c = run_ends c.args.setup.now c.args.steps.now c.loop-step.
 
 pub returns-clause-places : goal.returns-clause-places
 returns-clause-places c = world_of c.args.setup.now c.loop-step.world.world c.loop-step.invariant.places
+
+pub returns-in-Err-do_step-clause-limit : goal.returns-in-Err-do_step-clause-limit
+returns-in-Err-do_step-clause-limit c =
+    run_passes c.args.setup.now c.args.steps.now c.loop-step.step-index _ c.loop-step.world.world _ (omega arith) c.requires.scripted c.loop-step.invariant c.in-Err-do_step.ensures.limit

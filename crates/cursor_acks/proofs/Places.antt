@@ -1,0 +1,130 @@
+-- What a place tells of an index, and what the two ends of its range tell.
+use Rattle.std.proofs.Common.{◌≡◌, ℕ, ◌+◌, ◌-◌, ◌<◌, ◌≤◌, ◌^◌, nat_lt, true, false, List, length, get_or, ap, arith}
+use Rattle.std.specs.Prelude.{nat_le}
+use Rattle.std.proofs.lemmas.Bool.{ltb-true, ltb-false}
+use Rattle.std.proofs.lemmas.Bool.Decides.{nat_tests}
+use Rattle.std.proofs.lemmas.List.{get_or_default}
+use Rattle.std.specs.List.Sorted.{IsNonDecreasingBy, IsPartitionPoint}
+use Rattle.cursor_acks.specs.declared.range.IndexRange.{IndexRange}
+use Rattle.cursor_acks.specs.Ranges.{covers}
+use Rattle.cursor_acks.specs.Places.{AreKept, Begins, Ends, IsPlace}
+use Rattle.cursor_acks.proofs.Covered.{covers_at, uncovered}
+
+-- an index that its place does not hold is not covered
+pub place_out : (rs : List IndexRange) (i at : ℕ) → AreKept rs → IsPlace rs i at → ((d : IndexRange) → at < length rs → i < (get_or rs at d).first) → covers rs i ≡ false
+place_out rs i at h p out =
+    uncovered rs i (λ k d n a b. grind (arith, p.before k d, out d, h.apart.each at d, h.apart.gaps at k d))
+
+pub place_in : (rs : List IndexRange) (i at : ℕ) (d : IndexRange) → AreKept rs → IsPlace rs i at → at < length rs → (get_or rs at d).first ≤ i → covers rs i ≡ true
+place_in rs i at d h p n le = covers_at rs at d i n le (p.after at d (omega arith) n)
+
+-- the next index has the same place
+pub place_next : (rs : List IndexRange) (i at : ℕ) → AreKept rs → IsPlace rs i at → covers rs i ≡ false → IsPlace rs (i + 1) at
+place_next rs i at h p out = record {
+  within = p.within;
+  before = λ k d a b. omega (arith, p.before k d a b);
+  after = λ k d a b. grind (arith, p.after k d a b, covers_at rs k d i b, h.apart.each k d b, out);
+}
+
+pub begins_joined : (rs : List IndexRange) (i at : ℕ) (e : IndexRange) → AreKept rs → IsPlace rs i at → 0 < at → (get_or rs (at - 1) e).last + 1 ≡ i → Begins rs i at (at - 1) (get_or rs (at - 1) e).first
+begins_joined rs i at e h p pos same =
+    let le : at ≤ length rs = p.within in
+    let own : (get_or rs (at - 1) e).first ≤ (get_or rs (at - 1) e).last = h.apart.each (at - 1) e (omega arith) in
+    record {
+      order = omega arith;
+      reached = omega arith;
+      apart = λ k d a b. grind (arith, h.apart.gaps k (at - 1) d b, get_or_default rs (at - 1) d e);
+      joined = λ k d a b.
+          let f : k ≡ at - 1 = omega arith in
+          rw (f, get_or_default rs (at - 1) d e (omega arith)) (omega arith);
+      held = λ j a b. covers_at rs (at - 1) e j (omega arith) a (omega arith);
+      alone = λ no. absurd (omega arith);
+    }
+
+-- the ranges before a place end two or more before an index, where the last of them does
+ends_before : (rs : List IndexRange) (i at : ℕ) (e : IndexRange) → AreKept rs → IsPlace rs i at → (0 < at → (get_or rs (at - 1) e).last + 1 ≡ i → ⊥) → (k : ℕ) (d : IndexRange) → k < at → (get_or rs k d).last + 1 < i
+ends_before rs i at e h p other k d b =
+    let le : at ≤ length rs = p.within in
+    let low : (get_or rs k d).last < i = p.before k d (omega arith) b in
+    let at_last : at - 1 ≡ k → (get_or rs k d).last + 1 < i = λ f.
+    let o : (get_or rs k d).last + 1 ≡ i → ⊥ = rw (f, get_or_default rs k e d (omega arith)) at (other (omega arith)) in
+    omega (arith, o) in
+    let lower : k < at - 1 → (get_or rs k d).last + 1 < i = λ lt.
+    omega (arith, h.apart.gaps k (at - 1) d lt (omega arith), h.apart.each (at - 1) d (omega arith), p.before (at - 1) d (omega arith) (omega arith)) in
+    grind (arith, at_last, lower)
+
+pub begins_here : (rs : List IndexRange) (i at : ℕ) (e : IndexRange) → AreKept rs → IsPlace rs i at → covers rs i ≡ false → (0 < at → (get_or rs (at - 1) e).last + 1 ≡ i → ⊥) → Begins rs i at at i
+begins_here rs i at e h p out other =
+    let le : at ≤ length rs = p.within in
+    let low : (k : ℕ) (d : IndexRange) → k < at → (get_or rs k d).last + 1 < i = ends_before rs i at e h p other in
+    record {
+      order = omega arith;
+      reached = omega arith;
+      apart = λ k d a b. low k d b;
+      joined = λ k d a b. absurd (omega arith);
+      held = λ j a b. absurd (omega arith);
+      alone = λ _ j f. uncovered rs j (λ k d n a b. grind (arith, low k d, p.after k d, covers_at rs k d i n, out));
+    }
+
+pub ends_joined : (rs : List IndexRange) (i at : ℕ) (e : IndexRange) → AreKept rs → IsPlace rs (i + 1) at → at < length rs → (get_or rs at e).first ≤ i + 1 → Ends rs i at (at + 1) (get_or rs at e).last
+ends_joined rs i at e h p n le =
+    let up : i + 1 ≤ (get_or rs at e).last = p.after at e (omega arith) n in
+    record {
+      order = omega arith;
+      within = omega arith;
+      reached = omega arith;
+      apart = λ k d a b. grind (arith, h.apart.gaps at k d, get_or_default rs at d e);
+      joined = λ k d a b.
+          let f : k ≡ at = omega arith in
+          rw (f, get_or_default rs at d e n) (omega arith);
+      held = λ j a b. covers_at rs at e j n (omega arith) b;
+      alone = λ no. absurd (omega arith);
+      bounded = h.bounded at e n;
+    }
+
+begins_after : (rs : List IndexRange) (i at : ℕ) (e : IndexRange) → AreKept rs → IsPlace rs (i + 1) at → (at < length rs → i + 1 < (get_or rs at e).first) → (k : ℕ) (d : IndexRange) → at ≤ k → k < length rs → i + 1 < (get_or rs k d).first
+begins_after rs i at e h p out k d a b =
+    let at_first : at ≡ k → i + 1 < (get_or rs k d).first = λ f.
+    let o : i + 1 < (get_or rs k d).first = rw (f, get_or_default rs k e d b) at (out (omega arith)) in
+    o in
+    let higher : at < k → i + 1 < (get_or rs k d).first = λ lt.
+    omega (arith, h.apart.gaps at k d lt b, p.after at d (omega arith) (omega arith)) in
+    grind (arith, at_first, higher)
+
+pub ends_here : (rs : List IndexRange) (i at : ℕ) (e : IndexRange) → i + 1 < 2 ^ 64 → AreKept rs → IsPlace rs (i + 1) at → (at < length rs → i + 1 < (get_or rs at e).first) → Ends rs i at at i
+ends_here rs i at e fits h p out =
+    let le : at ≤ length rs = p.within in
+    let high : (k : ℕ) (d : IndexRange) → at ≤ k → k < length rs → i + 1 < (get_or rs k d).first = begins_after rs i at e h p out in
+    record {
+      order = omega arith;
+      within = le;
+      reached = omega arith;
+      apart = high;
+      joined = λ k d a b. absurd (omega arith);
+      held = λ j a b. absurd (omega arith);
+      alone = λ _. place_out rs (i + 1) at h p (λ d n. high at d (omega arith) n);
+      bounded = fits;
+    }
+
+-- what the test at a place answers
+pub held : (rs : List IndexRange) (i at : ℕ) (e : IndexRange) → AreKept rs → IsPlace rs i at → at < length rs → nat_le (get_or rs at e).first i ≡ covers rs i
+held rs i at e h p n =
+    let out : i < (get_or rs at e).first → covers rs i ≡ false = λ lt.
+    place_out rs i at h p (λ d _. omega (arith, lt, ap (λ (r : IndexRange). r.first) (get_or_default rs at d e n))) in
+    grind (arith, nat_tests, out, place_in rs i at e h p n)
+
+pub not_held : (rs : List IndexRange) (i at : ℕ) → AreKept rs → IsPlace rs i at → length rs ≤ at → nat_lt at (length rs) ≡ covers rs i
+not_held rs i at h p le =
+    let out : covers rs i ≡ false = place_out rs i at h p (λ d n. absurd (omega (arith, n, le))) in
+    grind (arith, nat_tests, out)
+
+-- where a search by the ends of the ranges stops
+pub rises : (rs : List IndexRange) → AreKept rs → IsNonDecreasingBy (λ (r : IndexRange). r.last) rs
+rises rs h i j d le n = grind (arith, h.apart.gaps i j d, h.apart.each j d n)
+
+pub place_found : (rs : List IndexRange) (i at : ℕ) → AreKept rs → at ≤ length rs → IsPartitionPoint (λ (r : IndexRange). nat_lt r.last i ≡ true) (λ (r : IndexRange). nat_lt r.last i ≡ false) rs at → IsPlace rs i at
+place_found rs i at h le p = record {
+  within = le;
+  before = λ k d a b. ltb-true _ _ (p.0 k d a b);
+  after = λ k d a b. ltb-false _ _ (p.1 k d a b);
+}

@@ -1,0 +1,170 @@
+//! A cursor.
+ghost use Rattle.std.specs.Prelude.{◌≡◌, ◌≤◌, ◌<◌, ◌+◌, ◌-◌, ℕ, [], true, false, IfOk, OnOk, IfErr, OnErr};
+ghost use Rattle.geo_base.specs.Cursor.{below, has, mark, next_open, with_index, with_indexes};
+ghost use Rattle.cursor_acks.specs.Acks.{IsFirstOpen, if_below, stands_alone};
+ghost use Rattle.cursor_acks.specs.Ranges.{AreRangesOf};
+
+use crate::range::{IndexRange, RangeList};
+use crate::search::{holds, place_of};
+use geo_base::Memory;
+use std::alloc::Global;
+use std::marker::Model;
+use thiserror::Error;
+
+/// An index that is not below the topic's length: no entry stands there to be acknowledged.
+#[derive(Clone, Copy, Debug, Drop, PartialEq, Eq, Error)]
+#[error("index {index} is not below the length {len}")]
+pub struct PastEnd {
+    pub index: u64,
+    pub len: u64,
+}
+
+/// The acknowledged indexes of a topic (Pulsar manual: mark-delete and individual acknowledgements). Contracts see the
+/// ascending list of the indexes, as the written machine has it, and beside it how many more acknowledgements need no
+/// memory.
+#[derive(Debug, Drop)]
+pub struct Cursor {
+    ranges: RangeList,
+}
+
+impl Model for Cursor {
+    ghost use Rattle.cursor_acks.specs.Acks.{AckSet};
+    ghost use Rattle.cursor_acks.specs.Ranges.{indexes_of};
+    ghost use Rattle.cursor_acks.specs.Places.{AreKept};
+
+    ghost Value = { AckSet };
+
+    ghost view = { λ c. record { indexes = indexes_of c.ranges.list; spare = c.ranges.spare } };
+
+    ghost invariant = { λ c. AreKept c.ranges.list };
+}
+
+impl Cursor {
+    /// Nothing is acknowledged: the cursor of a subscription made at Earliest. Takes no memory.
+    pub fn none(alloc: Global) -> Cursor
+        ensures { result.indexes ≡ [] }
+    {
+        Cursor {
+            ranges: RangeList::new(alloc),
+        }
+    }
+
+    /// All indexes below a length are acknowledged: the cursor of a subscription made at Latest.
+    pub fn all(alloc: Global, len: u64) -> Result<Cursor, Memory>
+        ensures { IfOk result (λ c. c.indexes ≡ below len) }
+    {
+        if len == 0 {
+            return Ok(Cursor::none(alloc));
+        }
+        let range = IndexRange {
+            first: 0,
+            last: len - 1,
+        };
+        match RangeList::one(alloc, range) {
+            Ok(ranges) => Ok(Cursor { ranges }),
+            Err(_) => Err(Memory),
+        }
+    }
+
+    /// Makes the spare at least `n`. This and `copy` and `all` are the calls that take memory; unchanged where it is wanting.
+    pub fn reserve(&mut self, n: usize) -> Result<(), Memory>
+        ensures indexes { self.new.indexes ≡ self.old.indexes }
+        ensures ok { OnOk result (n ≤ self.new.spare) }
+        ensures more { self.old.spare ≤ self.new.spare }
+        ensures err { OnErr result (self.new ≡ self.old) }
+    {
+        self.ranges.reserve(n)
+    }
+
+    /// Acknowledges one index of a topic of `len` entries; `PastEnd` exactly where `index >= len`, with no change. It needs
+    /// a spare of at least 1, and may lower it by 1, only where neither the index nor a neighbour of it is acknowledged.
+    pub fn ack_one(&mut self, index: u64, len: u64) -> Result<(), PastEnd>
+        requires room { stands_alone self.old.indexes index ≡ true → 0 < self.old.spare }
+        ensures ok { OnOk result (index < len) }
+        ensures indexes { OnOk result (self.new.indexes ≡ with_index self.old.indexes index) }
+        ensures spare { self.old.spare ≤ self.new.spare + 1 }
+        ensures grown { stands_alone self.old.indexes index ≡ false → self.old.spare ≤ self.new.spare }
+        ensures past_end { IfErr result (λ e. (len ≤ index) × (e ≡ record { index = index; len = len })) }
+        ensures err { OnErr result (self.new ≡ self.old) }
+    {
+        test_below(index, len)?;
+        self.ranges.add(index);
+        Ok(())
+    }
+
+    /// Acknowledges all indexes up to one, itself included, of a topic of `len` entries; `PastEnd` exactly where
+    /// `index >= len`, with no change. It needs a spare of at least 1, and lowers it by at most 1.
+    pub fn ack_to(&mut self, index: u64, len: u64) -> Result<(), PastEnd>
+        requires room { 0 < self.old.spare }
+        ensures ok { OnOk result (index < len) }
+        ensures indexes { OnOk result (self.new.indexes ≡ with_indexes self.old.indexes (below (index + 1))) }
+        ensures spare { self.old.spare ≤ self.new.spare + 1 }
+        ensures past_end { IfErr result (λ e. (len ≤ index) × (e ≡ record { index = index; len = len })) }
+        ensures err { OnErr result (self.new ≡ self.old) }
+    {
+        test_below(index, len)?;
+        self.ranges.add_to(index);
+        Ok(())
+    }
+
+    /// The mark-delete: how many indexes from 0 on are all acknowledged.
+    pub fn mark_delete(&self) -> u64
+        ensures mark { result ≡ mark self.now.indexes }
+        ensures least { IsFirstOpen self.now.indexes 0 result }
+    {
+        let ranges = self.ranges.as_slice();
+        if !ranges.is_empty() && ranges[0].first == 0 {
+            return ranges[0].last + 1;
+        }
+        0
+    }
+
+    /// Whether an index is acknowledged.
+    pub fn is_acked(&self, index: u64) -> bool
+        ensures { result ≡ has self.now.indexes index }
+    {
+        let ranges = self.ranges.as_slice();
+        holds(ranges, place_of(ranges, index), index)
+    }
+
+    /// The least index at or after `from` that is not acknowledged; it may be the topic's length or past it.
+    pub fn next_open(&self, from: u64) -> u64
+        ensures least { IsFirstOpen self.now.indexes from result }
+        ensures below { (end : ℕ) → next_open self.now.indexes from (end - from) ≡ if_below result end }
+    {
+        let ranges = self.ranges.as_slice();
+        let at = place_of(ranges, from);
+        if at < ranges.len() && ranges[at].first <= from {
+            return ranges[at].last + 1;
+        }
+        from
+    }
+
+    /// The one list of ascending ranges, never adjacent, that together hold the acknowledged indexes.
+    pub fn ranges(&self) -> &RangeList
+        ensures { AreRangesOf self.now.indexes result.now.list }
+    {
+        &self.ranges
+    }
+
+    /// A cursor with the same acknowledged indexes.
+    pub fn copy(&self, alloc: Global) -> Result<Cursor, Memory>
+        ensures { IfOk result (λ c. c.indexes ≡ self.now.indexes) }
+    {
+        match self.ranges.copy(alloc) {
+            Ok(ranges) => Ok(Cursor { ranges }),
+            Err(_) => Err(Memory),
+        }
+    }
+}
+
+/// Whether an index has an entry in a topic of `len` entries.
+fn test_below(index: u64, len: u64) -> Result<(), PastEnd>
+    ensures ok { OnOk result (index < len) }
+    ensures past_end { IfErr result (λ e. (len ≤ index) × (e ≡ record { index = index; len = len })) }
+{
+    if index >= len {
+        return Err(PastEnd { index, len });
+    }
+    Ok(())
+}

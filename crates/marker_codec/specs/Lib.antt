@@ -1,0 +1,5 @@
+pub mod Kinds
+pub mod Markers
+pub mod Canonical
+pub mod Faults
+pub mod Machine

@@ -1,0 +1,151 @@
+//! The kinds of markers, and the fields of each (PulsarMarkers.proto). In this project every field that is not repeated
+//! is required (own).
+
+use pb_fields::embedded::{OfTable, Unread};
+use pb_fields::message::{Form, Row};
+
+/// The kind of a request (own: this project's profile fixes the kinds).
+pub const REQUEST: u64 = 10;
+
+/// The kind of a response (own).
+pub const RESPONSE: u64 = 11;
+
+/// The kind of a snapshot (own).
+pub const SNAPSHOT: u64 = 12;
+
+/// The kind of an update (own).
+pub const UPDATE: u64 = 13;
+
+/// The name of a snapshot, in a request, a response and a snapshot.
+pub const SNAPSHOT_ID: u32 = 1;
+
+/// The name of the cluster that asks, in a request.
+pub const SOURCE_CLUSTER: u32 = 2;
+
+/// The cluster that answers and its position, in a response.
+pub const RESPONSE_CLUSTER: u32 = 2;
+
+/// The position in the own topic, in a snapshot.
+pub const LOCAL_MESSAGE_ID: u32 = 2;
+
+/// The other clusters and their positions, in a snapshot.
+pub const SNAPSHOT_CLUSTERS: u32 = 3;
+
+/// The name of a subscription, in an update.
+pub const SUBSCRIPTION_NAME: u32 = 1;
+
+/// The clusters and their positions, in an update.
+pub const UPDATE_CLUSTERS: u32 = 2;
+
+/// The cluster's name, in a ClusterMessageId.
+pub const CLUSTER: u32 = 1;
+
+/// The position, in a ClusterMessageId.
+pub const MESSAGE_ID: u32 = 2;
+
+/// The ledger, in a MarkersMessageIdData.
+pub const LEDGER_ID: u32 = 1;
+
+/// The entry, in a MarkersMessageIdData.
+pub const ENTRY_ID: u32 = 2;
+
+/// The fields of a request.
+pub const REQUEST_ROWS: [Row; 2] = [
+    Row {
+        number: SNAPSHOT_ID,
+        form: Form::Text,
+        required: true,
+    },
+    Row {
+        number: SOURCE_CLUSTER,
+        form: Form::Text,
+        required: true,
+    },
+];
+
+/// The fields of a response.
+pub const RESPONSE_ROWS: [Row; 2] = [
+    Row {
+        number: SNAPSHOT_ID,
+        form: Form::Text,
+        required: true,
+    },
+    Row {
+        number: RESPONSE_CLUSTER,
+        form: Form::Message,
+        required: true,
+    },
+];
+
+/// The fields of a snapshot.
+pub const SNAPSHOT_ROWS: [Row; 3] = [
+    Row {
+        number: SNAPSHOT_ID,
+        form: Form::Text,
+        required: true,
+    },
+    Row {
+        number: LOCAL_MESSAGE_ID,
+        form: Form::Message,
+        required: true,
+    },
+    Row {
+        number: SNAPSHOT_CLUSTERS,
+        form: Form::Message,
+        required: false,
+    },
+];
+
+/// The fields of an update.
+pub const UPDATE_ROWS: [Row; 2] = [
+    Row {
+        number: SUBSCRIPTION_NAME,
+        form: Form::Text,
+        required: true,
+    },
+    Row {
+        number: UPDATE_CLUSTERS,
+        form: Form::Message,
+        required: false,
+    },
+];
+
+/// The fields of a ClusterMessageId.
+pub const CLUSTER_ROWS: [Row; 2] = [
+    Row {
+        number: CLUSTER,
+        form: Form::Text,
+        required: true,
+    },
+    Row {
+        number: MESSAGE_ID,
+        form: Form::Message,
+        required: true,
+    },
+];
+
+/// The fields of a MarkersMessageIdData.
+pub const POSITION_ROWS: [Row; 2] = [
+    Row {
+        number: LEDGER_ID,
+        form: Form::Varint,
+        required: true,
+    },
+    Row {
+        number: ENTRY_ID,
+        form: Form::Varint,
+        required: true,
+    },
+];
+
+/// Embedded messages that are each a MarkersMessageIdData.
+pub(crate) const POSITION_PARTS: OfTable<'static, Unread> = OfTable {
+    rows: &POSITION_ROWS,
+    embedded: Unread,
+};
+
+/// Embedded messages that are each a ClusterMessageId.
+pub(crate) const CLUSTER_PARTS: OfTable<'static, OfTable<'static, Unread>> = OfTable {
+    rows: &CLUSTER_ROWS,
+    embedded: POSITION_PARTS,
+};

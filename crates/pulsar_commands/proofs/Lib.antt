@@ -1,0 +1,9 @@
+pub mod Numbers
+pub mod Ascending
+pub mod Told
+pub mod Written
+pub mod Meaning
+pub mod Reading
+pub mod Refused
+pub mod Unique
+pub mod Writing

@@ -1,0 +1,304 @@
+-- The canonical text of a command is a text of it.
+use Rattle.std.proofs.Common.{◌≡◌, ℕ, ◌<◌, ◌^◌, arith, Bool, true, false, eqb, eq-eqb, ne_eqb, List, [], ◌∷◌, Option, Some, None, length, map, refl, sym, ap, subst, ◌∙◌}
+use Rattle.std.specs.Prelude.{if◌then◌else◌}
+use Rattle.std.specs.List.{AllByRecursion, last_or, flat_map}
+use Rattle.std.proofs.lemmas.List.Concat.{flat_map-cons}
+use Rattle.geo_base.specs.declared.frame.AckKind.{AckKind}
+use Rattle.geo_base.specs.declared.frame.AckKind.TheVariants as ack_kind
+use Rattle.geo_base.specs.declared.frame.SubKind.{SubKind}
+use Rattle.geo_base.specs.declared.frame.SubKind.TheVariants as sub_kind
+use Rattle.pb_fields.specs.declared.field.Field.{Field}
+use Rattle.pb_fields.specs.declared.field.Value.{Value}
+use Rattle.pb_fields.specs.declared.field.Value.TheVariants as value
+use Rattle.pb_fields.specs.declared.message.Form.TheVariants as form
+use Rattle.pb_fields.specs.declared.message.Row.{Row}
+use Rattle.pb_fields.specs.Field.{IsFieldNumber, IsField, varint_field, bytes_field}
+use Rattle.pb_fields.specs.Text.{IsText}
+use Rattle.pb_fields.specs.Message.{row_of, Fits, values, last_value, lowest_absent, IsMessage}
+use Rattle.pb_fields.specs.Embedded.{FitsWith, IsMessageWith, IsMessageText}
+use Rattle.pb_fields.proofs.LastValues.{values-same, values-other}
+use Rattle.pb_fields.proofs.Parts.{AllByRecursion-append, fits_row}
+use Rattle.pb_fields.proofs.Written.{text-is}
+use Rattle.pulsar_commands.specs.declared.command.Command.{Command}
+use Rattle.pulsar_commands.specs.declared.command.Command.TheVariants as command
+use Rattle.pulsar_commands.specs.declared.kind.Kind.{Kind}
+use Rattle.pulsar_commands.specs.declared.kind.Kind.TheVariants as kind
+use Rattle.pulsar_commands.specs.Table.{kind_number, type_rows, rows_of, choices_of, required, IsKnown}
+use Rattle.pulsar_commands.specs.Part.{Part, number, place, Told, Says}
+use Rattle.pulsar_commands.specs.Parts.{kind_of, parts, sub_number, ack_number}
+use Rattle.pulsar_commands.specs.Text.{IdRight, BodyRight, IsCommandText}
+use Rattle.pulsar_commands.specs.Canonical.{part_fields, IsPart, body_text, command_fields, command_text, IsWritable}
+use Rattle.pulsar_commands.proofs.Ascending.{above, all_numbers, at_place, row, row_at}
+use Rattle.pulsar_commands.proofs.Told.{told, part_fits, part_ok}
+
+abbrev held_fields : Command → List Field
+held_fields c = flat_map part_fields (parts c)
+
+-- ---- of each command: its places ascend, and its rows are those of its parts
+
+ascending : (c : Command) → above 0 (parts c) ≡ true
+ascending (command.Connect a b) = refl
+ascending (command.Connected a b) = refl
+ascending (command.Subscribe a b c d e f g h) = refl
+ascending (command.Producer a b c d) = refl
+ascending (command.Send a b c) = refl
+ascending (command.SendReceipt a b c) = refl
+ascending (command.SendError a b c d) = refl
+ascending (command.Message a b) = refl
+ascending (command.Ack a b c) = refl
+ascending (command.Flow a b) = refl
+ascending (command.Unsubscribe a b) = refl
+ascending (command.Success a) = refl
+ascending (command.Error a b c) = refl
+ascending (command.CloseProducer a b) = refl
+ascending (command.CloseConsumer a b) = refl
+ascending (command.ProducerSuccess a b) = refl
+ascending command.Ping = refl
+ascending command.Pong = refl
+
+rows_are : (c : Command) → map row (parts c) ≡ rows_of (kind_of c)
+rows_are (command.Connect a b) = refl
+rows_are (command.Connected a b) = refl
+rows_are (command.Subscribe a b c d e f g h) = refl
+rows_are (command.Producer a b c d) = refl
+rows_are (command.Send a b c) = refl
+rows_are (command.SendReceipt a b c) = refl
+rows_are (command.SendError a b c d) = refl
+rows_are (command.Message a b) = refl
+rows_are (command.Ack a b c) = refl
+rows_are (command.Flow a b) = refl
+rows_are (command.Unsubscribe a b) = refl
+rows_are (command.Success a) = refl
+rows_are (command.Error a b c) = refl
+rows_are (command.CloseProducer a b) = refl
+rows_are (command.CloseConsumer a b) = refl
+rows_are (command.ProducerSuccess a b) = refl
+rows_are command.Ping = refl
+rows_are command.Pong = refl
+
+-- what is required is written
+complete : (c : Command) → lowest_absent (rows_of (kind_of c)) (held_fields c) ≡ None
+complete (command.Connect a b) = refl
+complete (command.Connected a b) = refl
+complete (command.Subscribe a b c d e f g h) = refl
+complete (command.Producer a b c d) = refl
+complete (command.Send a b c) = refl
+complete (command.SendReceipt a b c) = refl
+complete (command.SendError a b c d) = refl
+complete (command.Message a b) = refl
+complete (command.Ack a b c) = refl
+complete (command.Flow a b) = refl
+complete (command.Unsubscribe a b) = refl
+complete (command.Success a) = refl
+complete (command.Error a b c) = refl
+complete (command.CloseProducer a b) = refl
+complete (command.CloseConsumer a b) = refl
+complete (command.ProducerSuccess a b) = refl
+complete command.Ping = refl
+complete command.Pong = refl
+
+-- ---- the command's own message
+
+says_from : (fs : List Field) (ps : List Part) → AllByRecursion (λ p. values (place p) fs ≡ values (place p) (part_fields p)) ps → AllByRecursion IsPart ps → AllByRecursion (Says fs) ps
+says_from fs [] h k = tt
+says_from fs (p ∷ ps) h k = (subst (λ (vs : List Value). Told vs p) (sym h.0) (told p k.0), says_from fs ps h.1 k.1)
+
+says : (c : Command) → IsWritable c → AllByRecursion (Says (held_fields c)) (parts c)
+says c h = says_from (held_fields c) (parts c) (at_place 0 (parts c) (ascending c)) h.parts
+
+fit_from : (rows : List Row) (ps : List Part) → AllByRecursion (λ p. row_of rows (place p) ≡ Some (row p)) ps → AllByRecursion IsPart ps → AllByRecursion (FitsWith IdRight rows) (flat_map part_fields ps)
+fit_from rows [] h k = tt
+fit_from rows (p ∷ ps) h k = rw (flat_map-cons part_fields p ps) (AllByRecursion-append (FitsWith IdRight rows) (part_fields p) (flat_map part_fields ps) (part_fits rows p h.0 k.0) (fit_from rows ps h.1 k.1))
+
+ok_from : (ps : List Part) → AllByRecursion (λ p. IsFieldNumber (place p)) ps → AllByRecursion IsPart ps → AllByRecursion IsField (flat_map part_fields ps)
+ok_from [] h k = tt
+ok_from (p ∷ ps) h k = rw (flat_map-cons part_fields p ps) (AllByRecursion-append IsField (part_fields p) (flat_map part_fields ps) (part_ok p h.0 k.0) (ok_from ps h.1 k.1))
+
+held_text : (c : Command) → IsWritable c → IsText (body_text c) (held_fields c)
+held_text c h = text-is (held_fields c) (ok_from (parts c) (all_numbers 0 (parts c) (ascending c)) h.parts)
+
+body_right : (c : Command) → IsWritable c → IsMessageText IdRight (rows_of (kind_of c)) (body_text c)
+body_right c h = record {
+  fields = held_fields c;
+  text = held_text c h;
+  message = record {
+    fit = subst (λ (rows : List Row). AllByRecursion (FitsWith IdRight rows) (held_fields c)) (rows_are c) (fit_from (map row (parts c)) (parts c) (row_at 0 (parts c) (ascending c)) h.parts);
+    complete = complete c;
+  };
+}
+
+-- ---- enumerations
+
+same_varint : (a b : ℕ) → ◌≡◌ {A = Option Value} (Some (value.Varint a)) (Some (value.Varint b)) → a ≡ b
+same_varint a b e = cc
+
+sub_below : (k : SubKind) → sub_number k < 4
+sub_below sub_kind.Exclusive = omega arith
+sub_below sub_kind.Shared = omega arith
+sub_below sub_kind.Failover = omega arith
+sub_below sub_kind.KeyShared = omega arith
+
+ack_below : (k : AckKind) → ack_number k < 2
+ack_below ack_kind.Individual = omega arith
+ack_below ack_kind.Cumulative = omega arith
+
+flag_below : (b : Bool) → (if b then 1 else 0) < 2
+flag_below true = omega arith
+flag_below false = omega arith
+
+known_number : (fs : List Field) (n k size : ℕ) → Says fs (number n k) → k < size → IsKnown fs (record { number = n; size = size })
+known_number fs n k size h lt = λ m is. subst (λ (x : ℕ). x < size) (same_varint k m (sym h ∙ is)) lt
+
+known_flag : (fs : List Field) (n : ℕ) (b : Bool) → values n fs ≡ value.Varint (if b then 1 else 0) ∷ [] → IsKnown fs (record { number = n; size = 2 })
+known_flag fs n b h = λ m is. subst (λ (x : ℕ). x < 2) (same_varint (if b then 1 else 0) m (sym (ap (λ (vs : List Value). last_or None vs) h) ∙ is)) (flag_below b)
+
+known : (c : Command) → IsWritable c → AllByRecursion (IsKnown (held_fields c)) (choices_of (kind_of c))
+known (command.Subscribe a b k d e f g i) h =
+    let all = command.Subscribe a b k d e f g i in
+    let said = says all h in
+    let written = at_place 0 (parts all) (ascending all) in
+    (known_number (held_fields all) 3 (sub_number k) 4 said.1.1.0 (sub_below k), (known_flag (held_fields all) 13 g written.1.1.1.1.1.1.0, tt))
+known (command.Ack a k b) h =
+    let all = command.Ack a k b in
+    (known_number (held_fields all) 2 (ack_number k) 2 (says all h).1.0 (ack_below k), tt)
+known (command.Connect a b) h = tt
+known (command.Connected a b) h = tt
+known (command.Producer a b c d) h = tt
+known (command.Send a b c) h = tt
+known (command.SendReceipt a b c) h = tt
+known (command.SendError a b c d) h = tt
+known (command.Message a b) h = tt
+known (command.Flow a b) h = tt
+known (command.Unsubscribe a b) h = tt
+known (command.Success a) h = tt
+known (command.Error a b c) h = tt
+known (command.CloseProducer a b) h = tt
+known (command.CloseConsumer a b) h = tt
+known (command.ProducerSuccess a b) h = tt
+known command.Ping h = tt
+known command.Pong h = tt
+
+-- ---- the BaseCommand
+
+-- a type's number is neither that of the type's own field nor beyond the numbers of fields
+bounds : (k : Kind) → (1 < kind_number k) × (kind_number k < 20)
+bounds kind.Connect = (omega arith, omega arith)
+bounds kind.Connected = (omega arith, omega arith)
+bounds kind.Subscribe = (omega arith, omega arith)
+bounds kind.Producer = (omega arith, omega arith)
+bounds kind.Send = (omega arith, omega arith)
+bounds kind.SendReceipt = (omega arith, omega arith)
+bounds kind.SendError = (omega arith, omega arith)
+bounds kind.Message = (omega arith, omega arith)
+bounds kind.Ack = (omega arith, omega arith)
+bounds kind.Flow = (omega arith, omega arith)
+bounds kind.Unsubscribe = (omega arith, omega arith)
+bounds kind.Success = (omega arith, omega arith)
+bounds kind.Error = (omega arith, omega arith)
+bounds kind.CloseProducer = (omega arith, omega arith)
+bounds kind.CloseConsumer = (omega arith, omega arith)
+bounds kind.ProducerSuccess = (omega arith, omega arith)
+bounds kind.Ping = (omega arith, omega arith)
+bounds kind.Pong = (omega arith, omega arith)
+
+-- Two fields, of the numbers 1 and n.
+module _ (n : ℕ) (above_one : 1 < n) (body : List ℕ) where
+  abbrev type_field : Field
+  type_field = varint_field 1 n
+
+  abbrev body_field : Field
+  body_field = bytes_field n body
+
+  abbrev both_fields : List Field
+  both_fields = type_field ∷ body_field ∷ []
+
+  not_one : n ≡ 1 → ⊥
+  not_one e = omega (arith, above_one, e)
+
+  one_not : 1 ≡ n → ⊥
+  one_not e = omega (arith, above_one, e)
+
+  type_last : last_value 1 both_fields ≡ Some (value.Varint n)
+  type_last = ap (λ (vs : List Value). last_or None vs) (values-same 1 type_field (body_field ∷ []) refl ∙ ap (λ (vs : List Value). value.Varint n ∷ vs) (values-other 1 body_field [] not_one))
+
+  body_last : last_value n both_fields ≡ Some (value.Bytes body)
+  body_last = ap (λ (vs : List Value). last_or None vs) (values-other n type_field (body_field ∷ []) one_not ∙ values-same n body_field [] refl)
+
+  no_row : (m : ℕ) (r : Row) → (r.number ≡ m → ⊥) → row_of (r ∷ []) m ≡ None
+  no_row m r other = let test : eqb r.number m ≡ false = ne_eqb _ _ other in rw test refl
+
+  its_row : (r : Row) → r.number ≡ n → row_of (r ∷ []) n ≡ Some r
+  its_row r same = let test : eqb r.number n ≡ true = eq-eqb _ _ same in rw test refl
+
+  unknown_fits : (rows : List Row) (f : Field) → row_of rows f.number ≡ None → Fits rows f
+  unknown_fits rows f none = λ r is. absurd (let h = none in cc)
+
+  type_message : IsMessage type_rows both_fields
+  type_message = record {
+    fit = (fits_row type_rows 1 (required 1 form.Varint) (value.Varint n) refl tt, (unknown_fits type_rows body_field (no_row n (required 1 form.Varint) one_not), tt));
+    complete = refl;
+  }
+
+  there : lowest_absent (required n form.Message ∷ []) both_fields ≡ None
+  there =
+      let other : eqb 1 n ≡ false = ne_eqb _ _ one_not in
+      let same : eqb n n ≡ true = eq-eqb _ _ refl in
+      rw (other, same) refl
+
+  holds_message : (Right : ℕ → List ℕ → Type 0) → Right n body → IsMessageWith Right (required n form.Message ∷ []) both_fields
+  holds_message Right right = record {
+    fit = (
+      record {
+        fits = unknown_fits (required n form.Message ∷ []) type_field (no_row 1 (required n form.Message) not_one);
+        holds = λ content h. absurd (let known = h.known in let none = no_row 1 (required n form.Message) not_one in cc);
+      },
+      (
+        record {
+          fits = fits_row (required n form.Message ∷ []) n (required n form.Message) (value.Bytes body) (its_row (required n form.Message) refl) tt;
+          holds = λ content h. subst (λ (c : List ℕ). Right n c) (same_content body content h.value) right;
+        },
+        tt,
+      ),
+    );
+    complete = there;
+  }
+    where
+      same_content : (a b : List ℕ) → ◌≡◌ {A = Value} (value.Bytes a) (value.Bytes b) → a ≡ b
+      same_content a b e = cc
+
+  fields_ok : n < 20 → length body < 2 ^ 64 → AllByRecursion IsField both_fields
+  fields_ok small fits = (
+    record { number = record { above_zero = omega arith; in_range = omega arith }; value = small_value },
+    (record { number = record { above_zero = positive; in_range = in_range }; value = fits }, tt),
+  )
+    where
+      small_value : n < 2 ^ 64
+      small_value = omega (arith, small)
+
+      positive : 0 < n
+      positive = omega (arith, above_one)
+
+      in_range : n < 2 ^ 29
+      in_range = omega (arith, small)
+
+pub canonical_is : (c : Command) → IsWritable c → IsCommandText (command_text c) c
+canonical_is c h =
+    let k = kind_of c in
+    let n = kind_number k in
+    let more = (bounds k).0 in
+    let body = body_text c in
+    record {
+      fields = command_fields c;
+      text = text-is (command_fields c) (fields_ok n more body (bounds k).1 h.length);
+      means = record {
+        kind = k;
+        type = record { message = type_message n more body; is = type_last n more body };
+        held = held_fields c;
+        holds = record {
+          right = holds_message n more body (BodyRight k) (body_right c h);
+          last = record { content = body; is = body_last n more body; text = held_text c h };
+          known = known c h;
+        };
+        tells = record { kind = refl; says = says c h };
+      };
+    }

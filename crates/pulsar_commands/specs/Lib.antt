@@ -1,0 +1,6 @@
+pub mod Table
+pub mod Part
+pub mod Parts
+pub mod Text
+pub mod Faults
+pub mod Canonical

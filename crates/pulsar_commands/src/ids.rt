@@ -1,0 +1,162 @@
+//! Positions in commands (MessageIdData in PulsarApi.proto).
+
+ghost use Rattle.std.specs.Prelude.{◌≡◌, ◌++◌, ◌∷◌, [], Some, true, false, IfOk, IfErr, OnOk, IfSome};
+ghost use Rattle.std.specs.List.{AllByRecursion};
+ghost use Rattle.pb_fields.specs.declared.message.Form.TheVariants as form;
+ghost use Rattle.pb_fields.specs.Field.{IsFieldNumber};
+ghost use Rattle.pb_fields.specs.Message.{IsMessage, IsRow, IsWrongOrMemory, values};
+ghost use Rattle.pb_fields.specs.Embedded.{IsMessageWith};
+ghost use Rattle.pulsar_commands.specs.Part as part;
+ghost use Rattle.pulsar_commands.specs.Part.{IsIdText, AreIds, Says};
+ghost use Rattle.pulsar_commands.specs.Text.{IdRight, IdWrong};
+ghost use Rattle.pulsar_commands.specs.Canonical.{WritesPart, IsPosition, id_text};
+
+use crate::command::PositionList;
+use crate::table::ID_ROWS;
+use geo_base::{Memory, Position};
+use pb_fields::embedded::{
+    Embedded, Unread, optional_message, read_message_with, required_message,
+};
+use pb_fields::message::{MessageFault, Row, required_varint};
+use pb_fields::{ByteList, Field, write_bytes, write_varint};
+use std::alloc::Global;
+
+/// The embedded messages of a command are ids.
+#[derive(Clone, Copy, Debug)]
+pub(crate) struct Ids;
+
+impl Embedded for Ids {
+    ghost right = { λ s. IdRight };
+
+    ghost wrong = { λ s. IdWrong };
+
+    fn judge(&self, alloc: Global, _number: u32, content: &[u8]) -> Result<(), MessageFault> {
+        read_message_with(alloc, &ID_ROWS, &Unread, content)?;
+        Ok(())
+    }
+}
+
+/// The position that the content of an id says.
+fn position_of(alloc: Global, content: &[u8]) -> Result<Position, Memory>
+    requires { IdRight 0 content.now }
+    ensures { IfOk result (IsIdText content.now) }
+{
+    match read_message_with(alloc, &ID_ROWS, &Unread, content) {
+        Ok(fields) => Ok(Position {
+            ledger: required_varint(&ID_ROWS, fields.as_slice(), 1),
+            entry: required_varint(&ID_ROWS, fields.as_slice(), 2),
+        }),
+        Err(MessageFault::Memory) => Err(Memory),
+        Err(_) => unreachable!(),
+    }
+}
+
+/// The position of a required id.
+pub(crate) fn required_id(
+    alloc: Global,
+    rows: &[Row],
+    fields: &[Field],
+    number: u32,
+) -> Result<Position, Memory>
+    requires message { IsMessageWith IdRight rows.now fields.now }
+    requires row { IsRow rows.now number form.Message true }
+    ensures { IfOk result (λ p. Says fields.now (part.id number p)) }
+{
+    position_of(alloc, required_message(rows, &Ids, fields, number))
+}
+
+/// The position of an id that need not be there.
+pub(crate) fn optional_id(
+    alloc: Global,
+    rows: &[Row],
+    fields: &[Field],
+    number: u32,
+) -> Result<Option<Position>, Memory>
+    requires message { IsMessageWith IdRight rows.now fields.now }
+    requires row { IsRow rows.now number form.Message false }
+    ensures { IfOk result (λ p. Says fields.now (part.optional_id number p)) }
+{
+    match optional_message(rows, &Ids, fields, number) {
+        Some(content) => Ok(Some(position_of(alloc, content)?)),
+        None => Ok(None),
+    }
+}
+
+/// The positions of a repeated id.
+pub(crate) fn all_ids(
+    alloc: Global,
+    rows: &[Row],
+    fields: &[Field],
+    number: u32,
+) -> Result<PositionList, Memory>
+    requires message { IsMessageWith IdRight rows.now fields.now }
+    requires row { IsRow rows.now number form.Message false }
+    ensures { IfOk result (λ ps. Says fields.now (part.ids number ps)) }
+{
+    let mut positions = PositionList::new(alloc);
+    for field in fields {
+        if field.number == number {
+            match field.value.as_bytes() {
+                Some(content) => positions.push(position_of(alloc, content)?)?,
+                None => unreachable!(),
+            }
+        }
+    }
+    Ok(positions)
+}
+
+/// The canonical text of a position.
+fn id_content(alloc: Global, position: Position) -> Result<ByteList, pb_fields::Memory>
+    ensures { IfOk result (λ bytes. (bytes ≡ id_text position) × IsPosition position) }
+{
+    let mut out = ByteList::new(alloc);
+    write_varint(&mut out, 1, position.ledger)?;
+    write_varint(&mut out, 2, position.entry)?;
+    Ok(out)
+}
+
+/// Appends an id.
+pub(crate) fn append_id(
+    alloc: Global,
+    out: &mut ByteList,
+    number: u32,
+    position: Position,
+) -> Result<(), pb_fields::Memory>
+    requires { IsFieldNumber number }
+    ensures { OnOk result (WritesPart out.old (part.id number position) out.new) }
+{
+    let content = id_content(alloc, position)?;
+    write_bytes(out, number, content.as_slice())
+}
+
+/// Appends an id where there is one.
+pub(crate) fn append_optional_id(
+    alloc: Global,
+    out: &mut ByteList,
+    number: u32,
+    position: Option<Position>,
+) -> Result<(), pb_fields::Memory>
+    requires { IsFieldNumber number }
+    ensures { OnOk result (WritesPart out.old (part.optional_id number position) out.new) }
+{
+    match position {
+        None => Ok(()),
+        Some(position) => append_id(alloc, out, number, position),
+    }
+}
+
+/// Appends a repeated id.
+pub(crate) fn append_ids(
+    alloc: Global,
+    out: &mut ByteList,
+    number: u32,
+    positions: &PositionList,
+) -> Result<(), pb_fields::Memory>
+    requires { IsFieldNumber number }
+    ensures { OnOk result (WritesPart out.old (part.ids number positions.now) out.new) }
+{
+    for position in positions.as_slice() {
+        append_id(alloc, out, number, *position)?;
+    }
+    Ok(())
+}

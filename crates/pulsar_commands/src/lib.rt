@@ -1,0 +1,22 @@
+//! The commands of the Pulsar binary protocol (BaseCommand in PulsarApi.proto), read from bytes and written.
+#![tactic(auto)]
+
+mod append;
+mod bodies;
+pub mod command;
+pub mod fault;
+mod ids;
+pub mod kind;
+mod laws;
+mod parts;
+mod read;
+mod table;
+mod write;
+
+pub use command::{Command, PositionList};
+pub use fault::CommandFault;
+pub use kind::Kind;
+pub use laws::{canonical_command, one_meaning};
+
+#[cfg(test)]
+mod tests;

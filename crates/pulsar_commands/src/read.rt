@@ -1,0 +1,123 @@
+//! Reading commands.
+
+ghost use Rattle.std.specs.Prelude.{◌≡◌, ◌≤◌, Some, true, IfOk, IfErr, MatchOption, Ok, Err};
+ghost use Rattle.std.specs.List.{AllByRecursion};
+ghost use Rattle.pb_fields.specs.declared.field.Value.TheVariants as value;
+ghost use Rattle.pb_fields.specs.Faults.{Answers};
+ghost use Rattle.pb_fields.specs.Message.{IsMessage, IsWrongOrMemory, last_value};
+ghost use Rattle.pb_fields.specs.Embedded.{IsMessageWith, WrongFieldsWith};
+ghost use Rattle.pulsar_commands.specs.declared.command.Command.{Command};
+ghost use Rattle.pulsar_commands.specs.declared.fault.CommandFault.{CommandFault};
+ghost use Rattle.pulsar_commands.specs.Table.{kind_number, rows_of, type_rows, held_rows, choices_of, IsKnown};
+ghost use Rattle.pulsar_commands.specs.Text.{IdRight, BodyRight, BodyWrong, HasType, IsLast, IsCommand, IsCommandText};
+ghost use Rattle.pulsar_commands.specs.Faults.{FirstUnknown, WrongOfType, WrongCommand, IsFaultOrMemory};
+
+use crate::bodies::command_of_body;
+use crate::command::Command;
+use crate::fault::CommandFault;
+use crate::ids::Ids;
+use crate::kind::Kind;
+use crate::table::{Choice, TYPE, TYPE_ROWS};
+use geo_base::Memory;
+use pb_fields::embedded::{Embedded, check_fields_with, read_message_with, required_message};
+use pb_fields::message::{Form, MessageFault, Row, last_varint, read_message, required_varint};
+use pb_fields::{Field, FieldList};
+use std::alloc::Global;
+
+impl Command {
+    /// The command that the bytes are a text of.
+    pub fn read(alloc: Global, bytes: &[u8]) -> Result<Command, CommandFault>
+        // What is read is what the bytes say.
+        ensures found { IfOk result (IsCommandText bytes.now) }
+        // What the bytes say is read, unless memory runs out.
+        ensures only { (c : Command) → IsCommandText bytes.now c → Answers CommandFault.Memory result (Ok c) }
+        // A fault is the first by the order of judgement.
+        ensures fault { IfErr result (IsFaultOrMemory (WrongCommand bytes.now)) }
+        // The first fault is answered, unless memory runs out.
+        ensures refused { (e : CommandFault) → WrongCommand bytes.now e → Answers CommandFault.Memory result (Err e) }
+    {
+        command_of_bytes(alloc, bytes)
+    }
+}
+
+/// Reads the fields, the type, and then the command of the type.
+fn command_of_bytes(alloc: Global, bytes: &[u8]) -> Result<Command, CommandFault>
+    ensures found { IfOk result (IsCommandText bytes.now) }
+    ensures fault { IfErr result (IsFaultOrMemory (WrongCommand bytes.now)) }
+{
+    let fields = read_message(alloc, &TYPE_ROWS, bytes)?;
+    let number = required_varint(&TYPE_ROWS, fields.as_slice(), TYPE);
+    match Kind::from_number(number) {
+        Some(kind) => command_of_kind(alloc, kind, fields.as_slice()),
+        None => Err(CommandFault::UnknownType(number)),
+    }
+}
+
+/// The command of a type, where the fields hold it.
+fn command_of_kind(alloc: Global, kind: Kind, fields: &[Field]) -> Result<Command, CommandFault>
+    requires { HasType fields.now kind }
+    ensures found { IfOk result (IsCommand fields.now) }
+    ensures fault { IfErr result (IsFaultOrMemory (WrongOfType kind fields.now)) }
+{
+    let held = held_of(alloc, kind, fields)?;
+    if let Some(value) = unknown_value(kind.choices(), held.as_slice()) {
+        return Err(CommandFault::UnknownType(value));
+    }
+    match command_of_body(alloc, kind, held.as_slice()) {
+        Ok(command) => Ok(command),
+        Err(Memory) => Err(CommandFault::Memory),
+    }
+}
+
+/// The fields of the message in the field of the type's number.
+fn held_of(alloc: Global, kind: Kind, fields: &[Field]) -> Result<FieldList, MessageFault>
+    ensures right { IfOk result (λ held. IsMessageWith (BodyRight kind) (held_rows kind) fields.now) }
+    ensures message { IfOk result (λ held. IsMessage (rows_of kind) held) }
+    ensures ids { IfOk result (λ held. IsMessageWith IdRight (rows_of kind) held) }
+    ensures found { IfOk result (IsLast kind fields.now) }
+    ensures fault { IfErr result (IsWrongOrMemory (WrongFieldsWith (BodyRight kind) (BodyWrong kind) (held_rows kind) fields.now)) }
+{
+    let rows = [Row {
+        number: kind.number(),
+        form: Form::Message,
+        required: true,
+    }];
+    check_fields_with(alloc, &rows, &kind, fields)?;
+    let content = required_message(&rows, &kind, fields, kind.number());
+    // The content was judged right above, so want of memory is the only fault left.
+    read_message_with(alloc, kind.rows(), &Ids, content)
+}
+
+/// The first value of an enumeration that is not known.
+fn unknown_value(choices: &[Choice], fields: &[Field]) -> Option<u64>
+    ensures { MatchOption result (AllByRecursion (IsKnown fields.now) choices.now) (FirstUnknown fields.now choices.now) }
+{
+    for choice in choices {
+        if let Some(value) = value_above(choice, fields) {
+            return Some(value);
+        }
+    }
+    None
+}
+
+/// The value that counts, where it is not one of the enumeration.
+fn value_above(choice: &Choice, fields: &[Field]) -> Option<u64>
+    ensures { MatchOption result (IsKnown fields.now choice.now) (λ n. (last_value choice.now.number fields.now ≡ Some (value.Varint n)) × (choice.now.size ≤ n)) }
+{
+    match last_varint(fields, choice.number) {
+        Some(value) if value >= choice.size => Some(value),
+        _ => None,
+    }
+}
+
+/// What a BaseCommand of a type holds.
+impl Embedded for Kind {
+    ghost right = { λ k. BodyRight k };
+
+    ghost wrong = { λ k. BodyWrong k };
+
+    fn judge(&self, alloc: Global, _number: u32, content: &[u8]) -> Result<(), MessageFault> {
+        read_message_with(alloc, self.rows(), &Ids, content)?;
+        Ok(())
+    }
+}

@@ -1,0 +1,10 @@
+pub mod SizeTexts
+pub mod Layouts
+pub mod Commands
+pub mod OneFrame
+pub mod OneStream
+pub mod Written
+pub mod Reading
+pub mod Fed
+pub mod Sizes
+pub mod Complete

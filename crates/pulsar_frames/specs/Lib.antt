@@ -1,0 +1,5 @@
+pub mod Layout
+pub mod Viewed
+pub mod Frames
+pub mod Streams
+pub mod Canonical

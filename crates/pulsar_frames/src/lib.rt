@@ -1,0 +1,21 @@
+//! Frames of the Pulsar binary protocol: one command, with metadata and a payload where it has a message.
+#![tactic(auto)]
+
+mod fault;
+mod frame;
+mod laws;
+mod layout;
+mod queue;
+mod read;
+mod reader;
+mod write;
+
+pub use fault::FrameFault;
+pub use frame::{Body, Frame};
+pub use laws::{any_pieces, canonical_frame, no_prefix, one_frame, one_reading};
+pub use read::carries_message;
+pub use reader::FrameReader;
+pub use write::write_frame;
+
+#[cfg(test)]
+mod tests;

@@ -1,0 +1,132 @@
+//! Writing frames.
+
+ghost use Rattle.std.specs.Prelude.{◌≡◌, ◌+◌, ◌<◌, ◌≤◌, ◌^◌, ◌++◌, length, IfOk, IfErr, OnOk, IfSome, Err};
+ghost use Rattle.geo_base.specs.declared.limits.TheConstants.{FRAME_BYTES};
+ghost use Rattle.pb_fields.specs.Faults.{Answers};
+ghost use Rattle.pb_fields.specs.Canonical.{text};
+ghost use Rattle.message_meta.specs.Canonical.{canonical_fields};
+ghost use Rattle.message_meta.specs.Metadata.{IsMetaText};
+ghost use Rattle.pulsar_frames.specs.Layout.{size, sized, content_text, layout_text, Fits};
+ghost use Rattle.pulsar_frames.specs.Viewed.{layout};
+ghost use Rattle.pulsar_frames.specs.Frames.{IsFrameText};
+ghost use Rattle.pulsar_frames.specs.Canonical.{frame_text, frame_size, IsComplete, IsTooLarge, with_body};
+
+use crate::fault::FrameFault;
+use crate::frame::{Body, Frame};
+use crate::layout::{BodyParts, FrameParts};
+use geo_base::limits::FRAME_BYTES;
+use geo_base::{Blob, Memory};
+use std::alloc::Global;
+
+/// The canonical text of a frame whose message is there exactly where its command carries one: the canonical texts of
+/// its command and its metadata, each behind its size.
+pub fn write_frame(alloc: Global, frame: &Frame) -> Result<Blob, FrameFault>
+    requires { IsComplete frame.now }
+    ensures canonical { IfOk result (λ bytes. bytes ≡ frame_text frame.now) }
+    ensures text { IfOk result (λ bytes. IsFrameText bytes frame.now) }
+    // A frame is refused for its size alone.
+    ensures fault { IfErr result (IsTooLarge (frame_size frame.now)) }
+    // One whose size passes the limit is refused, unless memory runs out.
+    ensures too_large { FRAME_BYTES < frame_size frame.now → Answers FrameFault.Memory result (Err (FrameFault.TooLarge (frame_size frame.now))) }
+{
+    let command = frame.command.write(alloc)?;
+    match &frame.body {
+        None => write_parts(
+            alloc,
+            FrameParts {
+                command: command.as_slice(),
+                body: None,
+            },
+        ),
+        Some(body) => write_message(alloc, command.as_slice(), body),
+    }
+}
+
+/// The text of a frame of a command that carries a message.
+fn write_message<'a>(alloc: Global, command: &'a [u8], body: &'a Body) -> Result<Blob, FrameFault>
+    ensures ok { IfOk result (λ bytes. bytes ≡ layout_text (with_body command.now body.now)) }
+    ensures fits { OnOk result (Fits (with_body command.now body.now)) }
+    ensures meta { OnOk result (IsMetaText (text (canonical_fields body.now.meta)) body.now.meta) }
+    ensures err { IfErr result (IsTooLarge (length (content_text (with_body command.now body.now)))) }
+{
+    let meta = body.meta.write(alloc)?;
+    write_parts(
+        alloc,
+        FrameParts {
+            command,
+            body: Some(BodyParts {
+                meta: meta.as_slice(),
+                payload: body.payload.as_slice(),
+            }),
+        },
+    )
+}
+
+/// The text of parts, each behind its size.
+fn write_parts(alloc: Global, parts: FrameParts<'_>) -> Result<Blob, FrameFault>
+    ensures ok { IfOk result (λ bytes. bytes ≡ layout_text (layout parts.entry)) }
+    ensures fits { OnOk result (Fits (layout parts.entry)) }
+    ensures err { IfErr result (IsTooLarge (length (content_text (layout parts.entry)))) }
+{
+    let Some(total) = total_size(parts) else {
+        return Err(FrameFault::Memory);
+    };
+    if total > FRAME_BYTES {
+        return Err(FrameFault::TooLarge { size: total });
+    }
+    match join(alloc, total, parts) {
+        Ok(out) => Ok(out),
+        Err(Memory) => Err(FrameFault::Memory),
+    }
+}
+
+/// How many bytes follow the total size. None where it has more than 64 bits: so much is in no memory.
+fn total_size(parts: FrameParts<'_>) -> Option<u64>
+    ensures { IfSome result (λ n. n ≡ length (content_text (layout parts.entry))) }
+{
+    let command = 4 + parts.command.len() as u64;
+    match parts.body {
+        None => Some(command),
+        Some(body) => {
+            let meta = 4 + body.meta.len() as u64;
+            let framed = command.checked_add(meta)?;
+            let total = framed.checked_add(body.payload.len() as u64)?;
+            Some(total)
+        }
+    }
+}
+
+/// The parts one after another, behind the total size.
+fn join(alloc: Global, total: u64, parts: FrameParts<'_>) -> Result<Blob, Memory>
+    requires total { total ≡ length (content_text (layout parts)) }
+    requires fits { total ≤ FRAME_BYTES }
+    ensures { IfOk result (λ bytes. bytes ≡ layout_text (layout parts.entry)) }
+{
+    let mut out = Blob::new(alloc);
+    append_size(&mut out, total)?;
+    append_sized(&mut out, parts.command)?;
+    match parts.body {
+        None => Ok(out),
+        Some(body) => {
+            append_sized(&mut out, body.meta)?;
+            out.append(body.payload)?;
+            Ok(out)
+        }
+    }
+}
+
+#[tactic(auto, unfolding(crate::specs::Layout::size))]
+fn append_size(out: &mut Blob, bytes: u64) -> Result<(), Memory>
+    requires { bytes < 2 ^ 32 }
+    ensures { OnOk result (out.new ≡ out.old ++ size bytes) }
+{
+    out.append(&(bytes as u32).to_be_bytes())
+}
+
+fn append_sized(out: &mut Blob, bytes: &[u8]) -> Result<(), Memory>
+    requires { length bytes.now < 2 ^ 32 }
+    ensures { OnOk result (out.new ≡ out.old ++ sized bytes.now) }
+{
+    append_size(out, bytes.len() as u64)?;
+    out.append(bytes)
+}

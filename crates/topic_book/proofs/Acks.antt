@@ -1,0 +1,42 @@
+-- What ACK makes of the indexes that it names.
+use Rattle.std.proofs.Common.{◌≡◌, ℕ, zero, suc, ◌+◌, ◌<◌, ◌≤◌, Bool, true, false, List, [], ◌∷◌, ◌++◌, length, get_or, drop, refl, ap, sym, ◌∙◌, arith, add-one, append_assoc, append-nil}
+use Rattle.std.specs.Prelude.{max, if◌then◌else◌, Option, Some, None}
+use Rattle.std.specs.List.{All, range_with_len}
+use Rattle.std.specs.Str.{bytes_eq}
+use Rattle.std.proofs.lemmas.List.FromFn.{get_or-range_with_len, length-range_with_len}
+use Rattle.geo_base.specs.declared.change.Change.TheVariants as change
+use Rattle.geo_base.specs.declared.position.Position.{Position}
+use Rattle.geo_base.specs.declared.write.Write.TheVariants as write
+use Rattle.geo_base.specs.Acknowledging.{acks, stored_indexes, with_stored}
+use Rattle.geo_base.specs.Broker.{Broker, Site}
+use Rattle.geo_base.specs.Cursor.{below}
+use Rattle.geo_base.specs.Plan.{plan_of, quiet_plan}
+use Rattle.geo_base.specs.Subscription.{Subscription}
+use Rattle.geo_base.specs.Topic.{index_of}
+use Rattle.topic_book.specs.SubRoom.{IsPlain, need}
+use Rattle.topic_book.proofs.SubTables.{need_to}
+
+pub no_acks : (h : Site) (b : Broker) (s : Subscription) (is : List ℕ) → length is ≡ 0 → acks h b s is ≡ quiet_plan []
+no_acks h b s [] e = refl
+no_acks h b s (i ∷ is) e = absurd (omega arith)
+
+-- no update follows, since the subscription is not replicated
+pub some_acks : (h : Site) (b : Broker) (s : Subscription) (is : List ℕ) → 0 < length is → IsPlain s → acks h b s is ≡ plan_of (write.Acks s.name is ∷ []) (change.Acked s.name ∷ []) []
+some_acks h b s [] n p = absurd (omega arith)
+some_acks h b s (i ∷ is) n p = rw p.local refl
+
+pub acks_to : (h : Site) (b : Broker) (s : Subscription) (i : ℕ) → IsPlain s → acks h b s (below (i + 1)) ≡ plan_of (write.Acks s.name (below (i + 1)) ∷ []) (change.Acked s.name ∷ []) []
+acks_to h b s i p = some_acks h b s (below (i + 1)) (omega (arith, length-range_with_len 0 (i + 1))) p
+
+either : (b : Bool) (m n : ℕ) → m ≤ n → (if b then 1 else m) ≤ max n 1
+either true m n h = omega arith
+either false m n h = omega arith
+
+pub need_most : (is : List ℕ) (n : ℕ) → length is ≤ n → need is ≤ max n 1
+need_most is n h = either (bytes_eq is (below (length is))) (length is) n h
+
+pub need_one : (i n : ℕ) → need (below (i + 1)) ≤ max n 1
+need_one i n = omega (arith, need_to i)
+
+pub all_within : (i n : ℕ) → i < n → All (λ j. j < n) (below (i + 1))
+all_within i n h k d l = omega (arith, get_or-range_with_len 0 (i + 1) k d (omega (arith, length-range_with_len 0 (i + 1))), length-range_with_len 0 (i + 1))

@@ -1,0 +1,13 @@
+use Rattle.std.proofs.Common.{◌≡◌, ◌≤◌, ◌<◌, ℕ, ap, sym, ◌∙◌, arith}
+use Rattle.std.specs.Prelude.{length}
+use Rattle.topic_book.specs.Room.{BrokerBook}
+use Rattle.topic_book.proofs.SubTables.{ack_to_within}
+use Rattle.topic_book.proofs.book.Book.write_one.Goals as goal
+
+pub step-requires-in-AckTo-clause-fits : goal.step-requires-in-AckTo-clause-fits
+step-requires-in-AckTo-clause-fits c =
+    let acks = rw c.in-AckTo.is at c.requires.acks in
+    let fits = rw c.in-AckTo.is at c.requires.fits in
+    let room = ap (λ (b : BrokerBook). b.room.acks) c.self.view_is in
+    let entries = ap (λ (b : BrokerBook). length b.broker.entries) c.self.view_is in
+    ack_to_within c.in-AckTo.index _ _ _ _ acks fits (omega (arith, room, c.self.invariant.in_cursors)) (omega (arith, entries, c.len-len.ensures, c.self.inside.entries.ok.0))

@@ -1,0 +1,15 @@
+use Rattle.std.proofs.Common.{◌≡◌, rules}
+use Rattle.std.specs.Prelude.{not, ◌==◌}
+use Rattle.std.specs.List.{filter}
+use Rattle.std.proofs.lemmas.Fn.{filter_same}
+use Rattle.topic_book.proofs.SubLists.{ascending_filter}
+use Rattle.topic_book.proofs.subscription.parts.take_out.Goals as goal
+
+pub returns-clause-items : goal.returns-clause-items
+returns-clause-items c = filter_same _ _ _ (λ x b f' k. search rules) _ _ c.retain.ensures.filtered
+
+pub returns-clause-ascending : goal.returns-clause-ascending
+returns-clause-ascending c =
+    let kept : c.retain.new.self.items ≡ filter (λ j. not (j == c.args.index)) c.args.due.now.items =
+    filter_same _ _ _ (λ x b f' k. search rules) _ _ c.retain.ensures.filtered in
+    rw kept (ascending_filter (λ j. not (j == c.args.index)) c.args.due.now.items c.requires)

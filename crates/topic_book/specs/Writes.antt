@@ -1,0 +1,31 @@
+-- The machine's writes that a book's writes stand for, and what room they need.
+use Rattle.std.specs.Prelude.{ℕ, ◌+◌, ◌≤◌, List, [], ◌∷◌, false, ⊤}
+use Rattle.geo_base.specs.declared.frame.SubKind.TheVariants as sub_kind
+use Rattle.geo_base.specs.declared.write.Write.{Write}
+use Rattle.geo_base.specs.declared.write.Write.TheVariants as write
+use Rattle.geo_base.specs.Cursor.{below}
+use Rattle.topic_book.specs.SubRoom.{IsFresh, need}
+use Rattle.topic_book.specs.declared.write.BookWrite.{BookWrite}
+use Rattle.topic_book.specs.declared.write.BookWrite.TheVariants as book_write
+
+abbrev pub machine_write : BookWrite → Write
+machine_write (book_write.Append e) = write.Append e
+machine_write (book_write.Create s latest) = write.Create s.sub.name sub_kind.Exclusive false latest
+machine_write (book_write.Acks n is) = write.Acks n is
+machine_write (book_write.AckTo n i) = write.Acks n (below (i + 1))
+machine_write (book_write.SenderAck y i) = write.SenderAck y i
+machine_write (book_write.SessionNumber y n) = write.SessionNumber y n
+
+abbrev pub IsReady : BookWrite → Type 0
+IsReady (book_write.Create s latest) = IsFresh s
+IsReady w = ⊤
+
+-- how many acknowledged indexes a write needs room for in a cursor
+abbrev pub need_of : Write → ℕ
+need_of (write.Acks n is) = need is
+need_of w = 0
+
+-- a list of writes begins with the one that needs room for acknowledged indexes, if one does
+abbrev pub AcksFit : ℕ → List Write → Type 0
+AcksFit acks [] = ⊤
+AcksFit acks (w ∷ ws) = (need_of w ≤ acks) × AcksFit 0 ws
