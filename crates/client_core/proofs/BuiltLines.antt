@@ -9,8 +9,8 @@ use Rattle.client_core.specs.BuiltLine.{is_built_line}
 pub is_built : (l : Line) → IsClientLine l → is_built_line l ≡ true
 is_built line.Produce h = refl
 is_built (line.Pub seq to key text) h =
-    let short : nat_le (length text) 1024 ≡ true = grind (arith, nat_tests, h.2.short) in
-    rw (h.1, short) refl
+    let short : nat_le (length text) 1024 ≡ true = grind (arith, nat_tests, h.short) in
+    rw (h.name, short) refl
 is_built (line.Sub n kind earliest replicated) h = absurd h
 is_built (line.Flow permits) h = refl
 is_built (line.Ack i) h = refl
