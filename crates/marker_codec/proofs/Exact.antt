@@ -1,5 +1,5 @@
 -- What markers hold is judged exactly.
-use Rattle.std.proofs.Common.{◌≡◌, ◌≢◌, ℕ, List}
+use Rattle.std.proofs.Common.{◌≡◌, ℕ, List}
 use Rattle.pb_fields.specs.declared.message.MessageFault.{MessageFault}
 use Rattle.pb_fields.specs.Embedded.{IsExact, AnyContent, NoFault}
 use Rattle.pb_fields.proofs.Nested.{unread_exact, of_table}

@@ -1,5 +1,5 @@
 -- The lengths of canonical texts are the written machine's sizes.
-use Rattle.std.proofs.Common.{◌≡◌, ℕ, zero, suc, ◌+◌, ◌*◌, ◌/◌, ◌<◌, ◌≤◌, List, [], ◌∷◌, ◌++◌, length, map, refl, sym, ap, ◌∙◌, arith, inl, inr, lt-ltb, le-ltb, length-append}
+use Rattle.std.proofs.Common.{◌≡◌, ℕ, zero, suc, ◌+◌, ◌*◌, ◌/◌, List, [], ◌∷◌, ◌++◌, length, map, refl, ◌∙◌, arith, inl, inr, lt-ltb, le-ltb, length-append}
 use Rattle.std.proofs.lemmas.Bool.{cases_lt}
 use Rattle.geo_base.specs.declared.position.Position.{Position}
 use Rattle.geo_base.specs.declared.marker.ClusterPosition.{ClusterPosition}

@@ -1,5 +1,5 @@
 -- Bytes of a kind have one meaning at most, and one fault at most.
-use Rattle.std.proofs.Common.{◌≡◌, ◌≢◌, ℕ, List, [], ◌∷◌, Option, Some, None, Result, Ok, Err, inl, inr, refl, sym, ap, subst, ◌∙◌, arith}
+use Rattle.std.proofs.Common.{◌≡◌, ℕ, List, [], ◌∷◌, Option, Some, Result, Ok, Err, inl, inr, refl, sym, ap, subst, ◌∙◌, arith}
 use Rattle.std.specs.Prelude.{IfOk, IfErr}
 use Rattle.geo_base.specs.declared.position.Position.{Position}
 use Rattle.pb_fields.specs.declared.field.Field.{Field}
@@ -21,8 +21,8 @@ use Rattle.marker_codec.specs.declared.marker.Marker.{Marker}
 use Rattle.marker_codec.specs.declared.marker.Marker.TheVariants as marker
 use Rattle.marker_codec.specs.declared.marker.ClusterMessageId.{ClusterMessageId}
 use Rattle.marker_codec.specs.Kinds.{kind_number, kind_rows, marker_kind, RightPart, WrongPart}
-use Rattle.marker_codec.specs.Markers.{IsPositionText, IsClusterText, LastHolds, HoldsCluster, AreClusters, SaysRequest, SaysResponse, SaysSnapshot, SaysUpdate, Says, MeansMarker, IsMarkerText}
-use Rattle.marker_codec.specs.Faults.{marker_fault, IsNoKind, WrongMarker, no_kind, no_message, IsWrongOrMemory}
+use Rattle.marker_codec.specs.Markers.{IsPositionText, IsClusterText, LastHolds, HoldsCluster, AreClusters, Says, IsMarkerText}
+use Rattle.marker_codec.specs.Faults.{marker_fault, WrongMarker, no_kind, no_message, IsWrongOrMemory}
 use Rattle.marker_codec.proofs.Exact.{part_exact}
 
 same_bytes : (a b : List ℕ) → ◌≡◌ {A = Option Value} (Some (value.Bytes a)) (Some (value.Bytes b)) → a ≡ b

@@ -1,16 +1,15 @@
 -- The canonical fields of a marker mean it.
-use Rattle.std.proofs.Common.{◌≡◌, ℕ, List, [], ◌∷◌, ◌++◌, Option, Some, None, map, refl, sym, ap, subst, ◌∙◌, arith}
+use Rattle.std.proofs.Common.{◌≡◌, ℕ, List, [], ◌∷◌, Option, Some, map, refl, sym, ap, subst, ◌∙◌, arith}
 use Rattle.std.specs.Prelude.{IsUtf8}
 use Rattle.std.specs.List.{AllByRecursion, last_or}
 use Rattle.geo_base.specs.declared.position.Position.{Position}
-use Rattle.pb_fields.specs.declared.field.Field.{Field}
 use Rattle.pb_fields.specs.declared.field.Value.{Value}
 use Rattle.pb_fields.specs.declared.field.Value.TheVariants as value
 use Rattle.pb_fields.specs.declared.message.Form.TheVariants as form
 use Rattle.pb_fields.specs.declared.message.Row.{Row}
 use Rattle.pb_fields.specs.Canonical.{text}
-use Rattle.pb_fields.specs.Field.{varint_field, bytes_field, IsField}
-use Rattle.pb_fields.specs.Message.{row_of, values, last_value}
+use Rattle.pb_fields.specs.Field.{varint_field, bytes_field}
+use Rattle.pb_fields.specs.Message.{row_of, values}
 use Rattle.pb_fields.specs.Embedded.{Holds, FitsWith, IsMessageWith, AnyContent}
 use Rattle.pb_fields.proofs.Parts.{AllByRecursion-map, fits_row, values-map, values-map_other}
 use Rattle.pb_fields.proofs.Written.{text-is}
@@ -18,8 +17,8 @@ use Rattle.marker_codec.specs.declared.marker.Marker.{Marker}
 use Rattle.marker_codec.specs.declared.marker.Marker.TheVariants as marker
 use Rattle.marker_codec.specs.declared.marker.ClusterMessageId.{ClusterMessageId}
 use Rattle.marker_codec.specs.declared.table.TheConstants.{REQUEST_ROWS, RESPONSE_ROWS, SNAPSHOT_ROWS, UPDATE_ROWS, CLUSTER_ROWS, POSITION_ROWS}
-use Rattle.marker_codec.specs.Kinds.{kind_number, kind_rows, marker_kind, RightPosition, RightCluster, RightInSnapshot, RightPart}
-use Rattle.marker_codec.specs.Markers.{IsPositionText, IsClusterText, LastHolds, HoldsCluster, AreClusters, Says, MeansMarker, IsMarkerText}
+use Rattle.marker_codec.specs.Kinds.{kind_number, marker_kind, RightPosition, RightCluster, RightInSnapshot}
+use Rattle.marker_codec.specs.Markers.{IsPositionText, IsClusterText, AreClusters, MeansMarker, IsMarkerText}
 use Rattle.marker_codec.specs.Canonical.{position_fields, cluster_fields, clusters_fields, canonical_fields, IsPosition, IsCluster, IsMarker}
 
 -- ---- each field fits its row

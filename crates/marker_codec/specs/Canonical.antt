@@ -1,5 +1,5 @@
 -- The canonical text of a marker.
-use Rattle.std.specs.Prelude.{List, [], ◌∷◌, ◌++◌, ℕ, map, IsUtf8}
+use Rattle.std.specs.Prelude.{List, [], ◌∷◌, ℕ, map, IsUtf8}
 use Rattle.std.specs.List.{AllByRecursion}
 use Rattle.geo_base.specs.declared.position.Position.{Position}
 use Rattle.pb_fields.specs.declared.field.Field.{Field}

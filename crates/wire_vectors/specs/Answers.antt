@@ -1,5 +1,5 @@
 -- What is answered for the bytes of a message: the canonical bytes of what they say, or why they say nothing.
-use Rattle.std.specs.Prelude.{◌≡◌, ◌≢◌, ℕ, List, ◌⊎◌}
+use Rattle.std.specs.Prelude.{◌≡◌, ◌≢◌, ℕ, List, Result, Ok, Err, ◌⊎◌}
 use Rattle.pb_fields.specs.declared.field.Field.{Field}
 use Rattle.pb_fields.specs.declared.fault.PbFault.TheVariants as pb
 use Rattle.pb_fields.specs.declared.message.MessageFault.TheVariants as message
@@ -13,13 +13,15 @@ use Rattle.message_meta.specs.Canonical.{canonical_fields}
 use Rattle.marker_codec.specs.declared.fault.MarkerFault.TheVariants as marker_fault
 use Rattle.marker_codec.specs.declared.marker.Marker.{Marker}
 use Rattle.marker_codec.specs.Markers.{IsMarkerText}
-use Rattle.marker_codec.specs.Faults.{WrongMarker}
+use Rattle.marker_codec.specs.Faults.{WrongMarker, IsWrongOrMemory as IsMarkerFaultOrMemory}
 use Rattle.marker_codec.specs.Canonical.{canonical_fields as marker_fields}
 use Rattle.pulsar_commands.specs.declared.command.Command.{Command}
 use Rattle.pulsar_commands.specs.declared.fault.CommandFault.TheVariants as command_fault
 use Rattle.pulsar_commands.specs.Text.{IsCommandText}
-use Rattle.pulsar_commands.specs.Faults.{WrongCommand}
+use Rattle.pulsar_commands.specs.Faults.{WrongCommand, IsFaultOrMemory}
 use Rattle.pulsar_commands.specs.Canonical.{command_text}
+use Rattle.pulsar_frames.specs.declared.fault.FrameFault.{FrameFault}
+use Rattle.pulsar_frames.specs.declared.fault.FrameFault.TheVariants as frame_fault
 use Rattle.pulsar_frames.specs.declared.frame.Frame.{Frame}
 use Rattle.pulsar_frames.specs.Layout.{IsUnfinished}
 use Rattle.pulsar_frames.specs.Frames.{TakesFrame, HasFault}
@@ -41,12 +43,12 @@ IsMetaAnswer bytes a = ⊥
 
 abbrev pub IsMarkerAnswer : ℕ → List ℕ → Answer → Type 0
 IsMarkerAnswer number bytes (answer.Canonical out) = (m : Marker) × IsMarkerText number bytes m × (out ≡ text (marker_fields m))
-IsMarkerAnswer number bytes (answer.NoMarker fault) = (fault ≢ marker_fault.Memory) × WrongMarker number bytes fault
+IsMarkerAnswer number bytes (answer.NoMarker fault) = (fault ≢ marker_fault.Memory) × IsMarkerFaultOrMemory (WrongMarker number bytes) fault
 IsMarkerAnswer number bytes a = ⊥
 
 abbrev pub IsCommandAnswer : List ℕ → Answer → Type 0
 IsCommandAnswer bytes (answer.Canonical out) = (c : Command) × IsCommandText bytes c × (out ≡ command_text c)
-IsCommandAnswer bytes (answer.NoCommand fault) = (fault ≢ command_fault.Memory) × WrongCommand bytes fault
+IsCommandAnswer bytes (answer.NoCommand fault) = (fault ≢ command_fault.Memory) × IsFaultOrMemory (WrongCommand bytes) fault
 IsCommandAnswer bytes a = ⊥
 
 -- The first frame of a stream is written again. What is written has every field, so it can be larger than what was read.
@@ -56,7 +58,13 @@ IsFrameAnswer bytes (answer.NoFrame fault) = HasFault bytes fault ⊎ ((f : Fram
 IsFrameAnswer bytes answer.Incomplete = IsUnfinished bytes
 IsFrameAnswer bytes a = ⊥
 
--- the same of the frame alone
+-- what a reader that has no frame is answered by
+abbrev pub IsNoFrame : Result (Unit {0}) FrameFault → Answer → Type 0
+IsNoFrame (Ok u) answer.Incomplete = Unit {0}
+IsNoFrame (Err why) (answer.NoFrame fault) = (why ≢ frame_fault.Memory) × (fault ≡ why)
+IsNoFrame r a = ⊥
+
+-- the answer for a frame
 abbrev pub IsWritten : Frame → Answer → Type 0
 IsWritten f (answer.Canonical out) = out ≡ frame_text f
 IsWritten f (answer.NoFrame fault) = IsTooLarge (frame_size f) fault

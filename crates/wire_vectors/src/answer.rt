@@ -1,7 +1,7 @@
 //! What a codec says of a message.
 
 ghost use Rattle.std.specs.Prelude.{IfOk};
-ghost use Rattle.wire_vectors.specs.Answers.{IsFieldsAnswer, IsMetaAnswer, IsMarkerAnswer, IsCommandAnswer, IsFrameAnswer, IsWritten, IsAnswer};
+ghost use Rattle.wire_vectors.specs.Answers.{IsFieldsAnswer, IsMetaAnswer, IsMarkerAnswer, IsCommandAnswer, IsFrameAnswer, IsNoFrame, IsWritten, IsAnswer};
 ghost use Rattle.pulsar_frames.specs.Canonical.{IsComplete};
 
 use marker_codec::{Marker, MarkerFault};
@@ -147,12 +147,18 @@ fn frame_answer(alloc: Global, bytes: &[u8]) -> Result<Answer, Memory>
     let answer = reader.feed(bytes);
     match reader.next() {
         Some(frame) => written_frame(alloc, &frame),
-        None => match answer {
-            Ok(()) => Ok(Answer::Incomplete),
-            Err(fault) => match fault {
-                FrameFault::Memory => Err(Memory),
-                _ => Ok(Answer::NoFrame(fault)),
-            },
+        None => no_frame(answer),
+    }
+}
+
+fn no_frame(answer: Result<(), FrameFault>) -> Result<Answer, Memory>
+    ensures { IfOk result (IsNoFrame answer) }
+{
+    match answer {
+        Ok(()) => Ok(Answer::Incomplete),
+        Err(fault) => match fault {
+            FrameFault::Memory => Err(Memory),
+            _ => Ok(Answer::NoFrame(fault)),
         },
     }
 }

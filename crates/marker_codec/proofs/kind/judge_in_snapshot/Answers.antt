@@ -1,4 +1,3 @@
-use Rattle.std.proofs.Common.{List, ℕ}
 use Rattle.pb_fields.proofs.Nested.{err_weaker}
 use Rattle.marker_codec.specs.Kinds.{WrongPosition, WrongCluster, WrongInSnapshot, local, clusters}
 use Rattle.marker_codec.proofs.kind.judge_in_snapshot.Goals as goal

@@ -1,4 +1,4 @@
-use Rattle.std.proofs.Common.{◌≡◌, Err, inl, inr}
+use Rattle.std.proofs.Common.{inl, inr}
 use Rattle.marker_codec.proofs.Exact.{position_exact}
 use Rattle.marker_codec.proofs.read.cluster_of.Goals as goal
 

@@ -1,5 +1,3 @@
-use Rattle.std.proofs.Common.{List, ℕ, subst, sym, ◌∙◌, Result, Ok, Err}
-use Rattle.marker_codec.specs.Kinds.{RightCluster}
 use Rattle.marker_codec.proofs.Clusters.{held_right, held_cluster}
 use Rattle.marker_codec.proofs.read.cluster_of_value.Goals as goal
 

@@ -1,4 +1,4 @@
-use Rattle.std.proofs.Common.{◌≡◌, Err, inl, inr}
+use Rattle.std.proofs.Common.{inl, inr}
 use Rattle.pb_fields.proofs.Nested.{unread_exact}
 use Rattle.marker_codec.proofs.read.position_of.Goals as goal
 

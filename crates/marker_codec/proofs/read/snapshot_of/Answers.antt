@@ -1,4 +1,4 @@
-use Rattle.std.proofs.Common.{List, ℕ, refl, arith}
+use Rattle.std.proofs.Common.{refl, arith}
 use Rattle.pb_fields.specs.Message.{values}
 use Rattle.pb_fields.proofs.Nested.{values_held}
 use Rattle.marker_codec.specs.declared.table.TheConstants.{SNAPSHOT_ROWS}
