@@ -1,12 +1,11 @@
 -- One range in place of some is one more acknowledged index, or all up to one.
-use Rattle.std.proofs.Common.{◌≡◌, ℕ, zero, suc, ◌+◌, ◌-◌, ◌<◌, ◌≤◌, ◌==◌, ◌^◌, nat_lt, Bool, true, false, List, [], ◌∷◌, ◌++◌, inl, inr, length, get_or, take, drop, refl, ap, sym, ◌∙◌, arith}
-use Rattle.std.specs.Prelude.{◌&&◌, ◌||◌, not, nat_le}
+use Rattle.std.proofs.Common.{◌≡◌, ℕ, zero, suc, ◌+◌, true, false, List, inl, inr, refl, ◌∙◌, arith}
 use Rattle.std.proofs.lemmas.Bool.{cases_lt}
 use Rattle.std.proofs.lemmas.Bool.Decides.{nat_tests}
 use Rattle.geo_base.specs.Cursor.{below, has, with_index, with_indexes}
 use Rattle.cursor_acks.specs.declared.range.IndexRange.{IndexRange}
 use Rattle.cursor_acks.specs.Acks.{has_before, stands_alone}
-use Rattle.cursor_acks.specs.Ranges.{AreApart, AreRangesOf, covers, indexes_of, lies_in}
+use Rattle.cursor_acks.specs.Ranges.{covers, indexes_of}
 use Rattle.cursor_acks.specs.Places.{AreKept, Begins, Ends, IsPlace}
 use Rattle.cursor_acks.proofs.Covered.{covers_at, has_indexes, rising_indexes}
 use Rattle.cursor_acks.proofs.Edited.{Fits, covers_edited, edited, edited_kept}
@@ -19,8 +18,8 @@ rising rs h = rising_indexes 0 rs h.apart (λ n d. omega arith)
 pub added_again : (rs : List IndexRange) (i : ℕ) → AreKept rs → covers rs i ≡ true → indexes_of rs ≡ with_index (indexes_of rs) i
 added_again rs i h e =
     same_set 0 (indexes_of rs) (with_index (indexes_of rs) i) (rising rs h) (rising_with_index 0 (indexes_of rs) i (rising rs h) (omega arith)) (λ j.
-      let there : i ≡ j → covers rs j ≡ true = λ f. rw f at e in
-      grind (arith, nat_tests, has_with_index (indexes_of rs) i j, has_indexes rs j, there))
+    let there : i ≡ j → covers rs j ≡ true = λ f. rw f at e in
+    grind (arith, nat_tests, has_with_index (indexes_of rs) i j, has_indexes rs j, there))
 
 pub one_fits : (rs : List IndexRange) (i at from to : ℕ) (r : IndexRange) → AreKept rs → IsPlace rs i at → covers rs i ≡ false → Begins rs i at from r.first → Ends rs i at to r.last → Fits rs from to r
 one_fits rs i at from to r h p out b e = record {
@@ -42,9 +41,9 @@ one_fits rs i at from to r h p out b e = record {
 pub one_added : (rs : List IndexRange) (i at from to : ℕ) (r : IndexRange) → AreKept rs → Fits rs from to r → Begins rs i at from r.first → Ends rs i at to r.last → indexes_of (edited rs from to r) ≡ with_index (indexes_of rs) i
 one_added rs i at from to r h f b e =
     same_set 0 (indexes_of (edited rs from to r)) (with_index (indexes_of rs) i) (rising (edited rs from to r) (edited_kept rs from to r h f)) (rising_with_index 0 (indexes_of rs) i (rising rs h) (omega arith)) (λ j.
-      has_indexes (edited rs from to r) j
-      ∙ covers_edited rs from to r j f
-      ∙ grind (arith, nat_tests, has_with_index (indexes_of rs) i j, has_indexes rs j, b.held j, e.held j, b.reached, e.reached))
+    has_indexes (edited rs from to r) j
+    ∙ covers_edited rs from to r j f
+    ∙ grind (arith, nat_tests, has_with_index (indexes_of rs) i j, has_indexes rs j, b.held j, e.held j, b.reached, e.reached))
 
 before_out : (set : List ℕ) (i : ℕ) → ((j : ℕ) → j + 1 ≡ i → has set j ≡ false) → has_before set i ≡ false
 before_out set zero h = refl
@@ -77,6 +76,6 @@ all_fit rs i at to r z p e = record {
 pub all_added : (rs : List IndexRange) (i at to : ℕ) (r : IndexRange) → r.first ≡ 0 → AreKept rs → Fits rs 0 to r → Ends rs i at to r.last → indexes_of (edited rs 0 to r) ≡ with_indexes (indexes_of rs) (below (i + 1))
 all_added rs i at to r z h f e =
     same_set 0 (indexes_of (edited rs 0 to r)) (with_indexes (indexes_of rs) (below (i + 1))) (rising (edited rs 0 to r) (edited_kept rs 0 to r h f)) (rising_with_indexes (indexes_of rs) (below (i + 1)) (rising rs h)) (λ j.
-      has_indexes (edited rs 0 to r) j
-      ∙ covers_edited rs 0 to r j f
-      ∙ grind (arith, nat_tests, has_with_indexes (indexes_of rs) (below (i + 1)) j, has_range 0 (i + 1) j, has_indexes rs j, e.held j, e.reached, z))
+    has_indexes (edited rs 0 to r) j
+    ∙ covers_edited rs 0 to r j f
+    ∙ grind (arith, nat_tests, has_with_indexes (indexes_of rs) (below (i + 1)) j, has_range 0 (i + 1) j, has_indexes rs j, e.held j, e.reached, z))

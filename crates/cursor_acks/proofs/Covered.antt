@@ -1,11 +1,11 @@
 -- What ranges cover.
-use Rattle.std.proofs.Common.{◌≡◌, ℕ, zero, suc, ◌+◌, ◌-◌, ◌<◌, ◌≤◌, ◌==◌, nat_lt, Bool, true, false, List, [], ◌∷◌, ◌++◌, length, get_or, take, drop, refl, ap, sym, ◌∙◌, arith}
-use Rattle.std.specs.Prelude.{◌&&◌, ◌||◌, not, nat_le, if◌then◌else◌}
+use Rattle.std.proofs.Common.{◌≡◌, ℕ, zero, suc, ◌+◌, ◌-◌, ◌<◌, ◌≤◌, true, false, List, [], ◌∷◌, ◌++◌, length, get_or, refl, arith}
+use Rattle.std.specs.Prelude.{◌||◌}
 use Rattle.std.specs.List.{range_with_len}
 use Rattle.std.proofs.lemmas.Bool.Decides.{nat_tests}
 use Rattle.geo_base.specs.Cursor.{has}
 use Rattle.cursor_acks.specs.declared.range.IndexRange.{IndexRange}
-use Rattle.cursor_acks.specs.Ranges.{AreApart, covers, indexes_of, lies_in}
+use Rattle.cursor_acks.specs.Ranges.{AreApart, covers, indexes_of}
 use Rattle.cursor_acks.proofs.Sets.{Rising, has_append, has_range, rising_range}
 
 pub covers_at : (rs : List IndexRange) (k : ℕ) (d : IndexRange) (i : ℕ) → k < length rs → (get_or rs k d).first ≤ i → i ≤ (get_or rs k d).last → covers rs i ≡ true

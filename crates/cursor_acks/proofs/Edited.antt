@@ -1,17 +1,14 @@
 -- What one range in place of some makes of the ranges.
-use Rattle.std.proofs.Common.{◌≡◌, ℕ, zero, suc, ◌+◌, ◌-◌, ◌<◌, ◌≤◌, ◌==◌, ◌^◌, nat_lt, Bool, true, false, List, [], ◌∷◌, inl, inr, ◌++◌, length, get_or, take, drop, refl, ap, sym, ◌∙◌, arith}
-use Rattle.std.specs.Prelude.{◌&&◌, ◌||◌, not, nat_le}
+use Rattle.std.proofs.Common.{◌≡◌, ℕ, suc, ◌+◌, ◌-◌, ◌<◌, ◌≤◌, ◌^◌, true, false, List, ◌∷◌, inl, inr, ◌++◌, length, get_or, take, drop, refl, sym, ◌∙◌, arith}
+use Rattle.std.specs.Prelude.{◌||◌}
 use Rattle.std.specs.List.{AllWithin}
 use Rattle.std.proofs.lemmas.Bool.{cases_lt, cases_order, true≢false}
 use Rattle.std.proofs.lemmas.Bool.Decides.{nat_tests}
-use Rattle.std.proofs.lemmas.List.{get_or-append-add, get_or-drop, get_or-take, get_or_append_left, get_or_at, get_or_default, length-append, length-drop, length-take-le}
-use Rattle.geo_base.specs.Cursor.{below, has, with_index, with_indexes}
+use Rattle.std.proofs.lemmas.List.{get_or-append-add, get_or-drop, get_or-take, get_or_append_left, get_or_at, length-append, length-drop, length-take-le}
 use Rattle.cursor_acks.specs.declared.range.IndexRange.{IndexRange}
-use Rattle.cursor_acks.specs.Acks.{has_before, stands_alone}
-use Rattle.cursor_acks.specs.Ranges.{AreApart, AreRangesOf, covers, indexes_of, lies_in}
-use Rattle.cursor_acks.specs.Places.{AreKept, Begins, Ends, IsPlace}
-use Rattle.cursor_acks.proofs.Covered.{covers_append, covers_at, has_indexes, rising_indexes, uncovered}
-use Rattle.cursor_acks.proofs.Sets.{has_range, has_with_index, has_with_indexes, rising_with_index, rising_with_indexes, same_set}
+use Rattle.cursor_acks.specs.Ranges.{covers, lies_in}
+use Rattle.cursor_acks.specs.Places.{AreKept}
+use Rattle.cursor_acks.proofs.Covered.{covers_at, uncovered}
 
 -- a range fits in place of those from one place to before another
 pub record Fits (rs : List IndexRange) (from to : ℕ) (r : IndexRange) : Type 0 where
@@ -65,10 +62,10 @@ edited_gaps rs from to r h f j k d jk lt =
       | inl same ↦ rw (at_own rs from to r d k same le, at_low rs from to r d j (omega arith) le) (f.low j d (omega arith) (omega arith))
       | inr (inl low) ↦ rw (at_low rs from to r d k low le, at_low rs from to r d j (omega arith) le) (h.apart.gaps j k d jk (omega arith))
       | inr (inr high) ↦ rw (at_high rs from to r d k (k - from - 1) (past k from to high) le) (elim (cases_order j from) [
-          | inl same ↦ rw (at_own rs from to r d j same le) (f.high (to + (k - from - 1)) d (omega arith) (far high))
-          | inr (inl low) ↦ rw (at_low rs from to r d j low le) (h.apart.gaps j (to + (k - from - 1)) d (omega (arith, f.order)) (far high))
-          | inr (inr above) ↦ rw (at_high rs from to r d j (j - from - 1) (past j from to above) le) (h.apart.gaps (to + (j - from - 1)) (to + (k - from - 1)) d (omega arith) (far high))
-        ])
+        | inl same ↦ rw (at_own rs from to r d j same le) (f.high (to + (k - from - 1)) d (omega arith) (far high))
+        | inr (inl low) ↦ rw (at_low rs from to r d j low le) (h.apart.gaps j (to + (k - from - 1)) d (omega (arith, f.order)) (far high))
+        | inr (inr above) ↦ rw (at_high rs from to r d j (j - from - 1) (past j from to above) le) (h.apart.gaps (to + (j - from - 1)) (to + (k - from - 1)) d (omega arith) (far high))
+      ])
     ]
 
 pub edited_kept : (rs : List IndexRange) (from to : ℕ) (r : IndexRange) → AreKept rs → Fits rs from to r → AreKept (edited rs from to r)
@@ -100,9 +97,9 @@ old_covered rs from to r j f out =
       | inr high ↦ elim (cases_lt k to) [
         | inl mid ↦ let in' = f.joined k d high mid in joined (grind (arith, nat_tests, in'.0, in'.1, a, b))
         | inr past' ↦
-          let same = at_high rs from to r d (from + suc (k - to)) (k - to) refl le in
-          let there : to + (k - to) ≡ k = omega arith in
-          yes (from + suc (k - to)) d (omega (arith, len, f.order, f.within)) (rw (same, there) a) (rw (same, there) b)
+            let same = at_high rs from to r d (from + suc (k - to)) (k - to) refl le in
+            let there : to + (k - to) ≡ k = omega arith in
+            yes (from + suc (k - to)) d (omega (arith, len, f.order, f.within)) (rw (same, there) a) (rw (same, there) b)
       ]
     ])
 
@@ -114,13 +111,13 @@ none_covered rs from to r j f other out =
     λ k d n a b. true≢false (sym (covers_at rs k d j n a b) ∙ out) in
     uncovered (edited rs from to r) j (λ k d n a b. elim (cases_order k from) [
       | inl same ↦
-        let low : r.first ≤ j = rw (at_own rs from to r d k same le) at a in
-        let high : j ≤ r.last = rw (at_own rs from to r d k same le) at b in
-        true≢false (grind (arith, nat_tests, other, low, high))
+          let low : r.first ≤ j = rw (at_own rs from to r d k same le) at a in
+          let high : j ≤ r.last = rw (at_own rs from to r d k same le) at b in
+          true≢false (grind (arith, nat_tests, other, low, high))
       | inr (inl low) ↦ yes k d (omega (arith, le)) (rw (at_low rs from to r d k low le) at a) (rw (at_low rs from to r d k low le) at b)
       | inr (inr high) ↦
-        let same = at_high rs from to r d k (k - from - 1) (past k from to high) le in
-        yes (to + (k - from - 1)) d (omega (arith, len)) (rw same at a) (rw same at b)
+          let same = at_high rs from to r d k (k - from - 1) (past k from to high) le in
+          yes (to + (k - from - 1)) d (omega (arith, len)) (rw same at a) (rw same at b)
     ])
 
 pub covers_edited : (rs : List IndexRange) (from to : ℕ) (r : IndexRange) (j : ℕ) → Fits rs from to r → covers (edited rs from to r) j ≡ (lies_in r j || covers rs j)

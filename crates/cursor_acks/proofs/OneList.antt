@@ -1,17 +1,15 @@
 -- A set has one list of ranges.
-use Rattle.std.proofs.Common.{◌≡◌, ℕ, zero, suc, ◌+◌, ◌-◌, ◌<◌, ◌≤◌, ◌==◌, nat_lt, Bool, true, false, List, [], ◌∷◌, ◌++◌, length, get_or, take, drop, refl, ap, sym, ◌∙◌, arith}
-use Rattle.std.specs.Prelude.{◌&&◌, ◌||◌, not, nat_le}
+use Rattle.std.proofs.Common.{◌≡◌, ℕ, suc, ◌+◌, ◌<◌, ◌≤◌, true, false, List, [], ◌∷◌, refl, ap, sym, ◌∙◌, arith}
 use Rattle.std.proofs.lemmas.Bool.Decides.{nat_tests}
-use Rattle.geo_base.specs.Cursor.{has}
 use Rattle.cursor_acks.specs.declared.range.IndexRange.{IndexRange}
-use Rattle.cursor_acks.specs.Ranges.{AreApart, AreRangesOf, covers, lies_in}
+use Rattle.cursor_acks.specs.Ranges.{AreApart, AreRangesOf, covers}
 use Rattle.cursor_acks.proofs.Covered.{apart_tail, uncovered}
 
 -- nothing below the first range is covered
 covered_from : (r : IndexRange) (rs : List IndexRange) (i : ℕ) → AreApart (r ∷ rs) → covers (r ∷ rs) i ≡ true → r.first ≤ i
 covered_from r rs i h e =
     let low : i < r.first → covers (r ∷ rs) i ≡ false =
-        λ lt. uncovered (r ∷ rs) i (λ k d n a b. grind (arith, h.gaps 0 k d, h.each 0 d)) in
+    λ lt. uncovered (r ∷ rs) i (λ k d n a b. grind (arith, h.gaps 0 k d, h.each 0 d)) in
     grind (arith, low, e)
 
 -- nor is what lies right behind it, nor what it covers by the others

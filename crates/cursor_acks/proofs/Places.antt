@@ -1,13 +1,12 @@
 -- What a place tells of an index, and what the two ends of its range tell.
-use Rattle.std.proofs.Common.{◌≡◌, ℕ, zero, suc, ◌+◌, ◌-◌, ◌<◌, ◌≤◌, ◌==◌, ◌^◌, nat_lt, Bool, true, false, List, [], ◌∷◌, ◌++◌, length, get_or, take, drop, refl, ap, sym, ◌∙◌, arith}
-use Rattle.std.specs.Prelude.{◌&&◌, ◌||◌, not, nat_le}
+use Rattle.std.proofs.Common.{◌≡◌, ℕ, ◌+◌, ◌-◌, ◌<◌, ◌≤◌, ◌^◌, nat_lt, true, false, List, length, get_or, ap, arith}
+use Rattle.std.specs.Prelude.{nat_le}
 use Rattle.std.proofs.lemmas.Bool.{ltb-true, ltb-false}
 use Rattle.std.proofs.lemmas.Bool.Decides.{nat_tests}
 use Rattle.std.proofs.lemmas.List.{get_or_default}
 use Rattle.std.specs.List.Sorted.{IsNonDecreasingBy, IsPartitionPoint}
-use Rattle.geo_base.specs.Cursor.{has}
 use Rattle.cursor_acks.specs.declared.range.IndexRange.{IndexRange}
-use Rattle.cursor_acks.specs.Ranges.{AreApart, AreRangesOf, covers, lies_in}
+use Rattle.cursor_acks.specs.Ranges.{covers}
 use Rattle.cursor_acks.specs.Places.{AreKept, Begins, Ends, IsPlace}
 use Rattle.cursor_acks.proofs.Covered.{covers_at, uncovered}
 
@@ -48,10 +47,10 @@ ends_before rs i at e h p other k d b =
     let le : at ≤ length rs = p.within in
     let low : (get_or rs k d).last < i = p.before k d (omega arith) b in
     let at_last : at - 1 ≡ k → (get_or rs k d).last + 1 < i = λ f.
-        let o : (get_or rs k d).last + 1 ≡ i → ⊥ = rw (f, get_or_default rs k e d (omega arith)) at (other (omega arith)) in
-        omega (arith, o) in
+    let o : (get_or rs k d).last + 1 ≡ i → ⊥ = rw (f, get_or_default rs k e d (omega arith)) at (other (omega arith)) in
+    omega (arith, o) in
     let lower : k < at - 1 → (get_or rs k d).last + 1 < i = λ lt.
-        omega (arith, h.apart.gaps k (at - 1) d lt (omega arith), h.apart.each (at - 1) d (omega arith), p.before (at - 1) d (omega arith) (omega arith)) in
+    omega (arith, h.apart.gaps k (at - 1) d lt (omega arith), h.apart.each (at - 1) d (omega arith), p.before (at - 1) d (omega arith) (omega arith)) in
     grind (arith, at_last, lower)
 
 pub begins_here : (rs : List IndexRange) (i at : ℕ) (e : IndexRange) → AreKept rs → IsPlace rs i at → covers rs i ≡ false → (0 < at → (get_or rs (at - 1) e).last + 1 ≡ i → ⊥) → Begins rs i at at i
@@ -86,10 +85,10 @@ ends_joined rs i at e h p n le =
 begins_after : (rs : List IndexRange) (i at : ℕ) (e : IndexRange) → AreKept rs → IsPlace rs (i + 1) at → (at < length rs → i + 1 < (get_or rs at e).first) → (k : ℕ) (d : IndexRange) → at ≤ k → k < length rs → i + 1 < (get_or rs k d).first
 begins_after rs i at e h p out k d a b =
     let at_first : at ≡ k → i + 1 < (get_or rs k d).first = λ f.
-        let o : i + 1 < (get_or rs k d).first = rw (f, get_or_default rs k e d b) at (out (omega arith)) in
-        o in
+    let o : i + 1 < (get_or rs k d).first = rw (f, get_or_default rs k e d b) at (out (omega arith)) in
+    o in
     let higher : at < k → i + 1 < (get_or rs k d).first = λ lt.
-        omega (arith, h.apart.gaps at k d lt b, p.after at d (omega arith) (omega arith)) in
+    omega (arith, h.apart.gaps at k d lt b, p.after at d (omega arith) (omega arith)) in
     grind (arith, at_first, higher)
 
 pub ends_here : (rs : List IndexRange) (i at : ℕ) (e : IndexRange) → i + 1 < 2 ^ 64 → AreKept rs → IsPlace rs (i + 1) at → (at < length rs → i + 1 < (get_or rs at e).first) → Ends rs i at at i
@@ -111,7 +110,7 @@ ends_here rs i at e fits h p out =
 pub held : (rs : List IndexRange) (i at : ℕ) (e : IndexRange) → AreKept rs → IsPlace rs i at → at < length rs → nat_le (get_or rs at e).first i ≡ covers rs i
 held rs i at e h p n =
     let out : i < (get_or rs at e).first → covers rs i ≡ false = λ lt.
-        place_out rs i at h p (λ d _. omega (arith, lt, ap (λ (r : IndexRange). r.first) (get_or_default rs at d e n))) in
+    place_out rs i at h p (λ d _. omega (arith, lt, ap (λ (r : IndexRange). r.first) (get_or_default rs at d e n))) in
     grind (arith, nat_tests, out, place_in rs i at e h p n)
 
 pub not_held : (rs : List IndexRange) (i at : ℕ) → AreKept rs → IsPlace rs i at → length rs ≤ at → nat_lt at (length rs) ≡ covers rs i

@@ -1,6 +1,6 @@
 -- Two ascending lists with the same members are one list.
-use Rattle.std.proofs.Common.{◌≡◌, ℕ, zero, suc, ◌+◌, ◌<◌, ◌≤◌, ◌==◌, nat_lt, Bool, true, false, List, [], ◌∷◌, ◌++◌, length, refl, ap, sym, ◌∙◌, arith}
-use Rattle.std.specs.Prelude.{◌&&◌, ◌||◌, not, nat_le, if◌then◌else◌}
+use Rattle.std.proofs.Common.{◌≡◌, ℕ, zero, suc, ◌+◌, ◌<◌, ◌≤◌, ◌==◌, nat_lt, true, false, List, [], ◌∷◌, ◌++◌, refl, ap, sym, ◌∙◌, arith}
+use Rattle.std.specs.Prelude.{◌&&◌, ◌||◌, nat_le, if◌then◌else◌}
 use Rattle.std.specs.List.{range_with_len}
 use Rattle.std.proofs.lemmas.Bool.{cond_both}
 use Rattle.std.proofs.lemmas.Bool.Decides.{nat_tests}
@@ -78,3 +78,9 @@ rising_range low a zero xs le h = rising_higher (a + 0) low xs (omega arith) h
 rising_range low a (suc n) xs le h =
     let more : a + suc n ≡ a + 1 + n = omega arith in
     (le, rising_range (a + 1) (a + 1) n xs (omega arith) (rw more at h))
+
+pub has_up_to : (set : List ℕ) (i j : ℕ) → has (with_indexes set (below (i + 1))) j ≡ (nat_le j i || has set j)
+has_up_to set i j = grind (arith, nat_tests, has_with_indexes set (below (i + 1)) j, has_range 0 (i + 1) j)
+
+pub has_all : (len j : ℕ) → has (below len) j ≡ nat_lt j len
+has_all len j = grind (arith, nat_tests, has_range 0 len j)

@@ -24,3 +24,7 @@ pub record IsFirstOpen (set : List ℕ) (from i : ℕ) : Type 0 where
 -- the index, where it is below an end
 abbrev pub if_below : ℕ → ℕ → Option ℕ
 if_below i end = if nat_lt i end then Some i else None
+
+-- all that is acknowledged is below a length
+abbrev pub AreBelow : ℕ → List ℕ → Type 0
+AreBelow len set = (i : ℕ) → has set i ≡ true → i < len

@@ -1,5 +1,5 @@
 //! A cursor.
-ghost use Rattle.std.specs.Prelude.{◌≡◌, ◌≤◌, ◌<◌, ◌+◌, ℕ, [], true, false, IfOk, OnOk, IfErr, OnErr};
+ghost use Rattle.std.specs.Prelude.{◌≡◌, ◌≤◌, ◌<◌, ◌+◌, ◌-◌, ℕ, [], true, false, IfOk, OnOk, IfErr, OnErr};
 ghost use Rattle.geo_base.specs.Cursor.{below, has, mark, next_open, with_index, with_indexes};
 ghost use Rattle.cursor_acks.specs.Acks.{IsFirstOpen, if_below, stands_alone};
 ghost use Rattle.cursor_acks.specs.Ranges.{AreRangesOf};
@@ -87,9 +87,7 @@ impl Cursor {
         ensures past_end { IfErr result (λ e. (len ≤ index) × (e ≡ record { index = index; len = len })) }
         ensures err { OnErr result (self.new ≡ self.old) }
     {
-        if index >= len {
-            return Err(PastEnd { index, len });
-        }
+        test_below(index, len)?;
         self.ranges.add(index);
         Ok(())
     }
@@ -104,16 +102,15 @@ impl Cursor {
         ensures past_end { IfErr result (λ e. (len ≤ index) × (e ≡ record { index = index; len = len })) }
         ensures err { OnErr result (self.new ≡ self.old) }
     {
-        if index >= len {
-            return Err(PastEnd { index, len });
-        }
+        test_below(index, len)?;
         self.ranges.add_to(index);
         Ok(())
     }
 
     /// The mark-delete: how many indexes from 0 on are all acknowledged.
     pub fn mark_delete(&self) -> u64
-        ensures { result ≡ mark self.now.indexes }
+        ensures mark { result ≡ mark self.now.indexes }
+        ensures least { IsFirstOpen self.now.indexes 0 result }
     {
         let ranges = self.ranges.as_slice();
         if !ranges.is_empty() && ranges[0].first == 0 {
@@ -133,7 +130,7 @@ impl Cursor {
     /// The least index at or after `from` that is not acknowledged; it may be the topic's length or past it.
     pub fn next_open(&self, from: u64) -> u64
         ensures least { IsFirstOpen self.now.indexes from result }
-        ensures machine { (more : ℕ) → next_open self.now.indexes from more ≡ if_below result (from + more) }
+        ensures below { (end : ℕ) → next_open self.now.indexes from (end - from) ≡ if_below result end }
     {
         let ranges = self.ranges.as_slice();
         let at = place_of(ranges, from);
@@ -159,4 +156,15 @@ impl Cursor {
             Err(_) => Err(Memory),
         }
     }
+}
+
+/// Whether an index has an entry in a topic of `len` entries.
+fn test_below(index: u64, len: u64) -> Result<(), PastEnd>
+    ensures ok { OnOk result (index < len) }
+    ensures past_end { IfErr result (λ e. (len ≤ index) × (e ≡ record { index = index; len = len })) }
+{
+    if index >= len {
+        return Err(PastEnd { index, len });
+    }
+    Ok(())
 }

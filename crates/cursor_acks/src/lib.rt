@@ -12,7 +12,7 @@ mod range;
 mod search;
 
 pub use cursor::{Cursor, PastEnd};
-pub use laws::one_list_of_ranges;
+pub use laws::{acks_add, acks_stay_below, one_list_of_ranges};
 pub use range::{IndexRange, RangeList};
 
 #[cfg(test)]

@@ -5,99 +5,119 @@ use rand_pcg::Pcg32;
 use std::alloc::{AllocError, Global};
 use std::test::Fail;
 
-/// The ranges of a cursor, one after another, as `0-0 2-3`.
-fn described(alloc: Global, cursor: &Cursor) -> Result<String, AllocError> {
+/// A call: an acknowledgement of one index, or of all up to one.
+enum Call {
+    One(u64),
+    To(u64),
+}
+
+/// Calls on a topic of `len` entries, and what the cursor then says.
+struct Row {
+    len: u64,
+    calls: &'static [Call],
+    said: &'static str,
+}
+
+/// A cursor after calls.
+fn after(alloc: Global, len: u64, calls: &[Call]) -> Result<Cursor, Memory> {
+    let mut cursor = Cursor::none(alloc);
+    for call in calls {
+        cursor.reserve(1)?;
+        let _answer = match call {
+            Call::One(index) => cursor.ack_one(*index, len),
+            Call::To(index) => cursor.ack_to(*index, len),
+        };
+    }
+    cursor.copy(alloc)
+}
+
+/// A cursor's ranges, its mark-delete, and the next open indexes from 0, 2 and 4.
+fn said(alloc: Global, cursor: &Cursor) -> Result<String, AllocError> {
     let mut text = String::new(alloc);
     for range in cursor.ranges().as_slice() {
         let first = range.first;
         let last = range.last;
         write!(&mut text, "{first}-{last} ")?;
     }
+    let mark = cursor.mark_delete();
+    let zero = cursor.next_open(0);
+    let two = cursor.next_open(2);
+    let four = cursor.next_open(4);
+    write!(&mut text, "mark {mark} open {zero} {two} {four}")?;
     Ok(text)
 }
 
-/// A cursor after calls: `(true, index)` acknowledges up to an index, `(false, index)` one.
-fn after(alloc: Global, len: u64, calls: &[(bool, u64)]) -> Result<Cursor, Memory> {
-    let mut cursor = Cursor::none(alloc);
-    for (up_to, index) in calls {
-        cursor.reserve(1)?;
-        let _answer = if *up_to {
-            cursor.ack_to(*index, len)
-        } else {
-            cursor.ack_one(*index, len)
-        };
-    }
-    Ok(cursor)
-}
-
-/// Calls on a cursor over a length, its ranges, its mark-delete, and the first open index from 0, 2 and 4.
-const TABLE: [(u64, &[(bool, u64)], &str, u64, [u64; 3]); 10] = [
-    (5, &[], "", 0, [0, 2, 4]),
-    (
-        5,
-        &[(false, 0), (false, 2), (false, 3)],
-        "0-0 2-3 ",
-        1,
-        [1, 4, 4],
-    ),
-    (
-        5,
-        &[(false, 0), (false, 2), (false, 3), (false, 5)],
-        "0-0 2-3 ",
-        1,
-        [1, 4, 4],
-    ),
-    (
-        5,
-        &[(false, 0), (false, 2), (false, 3), (true, 1)],
-        "0-3 ",
-        4,
-        [4, 4, 4],
-    ),
-    (5, &[(true, 4)], "0-4 ", 5, [5, 5, 5]),
-    (5, &[(true, 5)], "", 0, [0, 2, 4]),
-    (
-        5,
-        &[(false, 4), (false, 2), (false, 3)],
-        "2-4 ",
-        0,
-        [0, 5, 5],
-    ),
-    (5, &[(false, 2), (false, 2)], "2-2 ", 0, [0, 3, 4]),
-    (5, &[(false, 4), (true, 2)], "0-2 4-4 ", 3, [3, 3, 5]),
-    (
-        u64::MAX,
-        &[(false, u64::MAX), (false, u64::MAX - 1)],
-        "18446744073709551614-18446744073709551614 ",
-        0,
-        [0, 2, 4],
-    ),
+const TABLE: [Row; 9] = [
+    Row {
+        len: 5,
+        calls: &[],
+        said: "mark 0 open 0 2 4",
+    },
+    Row {
+        len: 5,
+        calls: &[Call::One(0), Call::One(2), Call::One(3)],
+        said: "0-0 2-3 mark 1 open 1 4 4",
+    },
+    // 5 is past the end
+    Row {
+        len: 5,
+        calls: &[Call::One(0), Call::One(2), Call::One(5), Call::To(5)],
+        said: "0-0 2-2 mark 1 open 1 3 4",
+    },
+    Row {
+        len: 5,
+        calls: &[Call::One(0), Call::One(2), Call::One(3), Call::To(1)],
+        said: "0-3 mark 4 open 4 4 4",
+    },
+    Row {
+        len: 5,
+        calls: &[Call::To(4)],
+        said: "0-4 mark 5 open 5 5 5",
+    },
+    Row {
+        len: 5,
+        calls: &[Call::One(4), Call::One(2), Call::One(3)],
+        said: "2-4 mark 0 open 0 5 5",
+    },
+    Row {
+        len: 5,
+        calls: &[Call::One(2), Call::One(2)],
+        said: "2-2 mark 0 open 0 3 4",
+    },
+    Row {
+        len: 5,
+        calls: &[Call::One(4), Call::To(2)],
+        said: "0-2 4-4 mark 3 open 3 3 5",
+    },
+    // the greatest index of the greatest length
+    Row {
+        len: u64::MAX,
+        calls: &[Call::One(u64::MAX), Call::One(u64::MAX - 1)],
+        said: "18446744073709551614-18446744073709551614 mark 0 open 0 2 4",
+    },
 ];
 
 #[test]
 fn calls_leave_their_ranges(rt: HostRuntime) -> Result<(), Fail> {
-    for (len, calls, ranges, mark, open) in TABLE {
-        let cursor = after(rt.alloc(), len, calls)?;
-        let cursor = cursor.copy(rt.alloc())?;
-        assert_eq!(rt; described(rt.alloc(), &cursor)?.as_str(), ranges);
-        assert_eq!(rt; cursor.mark_delete(), mark, "{ranges}");
-        let found = [
-            cursor.next_open(0),
-            cursor.next_open(2),
-            cursor.next_open(4),
-        ];
-        assert_eq!(rt; found, open, "{ranges}");
+    for row in TABLE.iter() {
+        let cursor = after(rt.alloc(), row.len, row.calls)?;
+        assert_eq!(rt; said(rt.alloc(), &cursor)?.as_str(), row.said);
     }
-    let all = Cursor::all(rt.alloc(), 5)?;
-    assert_eq!(rt; described(rt.alloc(), &all)?.as_str(), "0-4 ");
+    Ok(())
+}
+
+#[test]
+fn latest_and_past_the_end(rt: HostRuntime) -> Result<(), Fail> {
     let most = Cursor::all(rt.alloc(), u64::MAX)?;
     assert_eq!(rt; most.next_open(7), u64::MAX);
-    assert_eq!(rt; most.next_open(u64::MAX), u64::MAX);
-    let mut cursor = Cursor::all(rt.alloc(), 0)?;
+    let mut cursor = Cursor::all(rt.alloc(), 5)?;
     cursor.reserve(1)?;
     let past = Err(PastEnd { index: 5, len: 5 });
     assert_eq!(rt; cursor.ack_one(5, 5), past);
-    assert_eq!(rt; cursor.ack_to(5, 5), past);
+    assert_eq!(rt;
+        said(rt.alloc(), &cursor)?.as_str(),
+        "0-4 mark 5 open 5 5 5"
+    );
     Ok(())
 }
 
@@ -133,57 +153,72 @@ impl Flags {
         index < LEN && self.acked[index as usize]
     }
 
-    fn next_open(&self, from: u64) -> u64 {
+    /// The least index from one on whose flag is as wanted; `from` or the length where there is none.
+    fn next(&self, from: u64, wanted: bool) -> u64 {
         for index in from..LEN {
-            if !self.acked[index as usize] {
+            if self.acked[index as usize] == wanted {
                 return index;
             }
         }
         from.max(LEN)
     }
 
-    /// The ranges, found flag by flag, as `described` writes them.
-    fn described(&self, alloc: Global) -> Result<String, AllocError> {
-        let mut text = String::new(alloc);
-        for index in 0..LEN {
-            if self.is_acked(index) && (index == 0 || !self.is_acked(index - 1)) {
-                let last = self.next_open(index) - 1;
-                write!(&mut text, "{index}-{last} ")?;
+    /// Whether ranges are the runs of set flags, one after another.
+    fn are_runs(&self, ranges: &[IndexRange]) -> bool {
+        let mut from = 0;
+        for range in ranges {
+            if range.last >= LEN || range.first != self.next(from, true) {
+                return false;
+            }
+            from = range.last + 1;
+            if from != self.next(range.first, false) {
+                return false;
             }
         }
-        Ok(text)
+        self.next(from, true) == LEN
     }
 }
 
-/// One random call on both, and whether they answer alike.
+/// One random call on both, and whether they answer alike then.
 fn is_same_call(
     cursor: &mut Cursor,
     flags: &mut Flags,
     random: &mut Pcg32,
 ) -> Result<bool, Memory> {
     let index = (random.next_word() % 42) as u64;
+    let probe = (random.next_word() % 45) as u64;
     cursor.reserve(1)?;
-    if random.next_word() % 20 == 0 {
-        return Ok(cursor.ack_to(index, LEN).is_ok() == flags.ack_to(index));
+    let alike = if random.next_word() % 20 == 0 {
+        cursor.ack_to(index, LEN).is_ok() == flags.ack_to(index)
+    } else {
+        cursor.ack_one(index, LEN).is_ok() == flags.ack_one(index)
+    };
+    Ok(
+        alike
+            && cursor.is_acked(probe) == flags.is_acked(probe)
+            && cursor.next_open(probe) == flags.next(probe, false)
+            && cursor.mark_delete() == flags.next(0, false)
+            && flags.are_runs(cursor.ranges().as_slice()),
+    )
+}
+
+/// Whether 60 random calls on a cursor and on a plain set have the same answers.
+fn are_same_calls(alloc: Global, seed: u64) -> Result<bool, Memory> {
+    let mut random = Pcg32::new(seed, 7);
+    let mut cursor = Cursor::none(alloc);
+    let mut flags = Flags { acked: [false; 40] };
+    for _ in 0..60 {
+        if !is_same_call(&mut cursor, &mut flags, &mut random)? {
+            return Ok(false);
+        }
     }
-    Ok(cursor.ack_one(index, LEN).is_ok() == flags.ack_one(index))
+    Ok(true)
 }
 
 #[test]
 fn a_cursor_is_a_plain_set(rt: HostRuntime) -> Result<(), Fail> {
     for seed in 0..12 {
-        let mut random = Pcg32::new(seed, 7);
-        let mut cursor = Cursor::none(rt.alloc());
-        let mut flags = Flags { acked: [false; 40] };
-        for _ in 0..60 {
-            assert!(rt; is_same_call(&mut cursor, &mut flags, &mut random)?);
-            let probe = (random.next_word() % 45) as u64;
-            assert_eq!(rt; cursor.is_acked(probe), flags.is_acked(probe));
-            assert_eq!(rt; cursor.next_open(probe), flags.next_open(probe));
-            assert_eq!(rt; cursor.mark_delete(), flags.next_open(0));
-            let plain = flags.described(rt.alloc())?;
-            assert_eq!(rt; described(rt.alloc(), &cursor)?.as_str(), plain.as_str());
-        }
+        assert!(rt; are_same_calls(rt.alloc(), seed)?);
     }
     Ok(())
 }

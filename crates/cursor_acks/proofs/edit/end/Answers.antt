@@ -1,4 +1,4 @@
-use Rattle.std.proofs.Common.{◌≡◌, ◌+◌, ◌-◌, ◌<◌, ℕ, get_or, length, arith}
+use Rattle.std.proofs.Common.{◌+◌, ◌<◌, get_or, length, arith}
 use Rattle.cursor_acks.specs.declared.range.IndexRange.{IndexRange}
 use Rattle.cursor_acks.proofs.Places.{ends_here, ends_joined}
 use Rattle.cursor_acks.proofs.edit.end.Goals as goal

@@ -1,5 +1,3 @@
-use Rattle.std.proofs.Common.{◌≡◌, ◌+◌, ◌-◌, ◌<◌, ℕ, get_or, length, arith}
-use Rattle.std.proofs.lemmas.Bool.Decides.{nat_tests}
 use Rattle.cursor_acks.specs.declared.range.IndexRange.{IndexRange}
 use Rattle.cursor_acks.proofs.Places.{held, not_held}
 use Rattle.cursor_acks.proofs.search.holds.Goals as goal

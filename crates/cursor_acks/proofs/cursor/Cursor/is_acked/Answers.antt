@@ -1,4 +1,4 @@
-use Rattle.std.proofs.Common.{◌≡◌, sym, ◌∙◌}
+use Rattle.std.proofs.Common.{sym, ◌∙◌}
 use Rattle.cursor_acks.proofs.Covered.{has_indexes}
 use Rattle.cursor_acks.proofs.cursor.Cursor.is_acked.Goals as goal
 

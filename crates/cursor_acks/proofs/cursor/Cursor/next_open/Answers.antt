@@ -1,11 +1,11 @@
-use Rattle.std.proofs.Common.{◌≡◌, ◌+◌, ◌<◌, ℕ, false, get_or, length, sym, ◌∙◌, arith}
+use Rattle.std.proofs.Common.{◌≡◌, ◌+◌, ◌<◌, false, get_or, length, arith}
 use Rattle.std.proofs.lemmas.List.{get_or_default}
 use Rattle.cursor_acks.specs.declared.range.IndexRange.{IndexRange}
 use Rattle.cursor_acks.specs.Acks.{IsFirstOpen}
-use Rattle.cursor_acks.specs.Places.{AreKept, IsPlace}
+use Rattle.cursor_acks.specs.Places.{AreKept}
 use Rattle.cursor_acks.specs.Ranges.{covers, indexes_of}
 use Rattle.cursor_acks.proofs.Places.{place_out}
-use Rattle.cursor_acks.proofs.Reading.{open_behind, open_here, open_is}
+use Rattle.cursor_acks.proofs.Reading.{open_behind, open_here, open_below}
 use Rattle.cursor_acks.proofs.cursor.Cursor.next_open.Goals as goal
 use Rattle.cursor_acks.proofs.cursor.Cursor.next_open.Goals.{else-at-ranges-via-then-at-ranges+else-ranges-at, else-at-ranges-via-else-at-ranges}
 
@@ -19,7 +19,7 @@ returns-then-ranges-at c =
     let kept : AreKept rs = rw c.as_slice-ranges.ensures c.self.invariant in
     let first_open : IsFirstOpen (indexes_of rs) c.args.from i =
     open_behind rs c.args.from c.place_of-at.result empty kept c.place_of-at.ensures c.if-at-ranges.true c.if-ranges-at.true in
-    rw (← c.self.view_is, ← c.as_slice-ranges.ensures) (record { least = first_open; machine = λ more. open_is (indexes_of rs) c.args.from i more first_open })
+    rw (← c.self.view_is, ← c.as_slice-ranges.ensures) (record { least = first_open; below = λ end. open_below (indexes_of rs) c.args.from i end first_open })
 
 pub returns : goal.returns
 returns c =
@@ -33,4 +33,4 @@ returns c =
     ] in
     let out : covers rs c.args.from ≡ false = place_out rs c.args.from c.place_of-at.result kept c.place_of-at.ensures low in
     let first : IsFirstOpen (indexes_of list) c.args.from c.args.from = open_here list c.args.from (rw c.as_slice-ranges.ensures at out) in
-    rw (← c.self.view_is) (record { least = first; machine = λ more. open_is (indexes_of list) c.args.from c.args.from more first })
+    rw (← c.self.view_is) (record { least = first; below = λ end. open_below (indexes_of list) c.args.from c.args.from end first })

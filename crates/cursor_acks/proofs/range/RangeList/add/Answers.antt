@@ -1,7 +1,7 @@
-use Rattle.std.proofs.Common.{◌≡◌, ◌+◌, ◌-◌, ◌<◌, ◌≤◌, ℕ, false, get_or, length, sym, ◌∙◌, arith}
+use Rattle.std.proofs.Common.{◌≡◌, false, sym, ◌∙◌, arith}
 use Rattle.std.proofs.lemmas.Bool.{true≢false}
 use Rattle.cursor_acks.specs.declared.range.IndexRange.{IndexRange}
-use Rattle.cursor_acks.specs.Places.{AreKept, Begins, Ends, IsPlace}
+use Rattle.cursor_acks.specs.Places.{Begins, Ends, IsPlace}
 use Rattle.cursor_acks.specs.Ranges.{covers}
 use Rattle.cursor_acks.proofs.Places.{place_next}
 use Rattle.cursor_acks.proofs.Edited.{Fits, edited_kept}
@@ -54,5 +54,5 @@ returns-clause-grown c joined =
     let b : Begins rs c.args.index c.place_of-at.result c.begin-from.result.0 c.begin-from.result.1 = rw c.as_slice-ranges.ensures at c.begin-from.ensures in
     let e : Ends rs c.args.index c.place_of-at.result c.end-to.result.0 c.end-to.result.1 = rw c.as_slice-ranges.ensures at c.end-to.ensures in
     let apart : c.begin-from.result.0 ≡ c.end-to.result.0 → ⊥ = λ same.
-        true≢false (sym (one_alone rs c.args.index c.place_of-at.result c.begin-from.result.0 c.end-to.result.0 c.begin-from.result.1 c.end-to.result.1 out b e same) ∙ joined) in
+    true≢false (sym (one_alone rs c.args.index c.place_of-at.result c.begin-from.result.0 c.end-to.result.0 c.begin-from.result.1 c.end-to.result.1 out b e same) ∙ joined) in
     c.replace.ensures.grown (omega (arith, apart, b.order, e.order))

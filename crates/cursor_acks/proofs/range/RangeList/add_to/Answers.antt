@@ -1,6 +1,6 @@
-use Rattle.std.proofs.Common.{◌≡◌, ◌+◌, ◌-◌, ◌<◌, ◌≤◌, ℕ, refl, sym, ◌∙◌, arith}
+use Rattle.std.proofs.Common.{◌+◌, refl}
 use Rattle.cursor_acks.specs.declared.range.IndexRange.{IndexRange}
-use Rattle.cursor_acks.specs.Places.{AreKept, Ends, IsPlace}
+use Rattle.cursor_acks.specs.Places.{Ends, IsPlace}
 use Rattle.cursor_acks.proofs.Edited.{Fits, edited_kept}
 use Rattle.cursor_acks.proofs.Added.{all_added, all_fit}
 use Rattle.cursor_acks.proofs.range.RangeList.add_to.Goals as goal
