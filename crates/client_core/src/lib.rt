@@ -3,3 +3,5 @@
 
 pub mod client;
 pub mod setup;
+#[cfg(test)]
+mod tests;
