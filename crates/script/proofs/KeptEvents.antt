@@ -8,7 +8,7 @@ use Rattle.std.proofs.lemmas.List.Quantifiers.{position-Some}
 use Rattle.std.proofs.lemmas.Slice.Eq.{bytes_eq-Decides}
 use Rattle.geo_base.specs.declared.event.Event.{Event}
 use Rattle.geo_base.specs.declared.event.Step.TheVariants as step
-use Rattle.geo_base.specs.Setup.{Declared, Setup, nobody}
+use Rattle.geo_base.specs.Setup.{Declared, Setup, nobody, sub_names}
 use Rattle.script.specs.declared.row.Happening.{Happening}
 use Rattle.script.specs.declared.row.Happening.TheVariants as happening
 use Rattle.script.specs.declared.row.LinkWords.{LinkWords}
@@ -81,6 +81,10 @@ event_in s (happening.Receipt l fate) f u =
     let known = none_of_three (has_stranger s.setup.clusters (l.source ∷ l.target ∷ [])) (has_stranger s.setup.topics (l.topic ∷ [])) (has_strange_client s.setup []) u.declared in
     (link_in s.setup l known.0 known.1 u.apart, f)
 
+event_in s (happening.Offer t x sub) f u =
+    let known = none_of_three (has_stranger s.setup.clusters (x ∷ [])) (has_stranger s.setup.topics (t ∷ [])) (has_strange_client s.setup []) u.declared in
+    (name_in s.setup.topics t (or_parts (not (is_among s.setup.topics t)) false known.1).0, name_in s.setup.clusters x (or_parts (not (is_among s.setup.clusters x)) false known.0).0, name_in (sub_names s.setup (number_in s.setup.topics t)) sub u.offered)
+
 pub event_kept : (n : ℕ) (s : SoFar) (e : Happening) → IsFormed (row.Event e) → IsUnbroken s (row.Event e) → IsKept n s → IsKept (n + 1) (added s (row.Event e))
 event_kept n s e f u k =
     let m = kept_more n s k in
@@ -96,6 +100,7 @@ event_kept n s e f u k =
       clients_apart = k.clients_apart;
       few_clients = m.few_clients;
       few_of_topic = k.few_of_topic;
+      few_subs = k.few_subs;
       steps = All-push (IsStep s.setup) s.steps (step.Plain (event_named s.setup e)) k.steps (event_in s e f u);
       pair = k.pair;
       no_topics = λ late. absurd (omega arith);
