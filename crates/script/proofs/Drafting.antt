@@ -35,6 +35,9 @@ new_drafted clusters topics clients steps ks all c t d k = record {
 abbrev pub set_client : SoFar → ℕ → Declared → SoFar
 set_client s c e = record s { setup = record s.setup { clients = slice_set s.setup.clients c e } }
 
+abbrev pub with_one : Declared → Line → Declared
+with_one d l = record d { lines = d.lines ++ l ∷ [] }
+
 abbrev pub lined_at : SoFar → ℕ → Line → Declared
 lined_at s c l = record (declared_at s.setup c) { lines = (declared_at s.setup c).lines ++ l ∷ [] }
 
@@ -57,18 +60,18 @@ drafted_lined s ks' all ks c l early noted k = record {
 }
 
 -- a line that names nothing, pushed or not
-pub drafted_other : {E : Type 0} (r : Result (Unit {0}) E) (s : SoFar) (ks : List TopicSub) (all : List (List Word)) (c : ℕ) (l : Line) (e : Declared) → c < length s.setup.clients → rank s.last < 5 → sub_in l ≡ None → OnOk r (e ≡ lined_at s c l) → OnErr r (e ≡ declared_at s.setup c) → IsDrafted s ks all → IsDrafted (set_client s c e) ks all
-drafted_other (Ok u) s ks all c l e within early none ok err k =
-    subst (λ (d : Declared). IsDrafted (set_client s c d) ks all) (sym ok) (drafted_lined s ks all ks c l early (noted_other s.setup ks c l within none k.noted) k)
-drafted_other (Err x) s ks all c l e within early none ok err k =
-    subst (λ (d : Declared). IsDrafted (set_client s c d) ks all) (sym err) (drafted_same s ks all c k)
+pub drafted_other : {E : Type 0} (r : Result (Unit {0}) E) (s : SoFar) (ks : List TopicSub) (all : List (List Word)) (c : ℕ) (l : Line) (d e : Declared) → c < length s.setup.clients → rank s.last < 5 → sub_in l ≡ None → d ≡ declared_at s.setup c → OnOk r (e ≡ with_one d l) → OnErr r (e ≡ d) → IsDrafted s ks all → IsDrafted (set_client s c e) ks all
+drafted_other (Ok u) s ks all c l d e within early none same ok err k =
+    subst (λ (x : Declared). IsDrafted (set_client s c x) ks all) (sym (ok ∙ ap (λ (x : Declared). with_one x l) same)) (drafted_lined s ks all ks c l early (noted_other s.setup ks c l within none k.noted) k)
+drafted_other (Err x) s ks all c l d e within early none same ok err k =
+    subst (λ (x : Declared). IsDrafted (set_client s c x) ks all) (sym (err ∙ same)) (drafted_same s ks all c k)
 
 -- a line that names a subscription which is noted, pushed or not
-pub drafted_again : {E : Type 0} (r : Result (Unit {0}) E) (s : SoFar) (ks : List TopicSub) (all : List (List Word)) (c : ℕ) (l : Line) (sub : Word) (e : Declared) → c < length s.setup.clients → rank s.last < 5 → sub_in l ≡ Some sub → is_among (sub_names s.setup (declared_at s.setup c).topic) sub ≡ true → OnOk r (e ≡ lined_at s c l) → OnErr r (e ≡ declared_at s.setup c) → IsDrafted s ks all → IsDrafted (set_client s c e) ks all
-drafted_again (Ok u) s ks all c l sub e within early is there ok err k =
-    subst (λ (d : Declared). IsDrafted (set_client s c d) ks all) (sym ok) (drafted_lined s ks all ks c l early (noted_again s.setup ks c l sub within is there k.noted) k)
-drafted_again (Err x) s ks all c l sub e within early is there ok err k =
-    subst (λ (d : Declared). IsDrafted (set_client s c d) ks all) (sym err) (drafted_same s ks all c k)
+pub drafted_again : {E : Type 0} (r : Result (Unit {0}) E) (s : SoFar) (ks : List TopicSub) (all : List (List Word)) (c : ℕ) (l : Line) (sub : Word) (d e : Declared) → c < length s.setup.clients → rank s.last < 5 → sub_in l ≡ Some sub → is_among (sub_names s.setup (declared_at s.setup c).topic) sub ≡ true → d ≡ declared_at s.setup c → OnOk r (e ≡ with_one d l) → OnErr r (e ≡ d) → IsDrafted s ks all → IsDrafted (set_client s c e) ks all
+drafted_again (Ok u) s ks all c l sub d e within early is there same ok err k =
+    subst (λ (x : Declared). IsDrafted (set_client s c x) ks all) (sym (ok ∙ ap (λ (x : Declared). with_one x l) same)) (drafted_lined s ks all ks c l early (noted_again s.setup ks c l sub within is there k.noted) k)
+drafted_again (Err x) s ks all c l sub d e within early is there same ok err k =
+    subst (λ (x : Declared). IsDrafted (set_client s c x) ks all) (sym (err ∙ same)) (drafted_same s ks all c k)
 
 -- a new subscription is noted with its line
 pub drafted_new : (s : SoFar) (ks : List TopicSub) (all : List (List Word)) (c : ℕ) (l : Line) (t : TopicSub) (e : Declared) → c < length s.setup.clients → rank s.last < 5 → sub_in l ≡ Some t.name → t.topic ≡ (declared_at s.setup c).topic → is_among (sub_names s.setup t.topic) t.name ≡ false → e ≡ lined_at s c l → IsDrafted s ks all → IsDrafted (set_client s c e) (ks ++ t ∷ []) all

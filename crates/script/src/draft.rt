@@ -124,7 +124,6 @@ impl Draft {
     }
 
     /// Whether a topic has a subscription of a name.
-    #[tactic(auto, using(crate::proofs::Noting::sub_noted))]
     pub(crate) fn is_sub(&self, topic: u32, name: &NameWord<'_>) -> bool
         ensures { result ≡ is_among (sub_names self.now.setup topic) name.now }
     {
@@ -132,7 +131,6 @@ impl Draft {
     }
 
     /// How many subscriptions a topic has.
-    #[tactic(auto, using(crate::proofs::Noting::subs_counted))]
     pub(crate) fn subs_of(&self, topic: u32) -> usize
         ensures { result ≡ length (sub_names self.now.setup topic) }
     {
