@@ -1,19 +1,18 @@
 -- An accepted script is a scenario.
-use Rattle.std.proofs.Common.{◌≡◌, ℕ, ◌+◌, ◌^◌, ◌<◌, ◌≤◌, nat_lt, ◌==◌, Bool, true, false, not, ◌&&◌, List, [], ◌∷◌, length, map, fold, find, All, Result, Ok, Err, IfOk, inl, inr, arith, refl, sym, ap, ◌∙◌, subst}
+use Rattle.std.proofs.Common.{◌≡◌, ℕ, ◌^◌, ◌<◌, ◌≤◌, nat_lt, Bool, true, false, ◌&&◌, List, [], ◌∷◌, length, find, All, Result, Ok, Err, IfOk, arith, refl, subst}
 use Rattle.std.specs.List.{list_all, list_any}
-use Rattle.std.proofs.lemmas.Bool.{and_from, and_right, lt-ltb, cond_both, eqb-false, not_from_false}
+use Rattle.std.proofs.lemmas.Bool.{and_from, and_right, lt-ltb, eqb-false, not_from_false}
 use Rattle.std.proofs.lemmas.List.Elements.{All-head, All-tail, All-weaker}
 use Rattle.std.proofs.lemmas.List.Folds.{list_any_none}
 use Rattle.geo_base.specs.declared.client.Line.{Line}
 use Rattle.geo_base.specs.declared.client.Line.TheVariants as line
 use Rattle.geo_base.specs.Name.{is_name}
 use Rattle.geo_base.specs.Scripted.{IsScripted, is_declared, is_line, is_move, is_produce, stays_or_is_silent}
-use Rattle.geo_base.specs.Setup.{Declared, Setup, sub_names}
-use Rattle.geo_base.specs.Setup as setup
+use Rattle.geo_base.specs.Setup.{Declared, Setup}
 use Rattle.script.specs.declared.fault.Rule.TheVariants as rule
 use Rattle.script.specs.declared.fault.Rule.{Rule}
 use Rattle.script.specs.Rules.{breaks_at_end, completed, rules}
-use Rattle.script.specs.Scenario.{IsClient, IsClientLine, IsScenario, has_printable_text}
+use Rattle.script.specs.Scenario.{IsClient, IsScenario, has_printable_text}
 use Rattle.script.specs.Script.{Script, SoFar}
 use Rattle.script.proofs.Kept.{IsKept, IsKeptClient, IsKeptLine}
 use Rattle.script.proofs.Parts.{none_found, unbroken}

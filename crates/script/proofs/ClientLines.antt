@@ -1,13 +1,10 @@
 -- What a client's line is that breaks no rule: its numbers and names are in range.
 use Rattle.std.proofs.Common.{◌≡◌, ℕ, ◌<◌, ◌≤◌, ◌^◌, nat_lt, nat_le, Bool, true, false, not, ◌&&◌, ◌||◌, List, [], ◌∷◌, length, Option, Some, None, inl, inr, arith, refl, sym, subst}
-use Rattle.std.specs.List.{list_all, list_any}
 use Rattle.std.specs.Str.{bytes_eq}
 use Rattle.std.proofs.lemmas.Bool.{and_from, and_parts, le-leb, leb-false, lt-ltb, ltb-false, not-false, or_cases, or_left, or_parts}
 use Rattle.std.proofs.lemmas.Slice.Eq.{bytes_eq-Decides}
 use Rattle.geo_base.specs.declared.client.Line.{Line}
 use Rattle.geo_base.specs.declared.client.Line.TheVariants as line
-use Rattle.geo_base.specs.declared.entry.Targets.{Targets}
-use Rattle.geo_base.specs.declared.entry.Targets.TheVariants as targets
 use Rattle.geo_base.specs.declared.frame.SubKind.{SubKind}
 use Rattle.geo_base.specs.Name.{is_name}
 use Rattle.geo_base.specs.Scripted.{is_known, is_line, is_optional_name, names_some}
@@ -26,7 +23,7 @@ use Rattle.script.specs.Naming.{act_clients, act_clusters, has_long, has_strange
 use Rattle.script.specs.Scenario.{IsClientLine, has_printable_text}
 use Rattle.script.specs.Script.{SoFar}
 use Rattle.script.specs.Words.{Word, has_name_bytes}
-use Rattle.script.proofs.Forms.{IsFormed, IsFormedAct, IsFormedIdent, IsPub, NamesSome, is_key}
+use Rattle.script.proofs.Forms.{IsFormed, IsFormedAct, IsFormedIdent, NamesSome, is_key}
 use Rattle.script.proofs.Masks.{mask-lt}
 use Rattle.script.proofs.Places.{place-in}
 use Rattle.script.proofs.Unbroken.{IsUnbroken, single_short, short_name}

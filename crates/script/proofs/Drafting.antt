@@ -1,11 +1,11 @@
 -- What a draft keeps beside what is declared stays true with each line.
-use Rattle.std.proofs.Common.{◌≡◌, ℕ, ◌<◌, ◌≤◌, List, [], ◌∷◌, ◌++◌, length, None, Some, Result, Ok, Err, true, false, arith, refl, sym, ap, subst, ◌∙◌}
+use Rattle.std.proofs.Common.{◌≡◌, ℕ, ◌<◌, List, [], ◌∷◌, ◌++◌, length, None, Some, Result, Ok, Err, true, false, arith, sym, ap, subst, ◌∙◌}
 use Rattle.std.specs.Prelude.{OnOk, OnErr}
 use Rattle.std.specs.List.{slice_set}
 use Rattle.std.proofs.lemmas.List.{length-set, set-get_or}
 use Rattle.geo_base.specs.declared.client.Line.{Line}
 use Rattle.geo_base.specs.declared.event.Step.{Step}
-use Rattle.geo_base.specs.Setup.{Declared, Setup, declared_at, nobody, sub_names}
+use Rattle.geo_base.specs.Setup.{Declared, declared_at, nobody, sub_names}
 use Rattle.script.specs.declared.kind.Stage.TheVariants as stage
 use Rattle.script.specs.declared.subs.TopicSub.{TopicSub}
 use Rattle.script.specs.Drafts.{IsDrafted, IsSmall}

@@ -1,5 +1,5 @@
 -- Each row that breaks no rule keeps what is kept.
-use Rattle.std.proofs.Common.{◌≡◌, ℕ, ◌+◌, ◌<◌, ◌≤◌, nat_lt, nat_le, ◌==◌, Bool, true, false, not, ◌&&◌, List, [], ◌∷◌, ◌++◌, length, map, All, inl, inr, arith, refl, sym, ap, subst, ◌∙◌}
+use Rattle.std.proofs.Common.{◌≡◌, ℕ, ◌+◌, ◌<◌, ◌≤◌, nat_le, ◌==◌, Bool, true, false, not, ◌&&◌, List, [], ◌∷◌, ◌++◌, length, map, inl, inr, arith, refl, sym, ap, subst, ◌∙◌}
 use Rattle.std.specs.List.{filter, list_any, slice_set}
 use Rattle.std.specs.Str.{bytes_eq}
 use Rattle.std.proofs.Math.Seq.{map-set_same}
@@ -9,18 +9,14 @@ use Rattle.std.proofs.lemmas.List.Elements.{All-nil, All-push, All-set, All-get_
 use Rattle.std.proofs.lemmas.List.Folds.{list_any-append}
 use Rattle.geo_base.specs.declared.client.Line.{Line}
 use Rattle.geo_base.specs.declared.client.Line.TheVariants as line
-use Rattle.geo_base.specs.declared.event.Event.{Event}
-use Rattle.geo_base.specs.declared.event.Step.{Step}
-use Rattle.geo_base.specs.declared.event.Step.TheVariants as step
 use Rattle.geo_base.specs.declared.frame.SubKind.{SubKind}
 use Rattle.geo_base.specs.Scripted.{AreDistinct, clients_of}
 use Rattle.geo_base.specs.Setup.{Declared, Setup, declared_at, nobody, sub_names}
-use Rattle.script.specs.declared.kind.Stage.TheVariants as stage
 use Rattle.script.specs.declared.row.Act.{Act}
 use Rattle.script.specs.declared.row.Act.TheVariants as act
 use Rattle.script.specs.declared.row.Row.{Row}
 use Rattle.script.specs.declared.row.Row.TheVariants as row
-use Rattle.script.specs.Adding.{added, client_named, client_number, ident_named, line_named, number_in, stage_of, targets_named}
+use Rattle.script.specs.Adding.{added, client_named, client_number, ident_named, line_named, stage_of, targets_named}
 use Rattle.script.specs.Kinds.{rank}
 use Rattle.script.specs.Naming.{has_long, has_strange_client, has_stranger, is_among, is_client}
 use Rattle.script.specs.Scenario.{IsStep}

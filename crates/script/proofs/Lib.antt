@@ -6,6 +6,7 @@ pub mod Parts
 pub mod Places
 pub mod Masks
 pub mod SubNames
+pub mod NoTopic
 pub mod Noting
 pub mod Drafting
 pub mod Forms

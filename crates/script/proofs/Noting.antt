@@ -1,6 +1,6 @@
 -- The subscriptions that the reader has noted are those that the lines name.
-use Rattle.std.proofs.Common.{◌≡◌, ℕ, ◌+◌, ◌<◌, ◌≤◌, ◌==◌, Bool, true, false, cond, ◌&&◌, ◌||◌, List, [], ◌∷◌, ◌++◌, length, map, None, Some, inl, inr, arith, refl, sym, ap, subst, ◌∙◌}
-use Rattle.std.specs.List.{IsDistinct, filter, list_any, slice_set}
+use Rattle.std.proofs.Common.{◌≡◌, ℕ, ◌<◌, ◌==◌, Bool, true, false, cond, ◌&&◌, ◌||◌, List, [], ◌∷◌, ◌++◌, length, map, None, Some, inl, inr, refl, sym, ap, subst, ◌∙◌}
+use Rattle.std.specs.List.{IsDistinct, filter, list_any}
 use Rattle.std.specs.Str.{bytes_eq}
 use Rattle.std.proofs.Math.Bool.{or-false}
 use Rattle.std.proofs.lemmas.Bool.{cases_Bool, cond_both, eqb-true}
@@ -8,9 +8,7 @@ use Rattle.std.proofs.lemmas.List.{append-nil, length-map, map-append}
 use Rattle.std.proofs.lemmas.List.Elements.{filter-append}
 use Rattle.std.proofs.lemmas.Map.Keys.{IsDistinct-push}
 use Rattle.std.proofs.lemmas.Map.Made.{length-from_same_keys}
-use Rattle.std.proofs.lemmas.Slice.Eq.{bytes_eq-Decides}
 use Rattle.geo_base.specs.declared.client.Line.{Line}
-use Rattle.geo_base.specs.declared.client.Line.TheVariants as line
 use Rattle.geo_base.specs.Setup.{Declared, Setup, declared_at, sub_names}
 use Rattle.script.specs.declared.subs.TopicSub.{TopicSub}
 use Rattle.script.specs.Naming.{is_among}

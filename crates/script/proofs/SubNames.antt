@@ -1,5 +1,5 @@
 -- The names of a topic's subscriptions: each stands once, and a line adds the one that it names.
-use Rattle.std.proofs.Common.{◌≡◌, ℕ, zero, suc, ◌+◌, ◌<◌, ◌≤◌, ◌==◌, Bool, true, false, cond, ◌&&◌, ◌||◌, List, [], ◌∷◌, ◌++◌, length, fold, get_or, None, inl, inr, arith, refl, sym, ap, subst, ◌∙◌}
+use Rattle.std.proofs.Common.{◌≡◌, ℕ, zero, suc, ◌+◌, ◌<◌, ◌≤◌, ◌==◌, Bool, true, false, ◌&&◌, ◌||◌, List, [], ◌∷◌, ◌++◌, length, fold, get_or, None, inl, inr, arith, refl, sym, ap, subst, ◌∙◌}
 use Rattle.std.specs.Cmp.{IsEquivalence}
 use Rattle.std.specs.List.{IsDistinct, list_any, slice_set}
 use Rattle.std.specs.Str.{bytes_eq}
@@ -9,7 +9,7 @@ use Rattle.std.proofs.lemmas.List.{length_push}
 use Rattle.std.proofs.lemmas.List.Folds.{list_any-append}
 use Rattle.std.proofs.lemmas.List.Sums.{fold-append}
 use Rattle.std.proofs.lemmas.Map.Keys.{IsDistinct-from_apart, IsDistinct-push}
-use Rattle.std.proofs.lemmas.Map.Made.{length-le_from_is_member, length-from_same_keys}
+use Rattle.std.proofs.lemmas.Map.Made.{length-le_from_is_member}
 use Rattle.std.proofs.lemmas.Slice.Eq.{bytes_eq-Decides}
 use Rattle.geo_base.specs.declared.client.Line.{Line}
 use Rattle.geo_base.specs.declared.client.Line.TheVariants as line
@@ -173,10 +173,10 @@ one_more : (s : Setup) (c : ℕ) (l : Line) (sub : Word) (t : ℕ) → c < lengt
 one_more s c l sub t within is =
     let at = (declared_at s c).topic == t in
     let there : (q : Word) → is_among (sub_names (lined s c l) t) q ≡ true → is_among (sub_names s t ++ sub ∷ []) q ≡ true = λ q e.
-      among_pushed (sub_names s t) sub q ∙ elim (or_cases (is_among (sub_names s t) q) (at && is_sub_of q l) (sym (among_after s c l t q within) ∙ e)) [
-        | inl old ↦ or_left (is_among (sub_names s t) q) (bytes_eq sub q) old
-        | inr new ↦ or_right (is_among (sub_names s t) q) (bytes_eq sub q) (sym (is q) ∙ (and_parts at (is_sub_of q l) new).1)
-      ] in
+    among_pushed (sub_names s t) sub q ∙ elim (or_cases (is_among (sub_names s t) q) (at && is_sub_of q l) (sym (among_after s c l t q within) ∙ e)) [
+      | inl old ↦ or_left (is_among (sub_names s t) q) (bytes_eq sub q) old
+      | inr new ↦ or_right (is_among (sub_names s t) q) (bytes_eq sub q) (sym (is q) ∙ (and_parts at (is_sub_of q l) new).1)
+    ] in
     let fewer = length-le_from_is_member name_laws (sub_names (lined s c l) t) (sub_names s t ++ sub ∷ []) (subs_distinct (lined s c l) t) there in
     omega (arith, fewer, length_push (sub_names s t) sub)
 
@@ -185,12 +185,12 @@ none_more : (s : Setup) (c : ℕ) (l : Line) (sub : Word) (t : ℕ) → c < leng
 none_more s c l sub t within is old =
     let at = (declared_at s c).topic == t in
     let there : (q : Word) → is_among (sub_names (lined s c l) t) q ≡ true → is_among (sub_names s t) q ≡ true = λ q e.
-      elim (or_cases (is_among (sub_names s t) q) (at && is_sub_of q l) (sym (among_after s c l t q within) ∙ e)) [
-        | inl had ↦ had
-        | inr new ↦
-            let parts = and_parts at (is_sub_of q l) new in
-            subst (λ (v : Word). is_among (sub_names s t) v ≡ true) ((bytes_eq-Decides sub q).0 (sym (is q) ∙ parts.1)) (old parts.0)
-      ] in
+    elim (or_cases (is_among (sub_names s t) q) (at && is_sub_of q l) (sym (among_after s c l t q within) ∙ e)) [
+      | inl had ↦ had
+      | inr new ↦
+          let parts = and_parts at (is_sub_of q l) new in
+          subst (λ (v : Word). is_among (sub_names s t) v ≡ true) ((bytes_eq-Decides sub q).0 (sym (is q) ∙ parts.1)) (old parts.0)
+    ] in
     length-le_from_is_member name_laws (sub_names (lined s c l) t) (sub_names s t) (subs_distinct (lined s c l) t) there
 
 pub few_with_sub : (s : SoFar) (c : ℕ) (sub : Word) (kind : SubKind) (earliest replicated : Bool) (t : ℕ) → c < length s.setup.clients → (is_among (sub_names s.setup (declared_at s.setup c).topic) sub ≡ false → length (sub_names s.setup (declared_at s.setup c).topic) < 32) → length (sub_names s.setup t) ≤ 32 → length (sub_names (lined s.setup c (line.Sub sub kind earliest replicated)) t) ≤ 32

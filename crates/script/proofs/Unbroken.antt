@@ -1,16 +1,14 @@
 -- A row that breaks no rule, rule by rule; and what the code has to know of one.
-use Rattle.std.proofs.Common.{◌≡◌, ℕ, ◌<◌, ◌≤◌, nat_lt, nat_le, Bool, true, false, not, ◌&&◌, ◌||◌, List, [], ◌∷◌, ◌++◌, length, find, Option, Some, None, arith, refl, inl, inr, ◌^◌}
-use Rattle.std.specs.List.{list_all, list_any}
-use Rattle.std.proofs.lemmas.Bool.{and_cases, and_from, and_parts, leb-false, ltb-false, lt-ltb, le-leb, not-false, or_parts, both_ways}
+use Rattle.std.proofs.Common.{◌≡◌, nat_lt, nat_le, true, false, ◌&&◌, [], ◌∷◌, length, find, None}
+use Rattle.std.specs.List.{list_all}
+use Rattle.std.proofs.lemmas.Bool.{and_from, and_parts, ltb-false, le-leb, or_parts}
 use Rattle.geo_base.specs.Name.{is_name, name_byte}
-use Rattle.geo_base.specs.Setup.{Declared, Setup, nobody}
-use Rattle.script.specs.declared.fault.Rule.{Rule}
 use Rattle.script.specs.declared.fault.Rule.TheVariants as rule
 use Rattle.script.specs.declared.row.Row.{Row}
 use Rattle.script.specs.Adding.{stage_of}
 use Rattle.script.specs.Kinds.{rank}
 use Rattle.script.specs.Naming.{has_long, has_long_name, has_undeclared, is_long}
-use Rattle.script.specs.Rules.{declares_again, has_loop, has_text_past, is_client_past, is_cluster, is_geo, is_sub_past, is_topic, offers_stranger, row_breaks, row_rules, targets_repeat}
+use Rattle.script.specs.Rules.{declares_again, has_loop, has_text_past, is_client_past, is_cluster, is_sub_past, is_topic, offers_stranger, row_breaks, row_rules}
 use Rattle.script.specs.Script.{SoFar}
 use Rattle.script.specs.Words.{Word, has_name_bytes}
 use Rattle.script.proofs.Parts.{none_found}

@@ -15,7 +15,7 @@
 --   reset T X Y       read T X Y
 --   take T X Y FATE   receipt T X Y FATE
 --   offer T X S
-use Rattle.std.specs.Prelude.{ℕ, ◌-◌, ◌^◌, nat_lt, Bool, true, false, ◌||◌, List, [], ◌∷◌, Option, Some, None, is_none, codes}
+use Rattle.std.specs.Prelude.{ℕ, ◌-◌, ◌^◌, nat_lt, Bool, true, false, ◌||◌, List, [], ◌∷◌, Option, Some, None, codes}
 use Rattle.std.specs.Option.{option_map_or}
 use Rattle.std.specs.Str.{bytes_eq}
 use Rattle.geo_base.specs.declared.event.Fate.{Fate}
@@ -36,7 +36,7 @@ use Rattle.script.specs.declared.row.IdentWords.{IdentWords}
 use Rattle.script.specs.declared.row.LinkWords.{LinkWords}
 use Rattle.script.specs.declared.row.Row.{Row}
 use Rattle.script.specs.declared.row.Row.TheVariants as row
-use Rattle.script.specs.Kinds.{act_kind_of, event_kind_of, kind_of}
+use Rattle.script.specs.Kinds.{act_kind_of, kind_of}
 use Rattle.script.specs.Numbers.{number_of}
 use Rattle.script.specs.Words.{Word, ◌>>=◌, given, none_left, one, two, three, four, fourth, second, three_and_text, name_of, key_of, start_of, targets_of}
 

@@ -1,13 +1,12 @@
 -- The rules of a script, and what a whole script says.
-use Rattle.std.specs.Prelude.{ℕ, ◌+◌, nat_lt, nat_le, ◌==◌, Bool, true, false, not, ◌&&◌, ◌||◌, if◌then◌else◌, List, [], ◌∷◌, ◌++◌, length, filter, find, Option, Some, None, is_none, Result, Ok, Err, codes}
-use Rattle.std.specs.List.{list_all, list_any}
+use Rattle.std.specs.Prelude.{ℕ, ◌+◌, nat_lt, nat_le, ◌==◌, Bool, true, false, not, ◌&&◌, ◌||◌, if◌then◌else◌, List, [], ◌∷◌, length, find, Option, Some, None, is_none, Result, Ok, Err, codes}
+use Rattle.std.specs.List.{list_all}
 use Rattle.std.specs.Option.{option_map_or}
 use Rattle.std.specs.Str.{bytes_eq}
 use Rattle.geo_base.specs.Scripted.{clients_of}
 use Rattle.geo_base.specs.Setup.{Setup, declared_at, sub_names}
 use Rattle.script.specs.declared.fault.Rule.{Rule}
 use Rattle.script.specs.declared.fault.Rule.TheVariants as rule
-use Rattle.script.specs.declared.row.Act.{Act}
 use Rattle.script.specs.declared.row.Act.TheVariants as act
 use Rattle.script.specs.declared.row.Happening.{Happening}
 use Rattle.script.specs.declared.row.Happening.TheVariants as happening

@@ -12,7 +12,9 @@ use crate::name_list::NameList;
 use crate::place::NameWord;
 use crate::row::{Act, Happening, IdentWords, Row};
 use crate::scenario::{ClientDecl, ScriptLine};
-use geo_base::{Blob, ClusterName, Event, Ident, Memory, ProducerName, Step, Targets, Text, TopicName};
+use geo_base::{
+    Blob, ClusterName, Event, Ident, Memory, ProducerName, Step, Targets, Text, TopicName,
+};
 use std::alloc::Global;
 
 impl Draft {

@@ -144,7 +144,10 @@ impl Draft {
         requires few { length (sub_names self.now.setup topic) ≤ 32 }
         ensures { result ≡ number_in (sub_names self.now.setup topic) name.now }
     {
-        number_in(self.named.as_slice()[topic as usize].as_slice(), name.as_bytes())
+        number_in(
+            self.named.as_slice()[topic as usize].as_slice(),
+            name.as_bytes(),
+        )
     }
 
     /// Numbers the subscriptions where an event line comes.
@@ -157,7 +160,9 @@ impl Draft {
     {
         match row {
             Row::Event(_) => self.begin_events(alloc),
-            Row::Geo | Row::Cluster(_) | Row::Topic(_) | Row::Client { .. } | Row::Do { .. } => Ok(()),
+            Row::Geo | Row::Cluster(_) | Row::Topic(_) | Row::Client { .. } | Row::Do { .. } => Ok(
+                (),
+            ),
         }
     }
 

@@ -96,11 +96,23 @@ impl Draft {
         ensures { result ≡ is_sub_past 32 self.now.setup row.now }
     {
         match row {
-            Row::Do {
-                client,
-                act: Act::Sub { sub, .. },
-            } => self.is_sub_past_for(client, sub),
-            _ => false,
+            Row::Do { client, act } => self.is_sub_past_by(client, act),
+            Row::Geo | Row::Cluster(_) | Row::Topic(_) | Row::Client { .. } | Row::Event(_) =>
+                false,
+        }
+    }
+
+    fn is_sub_past_by(&self, client: &NameWord<'_>, act: &Act<'_>) -> bool
+        ensures { result ≡ is_sub_past 32 self.now.setup (Row.Do client.now act.now) }
+    {
+        match act {
+            Act::Sub { sub, .. } => self.is_sub_past_for(client, sub),
+            Act::Produce
+            | Act::Pub { .. }
+            | Act::Flow(_)
+            | Act::Ack(_)
+            | Act::AckTo(_)
+            | Act::AckAll => false,
         }
     }
 
@@ -185,7 +197,8 @@ impl Draft {
     {
         match act {
             Act::Pub {
-                to: Some(names), ..
+                to: Some(names),
+                ..
             } => names.has_stranger(self.clusters.as_slice()),
             Act::Ack(ident) | Act::AckTo(ident) => self.lacks_cluster(&ident.origin),
             Act::Produce

@@ -8,11 +8,11 @@ ghost use Rattle.script.specs.Subs.{AreNamed, sub_in};
 ghost use Rattle.script.specs.Scenario.{IsClientLine, IsClient, IsPublish, IsStep, IsScenario};
 ghost use Rattle.script.specs.Script.{script_with};
 
-use geo_base::{
-    Blob, ClusterName, Ident, Line, Memory, ProducerName, Sequence, Step, SubKind, SubName, Targets,
-    Text, TopicName,
-};
 use crate::subs::SubNames;
+use geo_base::{
+    Blob, ClusterName, Ident, Line, Memory, ProducerName, Sequence, Step, SubKind, SubName,
+    Targets, Text, TopicName,
+};
 use std::alloc::Global;
 use std::marker::Model;
 
@@ -55,7 +55,12 @@ impl ScriptLine {
     }
 
     /// `sub S exclusive INIT local`
-    pub(crate) fn subscribe(sub: Text, kind: SubKind, earliest: bool, replicated: bool) -> ScriptLine
+    pub(crate) fn subscribe(
+        sub: Text,
+        kind: SubKind,
+        earliest: bool,
+        replicated: bool,
+    ) -> ScriptLine
         requires { IsClientLine (Line.Sub sub kind earliest replicated) }
         ensures { result ≡ Line.Sub sub kind earliest replicated }
     {

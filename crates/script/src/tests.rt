@@ -234,7 +234,8 @@ do p sub n28 exclusive latest local\ndo p sub n29 exclusive latest local\n\
 do p sub n30 exclusive latest local\ndo p sub n31 exclusive latest local\n";
 
 /// A line behind 32 subscriptions of a topic.
-const SUBSCRIPTION_LINES: &str = "0 0 do p sub n7 exclusive earliest local|do q sub x exclusive earliest local|\n\
+const SUBSCRIPTION_LINES: &str =
+    "0 0 do p sub n7 exclusive earliest local|do q sub x exclusive earliest local|\n\
 40 13 do p sub x exclusive earliest local|\n\
 40 15 do r sub x exclusive earliest local|\n\
 0 0 offer t a n31|\n\
@@ -292,14 +293,22 @@ fn the_first_offending_line_and_its_lowest_rule_are_named(rt: HostRuntime) -> Re
 }
 
 /// Clients of one topic that name subscriptions, the second client first.
-const THREE_NAMES: &[u8] = b"geo 1\ncluster a\ncluster b\ntopic t\ntopic u\nclient p t a\nclient q t b\n\
+const THREE_NAMES: &[u8] =
+    b"geo 1\ncluster a\ncluster b\ntopic t\ntopic u\nclient p t a\nclient q t b\n\
 do q sub x exclusive latest local\ndo p sub y exclusive earliest local\n\
 do q sub y exclusive latest local\ndo p sub z exclusive latest local\noffer t b x\n";
 
 #[test]
 fn subscriptions_are_numbered_by_clients(rt: HostRuntime) -> Result<(), Fail> {
     let scenario = read_script(rt.alloc(), THREE_NAMES)?;
-    let names = [(0, 0, "y"), (0, 1, "z"), (0, 2, "x"), (0, 3, ""), (1, 0, ""), (2, 0, "")];
+    let names = [
+        (0, 0, "y"),
+        (0, 1, "z"),
+        (0, 2, "x"),
+        (0, 3, ""),
+        (1, 0, ""),
+        (2, 0, ""),
+    ];
     for (topic, sub, expected) in names {
         let name = match scenario.sub_name(topic, sub) {
             Some(name) => name.as_str(),

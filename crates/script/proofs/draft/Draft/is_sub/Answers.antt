@@ -1,4 +1,4 @@
-use Rattle.std.proofs.Common.{arith, ◌∙◌}
+use Rattle.std.proofs.Common.{arith}
 use Rattle.script.specs.Script.{so_far}
 use Rattle.script.proofs.Noting.{sub_noted}
 use Rattle.script.proofs.draft.Draft.is_sub.Goals as goal

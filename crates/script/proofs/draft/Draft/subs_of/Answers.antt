@@ -1,4 +1,4 @@
-use Rattle.std.proofs.Common.{arith, ◌∙◌}
+use Rattle.std.proofs.Common.{arith}
 use Rattle.script.specs.Script.{so_far}
 use Rattle.script.proofs.Noting.{subs_counted}
 use Rattle.script.proofs.draft.Draft.subs_of.Goals as goal
