@@ -11,7 +11,7 @@ is_built line.Produce h = refl
 is_built (line.Pub seq to key text) h =
     let short : nat_le (length text) 1024 ≡ true = grind (arith, nat_tests, h.short) in
     rw (h.name, short) refl
-is_built (line.Sub n kind earliest replicated) h = absurd h
+is_built (line.Sub n kind earliest replicated) h = rw (h.1, h.2) refl
 is_built (line.Flow permits) h = refl
 is_built (line.Ack i) h = refl
 is_built (line.AckTo i) h = refl

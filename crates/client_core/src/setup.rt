@@ -3,7 +3,7 @@ ghost use Rattle.std.specs.Prelude.{◌≡◌, ◌<◌, ◌≤◌, true, length}
 ghost use Rattle.std.specs.List.{list_all};
 ghost use Rattle.geo_base.specs.Name.{is_name};
 ghost use Rattle.geo_base.specs.Scripted.{IsScripted};
-ghost use Rattle.geo_base.specs.Setup.{declared_at, topic_name};
+ghost use Rattle.geo_base.specs.Setup.{declared_at, sub_name, topic_name};
 
 use geo_base::limits::CLUSTERS;
 use geo_base::name::{ClusterName, TopicName};
@@ -75,6 +75,16 @@ impl<'a> Declarations<'a> {
         ensures { result.now ≡ topic_name self.now topic }
     {
         match self.topics().get(topic as usize) {
+            Some(name) => name.as_str(),
+            None => "",
+        }
+    }
+
+    /// The name that a number of a subscription of a topic stands for; empty where there is none.
+    pub fn sub_name(&self, topic: u32, sub: u32) -> &str
+        ensures { result.now ≡ sub_name self.now topic sub }
+    {
+        match self.scenario.sub_name(topic, sub) {
             Some(name) => name.as_str(),
             None => "",
         }

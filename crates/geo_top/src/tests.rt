@@ -56,12 +56,32 @@ topic t at c\nentry 0:0 a p 0 b,c data k1 x\nentry 0:1 a p 2 * data - hi there\n
 sender a session 0 closed mark 0\nsender b session 0 closed mark 0\n\
 client p at a lines 4/4 receipts 0 duplicates 0 errors 0\n";
 
+/// The second message is acknowledged first; after a reconnect the first comes again, alone, and all up to it is acknowledged.
+const ACKNOWLEDGE_AND_RECONNECT: &[u8] = b"geo 1\ncluster a\ncluster b\ntopic t\nclient p t a\nclient c t a\n\
+do p produce\ndo p pub 0 * - m0\ndo p pub 1 * - m1\n\
+do c sub s exclusive earliest local\ndo c flow 10\ndo c ack a p 1\ndo c ackto a p 0\n\
+reconnect p\nserve a p\ngo p\nserve a p\ngo p\nserve a p\ngo p\nserve a p\n\
+reconnect c\nserve a c\ngo c\nserve a c\ngo c\nserve a c\noffer t a s\noffer t a s\noffer t a s\n\
+get c\nget c\nget c\nget c\ngo c\nserve a c\nreconnect c\nserve a c\nserve a c\nserve a c\n\
+offer t a s\noffer t a s\nget c\nget c\nget c\ngo c\nserve a c\n";
+
+const ACKNOWLEDGE_AND_RECONNECT_REPORT: &[u8] = b"events 32 idle 2 rounds 0\n\
+topic t at a\nentry 0:0 a p 0 * data - m0\nentry 0:1 a p 1 * data - m1\n\
+sender b session 0 closed mark 0\nsub s exclusive local mark 2 backlog 0\n\
+topic t at b\nsender a session 0 closed mark 0\n\
+client p at a lines 3/3 receipts 0 duplicates 0 errors 0\n\
+client c at a lines 4/4 receipts 0 duplicates 0 errors 0\ngot a p 0\ngot a p 1\ngot a p 0\n";
+
 #[test]
 fn scripts_are_reported(rt: HostRuntime) -> Result<(), Fail> {
     let scripts = [
         (ONE_MESSAGE, ONE_MESSAGE_REPORT),
         (DUPLICATE_PUBLISH, DUPLICATE_PUBLISH_REPORT),
         (TARGETS_AND_KEYS, TARGETS_AND_KEYS_REPORT),
+        (
+            ACKNOWLEDGE_AND_RECONNECT,
+            ACKNOWLEDGE_AND_RECONNECT_REPORT,
+        ),
     ];
     for (script, report) in scripts {
         let mut sink = open_sink(rt.alloc())?;

@@ -1,19 +1,18 @@
 -- An accepted script is a scenario.
-use Rattle.std.proofs.Common.{◌≡◌, ℕ, ◌+◌, ◌^◌, ◌<◌, ◌≤◌, nat_lt, ◌==◌, Bool, true, false, not, ◌&&◌, List, [], ◌∷◌, length, map, fold, find, All, Result, Ok, Err, IfOk, inl, inr, arith, refl, sym, ap, ◌∙◌, subst}
+use Rattle.std.proofs.Common.{◌≡◌, ℕ, ◌^◌, ◌<◌, ◌≤◌, nat_lt, Bool, true, false, ◌&&◌, List, [], ◌∷◌, length, find, All, Result, Ok, Err, IfOk, arith, refl, subst}
 use Rattle.std.specs.List.{list_all, list_any}
-use Rattle.std.proofs.lemmas.Bool.{and_from, and_right, lt-ltb, cond_both, eqb-false, not_from_false}
+use Rattle.std.proofs.lemmas.Bool.{and_from, and_right, lt-ltb, eqb-false, not_from_false}
 use Rattle.std.proofs.lemmas.List.Elements.{All-head, All-tail, All-weaker}
 use Rattle.std.proofs.lemmas.List.Folds.{list_any_none}
 use Rattle.geo_base.specs.declared.client.Line.{Line}
 use Rattle.geo_base.specs.declared.client.Line.TheVariants as line
 use Rattle.geo_base.specs.Name.{is_name}
 use Rattle.geo_base.specs.Scripted.{IsScripted, is_declared, is_line, is_move, is_produce, stays_or_is_silent}
-use Rattle.geo_base.specs.Setup.{Declared, Setup, sub_names}
-use Rattle.geo_base.specs.Setup as setup
+use Rattle.geo_base.specs.Setup.{Declared, Setup}
 use Rattle.script.specs.declared.fault.Rule.TheVariants as rule
 use Rattle.script.specs.declared.fault.Rule.{Rule}
 use Rattle.script.specs.Rules.{breaks_at_end, completed, rules}
-use Rattle.script.specs.Scenario.{IsClient, IsClientLine, IsScenario, has_printable_text}
+use Rattle.script.specs.Scenario.{IsClient, IsScenario, has_printable_text}
 use Rattle.script.specs.Script.{Script, SoFar}
 use Rattle.script.proofs.Kept.{IsKept, IsKeptClient, IsKeptLine}
 use Rattle.script.proofs.Parts.{none_found, unbroken}
@@ -25,24 +24,13 @@ list_all-from P p each (x ∷ xs) all =
 
 -- ---- a client's lines
 stays : (s : Setup) (l : Line) → IsKeptLine s l → is_move l ≡ false
-stays s line.Produce k = refl
-stays s (line.Pub seq to key text) k = refl
-stays s l k = absurd k.built
+stays s (line.Move x) k = absurd k.built
+stays s l k = refl
 
 silent : (s : Setup) (ls : List Line) → All (IsKeptLine s) ls → stays_or_is_silent ls ≡ true
 silent s ls all =
     let no_move : list_any is_move ls ≡ false = list_any_none is_move ls (All-weaker (IsKeptLine s) (λ l. is_move l ≡ false) (stays s) ls all) in
     not_from_false (list_any is_produce ls && list_any is_move ls) (and_right (list_any is_produce ls) (list_any is_move ls) no_move)
-
-no_sub : (s : Setup) (names : List (List ℕ)) (l : Line) → IsKeptLine s l → setup.with_line names l ≡ names
-no_sub s names line.Produce k = refl
-no_sub s names (line.Pub seq to key text) k = refl
-no_sub s names l k = absurd k.built
-
-no_subs : (s : Setup) (names : List (List ℕ)) (ls : List Line) → All (IsKeptLine s) ls → fold setup.with_line names ls ≡ names
-no_subs s names [] all = refl
-no_subs s names (l ∷ ls) all =
-    rw (no_sub s names l (All-head (IsKeptLine s) l ls all)) (no_subs s names ls (All-tail (IsKeptLine s) l ls all))
 
 -- ---- clients
 client_is : (n : ℕ) (s : Setup) (d : Declared) → IsKeptClient n s d → is_declared s d ≡ true
@@ -53,15 +41,6 @@ client_known : (n : ℕ) (s : Setup) → n ≤ 2 ^ 32 → (d : Declared) → IsK
 client_known n s few d k =
     record { few = omega arith; texts = list_all-from (IsKeptLine s) has_printable_text (λ l m. m.text) d.lines k.lines }
 
-no_sub_names : (n t : ℕ) (s : Setup) (names : List (List ℕ)) (ds : List Declared) → All (IsKeptClient n s) ds → fold (setup.with_client t) names ds ≡ names
-no_sub_names n t s names [] all = refl
-no_sub_names n t s names (d ∷ ds) all =
-    let here : setup.with_client t names d ≡ names = cond_both (d.topic == t) (fold setup.with_line names d.lines) names (λ (ns : List (List ℕ)). ns ≡ names) (λ _. no_subs s names d.lines (All-head (IsKeptClient n s) d ds all).lines) (λ _. refl) in
-    rw here (no_sub_names n t s names ds (All-tail (IsKeptClient n s) d ds all))
-
-few_subs : (n : ℕ) (s : SoFar) → IsKept n s → (t : ℕ) → length (sub_names s.setup t) ≤ 32
-few_subs n s k t = rw (no_sub_names n t s.setup [] s.setup.clients k.clients) (omega arith)
-
 -- ---- the whole
 scripted : (n : ℕ) (s : SoFar) → 0 < length s.setup.topics → IsKept n s → IsScripted s.setup
 scripted n s some k = record {
@@ -71,7 +50,7 @@ scripted n s some k = record {
   cluster_names = (k.cluster_names, k.clusters_apart);
   topic_names = (k.topic_names, k.topics_apart);
   clients = (list_all-from (IsKeptClient n s.setup) (is_declared s.setup) (client_is n s.setup) s.setup.clients k.clients, k.clients_apart);
-  of_a_topic = λ t. (k.few_of_topic t, few_subs n s k t);
+  of_a_topic = λ t. (k.few_of_topic t, k.few_subs t);
 }
 
 completed_known : (n : ℕ) (s : SoFar) (r : Script) → n ≤ 2 ^ 32 → completed s ≡ Ok r → IsKept n s → IsScenario r

@@ -1,13 +1,15 @@
 -- What is known of a row from its words alone: names have a name's bytes, numbers are in range, texts are printable.
-use Rattle.std.proofs.Common.{◌≡◌, ℕ, ◌-◌, ◌^◌, ◌<◌, ◌≤◌, nat_le, ◌==◌, Bool, true, false, ◌&&◌, if◌then◌else◌, List, [], ◌∷◌, length, Option, Some, None, option_map, codes, inl, inr, arith, refl, sym, ap, subst}
+use Rattle.std.proofs.Common.{◌≡◌, ℕ, ◌-◌, ◌^◌, ◌<◌, ◌≤◌, nat_lt, nat_le, ◌==◌, Bool, true, false, ◌&&◌, List, [], ◌∷◌, length, Option, Some, None, option_map, codes, inl, inr, arith, refl, sym, subst}
 use Rattle.std.specs.Prelude.{⊤}
-use Rattle.std.specs.List.{list_all, slice_split}
+use Rattle.std.specs.List.{list_all}
 use Rattle.std.specs.Str.{bytes_eq}
-use Rattle.std.proofs.lemmas.Bool.{and_parts, leb-true}
+use Rattle.std.proofs.lemmas.Bool.{and_parts, leb-true, ltb-true}
 use Rattle.std.proofs.lemmas.List.Splits.{length-slice_split}
 use Rattle.std.proofs.lemmas.Option.{cond_some, none-some, same_Some}
 use Rattle.geo_base.specs.declared.event.Fate.{Fate}
 use Rattle.geo_base.specs.declared.event.Fate.TheVariants as fate
+use Rattle.geo_base.specs.declared.frame.SubKind.{SubKind}
+use Rattle.geo_base.specs.declared.frame.SubKind.TheVariants as sub_kind
 use Rattle.script.specs.declared.kind.ActKind.{ActKind}
 use Rattle.script.specs.declared.kind.ActKind.TheVariants as act_kind
 use Rattle.script.specs.declared.kind.EventKind.{EventKind}
@@ -18,14 +20,15 @@ use Rattle.script.specs.declared.row.Act.{Act}
 use Rattle.script.specs.declared.row.Act.TheVariants as act
 use Rattle.script.specs.declared.row.Happening.{Happening}
 use Rattle.script.specs.declared.row.Happening.TheVariants as happening
+use Rattle.script.specs.declared.row.IdentWords.{IdentWords}
 use Rattle.script.specs.declared.row.LinkWords.{LinkWords}
 use Rattle.script.specs.declared.row.Row.{Row}
 use Rattle.script.specs.declared.row.Row.TheVariants as row
 use Rattle.script.specs.Kinds.{act_kind_of, kind_of}
 use Rattle.script.specs.Lines.{is_printable}
 use Rattle.script.specs.Numbers.{number_of, number_from, has_number_form, value_from, is_digit}
-use Rattle.script.specs.Rows.{act_of, client_of, client_row, cluster_row, do_row, event_row, fate_of, fated_link_of, geo_row, happening_of, link_named, link_of, row_after, row_of, topic_row}
-use Rattle.script.specs.Words.{Word, ◌>>=◌, given, none_left, one, two, three, four, three_and_text, has_name_bytes, key_of, listed, name_of, targets_of}
+use Rattle.script.specs.Rows.{act_of, client_of, client_row, cluster_row, do_row, event_row, fate_of, fated_link_of, geo_row, happening_of, ident_of, link_named, link_of, permits_of, replication_of, row_after, row_of, sub_kind_of, topic_row}
+use Rattle.script.specs.Words.{Word, ◌>>=◌, given, none_left, one, two, three, four, three_and_text, has_name_bytes, key_of, listed, name_of, start_of, targets_of}
 use Rattle.script.proofs.Parts.{chosen, some_part, test_passed}
 use Rattle.script.proofs.Printable.{are_printable, last_printable, rest_printable}
 
@@ -43,9 +46,16 @@ pub record IsPub (seq : ℕ) (to : Option (List Word)) (key : Option Word) (text
   pub named : is_key key ≡ true
   pub printable : list_all is_printable text ≡ true
 
+abbrev pub IsFormedIdent : IdentWords → Type 0
+IsFormedIdent i = (i.seq < 2 ^ 63) × (has_name_bytes i.producer ≡ true)
+
 abbrev pub IsFormedAct : Act → Type 0
-IsFormedAct act.Produce = ⊤
 IsFormedAct (act.Pub seq to key text) = IsPub seq to key text
+IsFormedAct (act.Sub sub k earliest replicated) = (has_name_bytes sub ≡ true) × (k ≡ sub_kind.Exclusive) × (replicated ≡ false)
+IsFormedAct (act.Flow permits) = (0 < permits) × (permits ≤ 1000000)
+IsFormedAct (act.Ack i) = IsFormedIdent i
+IsFormedAct (act.AckTo i) = IsFormedIdent i
+IsFormedAct a = ⊤
 
 -- no other fate is read yet
 abbrev pub IsFormedEvent : Happening → Type 0
@@ -112,9 +122,56 @@ formed_pub ws a e all =
       printable = last_printable ws w.0 w.1 all;
     })
 
+formed_kind : (w : Word) (k : SubKind) → sub_kind_of w ≡ Some k → k ≡ sub_kind.Exclusive
+formed_kind w k e = sym (cond_some (bytes_eq w (codes "exclusive")) sub_kind.Exclusive k e).1
+
+formed_replication : (w : Word) (r : Bool) → replication_of w ≡ Some r → r ≡ false
+formed_replication w r e = sym (cond_some (bytes_eq w (codes "local")) false r e).1
+
+formed_sub : (ws : List Word) (a : Act) → act_of act_kind.Sub ws ≡ Some a → IsFormedAct a
+formed_sub ws a e =
+    let w = some_part (four ws) (λ w. name_of w.0 >>= λ sub. sub_kind_of w.1 >>= λ k. start_of w.2 >>= λ earliest. replication_of w.3 >>= λ replicated. Some (act.Sub sub k earliest replicated)) a e in
+    let sub = some_part (name_of w.0.0) (λ sub. sub_kind_of w.0.1 >>= λ k. start_of w.0.2 >>= λ earliest. replication_of w.0.3 >>= λ replicated. Some (act.Sub sub k earliest replicated)) a w.2 in
+    let k = some_part (sub_kind_of w.0.1) (λ k. start_of w.0.2 >>= λ earliest. replication_of w.0.3 >>= λ replicated. Some (act.Sub sub.0 k earliest replicated)) a sub.2 in
+    let earliest = some_part (start_of w.0.2) (λ earliest. replication_of w.0.3 >>= λ replicated. Some (act.Sub sub.0 k.0 earliest replicated)) a k.2 in
+    let replicated = some_part (replication_of w.0.3) (λ replicated. Some (act.Sub sub.0 k.0 earliest.0 replicated)) a earliest.2 in
+    subst IsFormedAct (same_Some (act.Sub sub.0 k.0 earliest.0 replicated.0) a replicated.2) (formed_name w.0.0 sub.0 sub.1, formed_kind w.0.1 k.0 k.1, formed_replication w.0.3 replicated.0 replicated.1)
+
+formed_flow : (ws : List Word) (a : Act) → act_of act_kind.Flow ws ≡ Some a → IsFormedAct a
+formed_flow ws a e =
+    let w = some_part (one ws) (λ w. permits_of w >>= λ permits. Some (act.Flow permits)) a e in
+    let p = some_part (permits_of w.0) (λ permits. Some (act.Flow permits)) a w.2 in
+    let n = some_part (number_of 1000000 w.0) (λ n. given (nat_lt 0 n) n) p.0 p.1 in
+    let some = cond_some (nat_lt 0 n.0) n.0 p.0 n.2 in
+    let least : 0 < n.0 = ltb-true 0 n.0 some.0 in
+    subst IsFormedAct (same_Some (act.Flow p.0) a p.2) (subst (λ (m : ℕ). (0 < m) × (m ≤ 1000000)) some.1 (least, formed_number 1000000 w.0 n.0 n.1))
+
+formed_ident : (ws : List Word) (i : IdentWords) → ident_of ws ≡ Some i → IsFormedIdent i
+formed_ident ws i e =
+    let w = some_part (three ws) (λ w. name_of w.0 >>= λ origin. name_of w.1 >>= λ producer. number_of (2 ^ 63 - 1) w.2 >>= λ seq. Some (record { origin = origin; producer = producer; seq = seq })) i e in
+    let origin = some_part (name_of w.0.0) (λ origin. name_of w.0.1 >>= λ producer. number_of (2 ^ 63 - 1) w.0.2 >>= λ seq. Some (record { origin = origin; producer = producer; seq = seq })) i w.2 in
+    let producer = some_part (name_of w.0.1) (λ producer. number_of (2 ^ 63 - 1) w.0.2 >>= λ seq. Some (record { origin = origin.0; producer = producer; seq = seq })) i origin.2 in
+    let seq = some_part (number_of (2 ^ 63 - 1) w.0.2) (λ seq. Some (record { origin = origin.0; producer = producer.0; seq = seq })) i producer.2 in
+    let made : IdentWords = record { origin = origin.0; producer = producer.0; seq = seq.0 } in
+    subst IsFormedIdent (same_Some made i seq.2) (omega (arith, formed_number (2 ^ 63 - 1) w.0.2 seq.0 seq.1), formed_name w.0.1 producer.0 producer.1)
+
+formed_ack : (ws : List Word) (make : IdentWords → Act) (a : Act) → ((i : IdentWords) → IsFormedIdent i → IsFormedAct (make i)) → (ident_of ws >>= λ i. Some (make i)) ≡ Some a → IsFormedAct a
+formed_ack ws make a each e =
+    let i = some_part (ident_of ws) (λ i. Some (make i)) a e in
+    subst IsFormedAct (same_Some (make i.0) a i.2) (each i.0 (formed_ident ws i.0 i.1))
+
+formed_all : (ws : List Word) (a : Act) → act_of act_kind.AckAll ws ≡ Some a → IsFormedAct a
+formed_all ws a e =
+    let parts = cond_some (none_left ws) act.AckAll a e in subst IsFormedAct parts.1 tt
+
 formed_act : (k : ActKind) (ws : List Word) (a : Act) → act_of k ws ≡ Some a → are_printable ws ≡ true → IsFormedAct a
 formed_act act_kind.Produce ws a e all = formed_produce ws a e
 formed_act act_kind.Pub ws a e all = formed_pub ws a e all
+formed_act act_kind.Sub ws a e all = formed_sub ws a e
+formed_act act_kind.Flow ws a e all = formed_flow ws a e
+formed_act act_kind.Ack ws a e all = formed_ack ws act.Ack a (λ i f. f) e
+formed_act act_kind.AckTo ws a e all = formed_ack ws act.AckTo a (λ i f. f) e
+formed_act act_kind.AckAll ws a e all = formed_all ws a e
 
 -- ---- all lines
 formed_geo : (ws : List Word) (r : Row) → geo_row ws ≡ Some r → IsFormed r
@@ -190,6 +247,12 @@ formed_happening event_kind.Reset ws e is = formed_link_event ws happening.Reset
 formed_happening event_kind.Read ws e is = formed_link_event ws happening.Read e (λ l. tt) is
 formed_happening event_kind.Take ws e is = formed_fated_event ws happening.Take e (λ l f good. good) is
 formed_happening event_kind.Receipt ws e is = formed_fated_event ws happening.Receipt e (λ l f good. good) is
+formed_happening event_kind.Offer ws e is =
+    let w = some_part (three ws) (λ w. name_of w.0 >>= λ t. name_of w.1 >>= λ x. name_of w.2 >>= λ sub. Some (happening.Offer t x sub)) e is in
+    let t = some_part (name_of w.0.0) (λ t. name_of w.0.1 >>= λ x. name_of w.0.2 >>= λ sub. Some (happening.Offer t x sub)) e w.2 in
+    let x = some_part (name_of w.0.1) (λ x. name_of w.0.2 >>= λ sub. Some (happening.Offer t.0 x sub)) e t.2 in
+    let sub = some_part (name_of w.0.2) (λ sub. Some (happening.Offer t.0 x.0 sub)) e x.2 in
+    subst IsFormedEvent (same_Some (happening.Offer t.0 x.0 sub.0) e sub.2) tt
 
 formed_event : (k : EventKind) (ws : List Word) (r : Row) → event_row k ws ≡ Some r → IsFormed r
 formed_event k ws r e =

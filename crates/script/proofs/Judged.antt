@@ -1,9 +1,8 @@
 -- A line that breaks no rule keeps what is kept.
-use Rattle.std.proofs.Common.{◌≡◌, ℕ, ◌+◌, ◌<◌, ◌&&◌, Bool, true, false, not, List, find, Option, Some, None, is_none, Ok, inl, inr, sym, ap, ◌∙◌, subst, arith}
+use Rattle.std.proofs.Common.{◌≡◌, ℕ, ◌+◌, ◌<◌, find, Option, Some, None, Ok, inl, inr, sym, ap, ◌∙◌, subst}
 use Rattle.std.specs.List.{list_all}
 use Rattle.std.specs.Option.{option_map_or}
 use Rattle.std.proofs.lemmas.Bool.{and_parts, not-false}
-use Rattle.script.specs.declared.fault.Rule.{Rule}
 use Rattle.script.specs.declared.fault.Rule.TheVariants as rule
 use Rattle.script.specs.declared.row.Row.{Row}
 use Rattle.script.specs.declared.row.Row.TheVariants as row

@@ -7,7 +7,7 @@ use Rattle.std.proofs.lemmas.List.Folds.{list_all-append}
 use Rattle.geo_base.specs.declared.client.Line.{Line}
 use Rattle.geo_base.specs.Name.{is_name}
 use Rattle.geo_base.specs.Scripted.{AreDistinct, clients_of, is_line}
-use Rattle.geo_base.specs.Setup.{Declared, Setup}
+use Rattle.geo_base.specs.Setup.{Declared, Setup, sub_names}
 use Rattle.script.specs.Kinds.{rank}
 use Rattle.script.specs.Scenario.{IsClientLine, IsStep, has_printable_text}
 use Rattle.script.specs.Script.{SoFar, no_line}
@@ -42,6 +42,7 @@ pub record IsKept (n : ℕ) (s : SoFar) : Type 0 where
   pub clients_apart : AreDistinct (names_of s.setup)
   pub few_clients : length s.setup.clients < n
   pub few_of_topic : (t : ℕ) → length (clients_of s.setup t) ≤ 32
+  pub few_subs : (t : ℕ) → length (sub_names s.setup t) ≤ 32
   pub steps : All (IsStep s.setup) s.steps
   -- a topic comes after two clusters, and the kinds come in their order
   pub pair : 0 < length s.setup.topics → 2 ≤ length s.setup.clusters
@@ -79,6 +80,7 @@ kept_more n s k = record {
   clients_apart = k.clients_apart;
   few_clients = omega arith;
   few_of_topic = k.few_of_topic;
+  few_subs = k.few_subs;
   steps = k.steps;
   pair = k.pair;
   no_topics = k.no_topics;
@@ -99,6 +101,7 @@ nothing_kept = record {
   clients_apart = AreDistinct-nil;
   few_clients = omega arith;
   few_of_topic = λ t. omega arith;
+  few_subs = λ t. omega arith;
   steps = All-nil (IsStep no_line.setup);
   pair = λ some. absurd (omega arith);
   no_topics = λ early. refl;

@@ -1,20 +1,18 @@
 -- An event line that breaks no rule schedules an event with its numbers in range.
-use Rattle.std.proofs.Common.{◌≡◌, ◌≢◌, ℕ, ◌+◌, ◌<◌, ◌≤◌, Bool, true, false, not, List, [], ◌∷◌, ◌++◌, length, get_or, arith, refl, sym, ap, subst, ◌∙◌}
-use Rattle.std.specs.List.{list_any, position_or_len}
+use Rattle.std.proofs.Common.{◌≡◌, ◌≢◌, ℕ, ◌+◌, ◌<◌, false, not, List, [], ◌∷◌, length, get_or, arith, refl, sym, ap, ◌∙◌}
 use Rattle.std.specs.Str.{bytes_eq}
 use Rattle.std.proofs.lemmas.Bool.{both_ways, lt-ltb, not-false, or_parts}
 use Rattle.std.proofs.lemmas.List.Elements.{All-push}
 use Rattle.std.proofs.lemmas.List.Quantifiers.{position-Some}
 use Rattle.std.proofs.lemmas.Slice.Eq.{bytes_eq-Decides}
-use Rattle.geo_base.specs.declared.event.Event.{Event}
 use Rattle.geo_base.specs.declared.event.Step.TheVariants as step
-use Rattle.geo_base.specs.Setup.{Declared, Setup, nobody}
+use Rattle.geo_base.specs.Setup.{Declared, Setup, nobody, sub_names}
 use Rattle.script.specs.declared.row.Happening.{Happening}
 use Rattle.script.specs.declared.row.Happening.TheVariants as happening
 use Rattle.script.specs.declared.row.LinkWords.{LinkWords}
 use Rattle.script.specs.declared.row.Row.TheVariants as row
 use Rattle.script.specs.Adding.{added, client_number, event_named, number_in}
-use Rattle.script.specs.Naming.{event_clients, event_clusters, event_topics, has_strange_client, has_stranger, is_among, is_client}
+use Rattle.script.specs.Naming.{has_strange_client, has_stranger, is_among, is_client}
 use Rattle.script.specs.Rules.{is_loop}
 use Rattle.script.specs.Scenario.{IsEvent, IsLink, IsStep}
 use Rattle.script.specs.Script.{SoFar}
@@ -22,7 +20,6 @@ use Rattle.script.specs.Words.{Word}
 use Rattle.script.proofs.ClientLines.{none_of_three}
 use Rattle.script.proofs.Forms.{IsFormed, IsFormedEvent}
 use Rattle.script.proofs.Kept.{IsKept, kept_more}
-use Rattle.script.proofs.KeptRows.{in_order}
 use Rattle.script.proofs.Places.{place-in}
 use Rattle.script.proofs.Unbroken.{IsUnbroken}
 
@@ -80,6 +77,9 @@ event_in s (happening.Take l fate) f u =
 event_in s (happening.Receipt l fate) f u =
     let known = none_of_three (has_stranger s.setup.clusters (l.source ∷ l.target ∷ [])) (has_stranger s.setup.topics (l.topic ∷ [])) (has_strange_client s.setup []) u.declared in
     (link_in s.setup l known.0 known.1 u.apart, f)
+event_in s (happening.Offer t x sub) f u =
+    let known = none_of_three (has_stranger s.setup.clusters (x ∷ [])) (has_stranger s.setup.topics (t ∷ [])) (has_strange_client s.setup []) u.declared in
+    (name_in s.setup.topics t (or_parts (not (is_among s.setup.topics t)) false known.1).0, name_in s.setup.clusters x (or_parts (not (is_among s.setup.clusters x)) false known.0).0, name_in (sub_names s.setup (number_in s.setup.topics t)) sub u.offered)
 
 pub event_kept : (n : ℕ) (s : SoFar) (e : Happening) → IsFormed (row.Event e) → IsUnbroken s (row.Event e) → IsKept n s → IsKept (n + 1) (added s (row.Event e))
 event_kept n s e f u k =
@@ -96,6 +96,7 @@ event_kept n s e f u k =
       clients_apart = k.clients_apart;
       few_clients = m.few_clients;
       few_of_topic = k.few_of_topic;
+      few_subs = k.few_subs;
       steps = All-push (IsStep s.setup) s.steps (step.Plain (event_named s.setup e)) k.steps (event_in s e f u);
       pair = k.pair;
       no_topics = λ late. absurd (omega arith);

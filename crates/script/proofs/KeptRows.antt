@@ -1,33 +1,33 @@
 -- Each row that breaks no rule keeps what is kept.
-use Rattle.std.proofs.Common.{◌≡◌, ℕ, ◌+◌, ◌<◌, ◌≤◌, nat_lt, nat_le, ◌==◌, Bool, true, false, not, List, [], ◌∷◌, ◌++◌, length, map, All, arith, refl, sym, ap, subst, ◌∙◌}
+use Rattle.std.proofs.Common.{◌≡◌, ℕ, ◌+◌, ◌<◌, ◌≤◌, nat_le, ◌==◌, Bool, true, false, not, ◌&&◌, List, [], ◌∷◌, ◌++◌, length, map, inl, inr, arith, refl, sym, ap, subst, ◌∙◌}
 use Rattle.std.specs.List.{filter, list_any, slice_set}
 use Rattle.std.specs.Str.{bytes_eq}
 use Rattle.std.proofs.Math.Seq.{map-set_same}
-use Rattle.std.proofs.lemmas.Bool.{cond_both, eqb-true, leb-false, ltb-false, or_left, or_parts, not-false}
+use Rattle.std.proofs.lemmas.Bool.{and_cases, both_ways, cond_both, eqb-true, leb-false, ltb-false, or_left, or_parts, not-false}
 use Rattle.std.proofs.lemmas.List.{length_push, length-append, length-set, map-append}
 use Rattle.std.proofs.lemmas.List.Elements.{All-nil, All-push, All-set, All-get_or, All-weaker, filter-append}
 use Rattle.std.proofs.lemmas.List.Folds.{list_any-append}
 use Rattle.geo_base.specs.declared.client.Line.{Line}
-use Rattle.geo_base.specs.declared.event.Event.{Event}
-use Rattle.geo_base.specs.declared.event.Step.{Step}
-use Rattle.geo_base.specs.declared.event.Step.TheVariants as step
+use Rattle.geo_base.specs.declared.client.Line.TheVariants as line
+use Rattle.geo_base.specs.declared.frame.SubKind.{SubKind}
 use Rattle.geo_base.specs.Scripted.{AreDistinct, clients_of}
-use Rattle.geo_base.specs.Setup.{Declared, Setup, declared_at, nobody}
-use Rattle.script.specs.declared.kind.Stage.TheVariants as stage
+use Rattle.geo_base.specs.Setup.{Declared, Setup, declared_at, nobody, sub_names}
 use Rattle.script.specs.declared.row.Act.{Act}
+use Rattle.script.specs.declared.row.Act.TheVariants as act
 use Rattle.script.specs.declared.row.Row.{Row}
 use Rattle.script.specs.declared.row.Row.TheVariants as row
-use Rattle.script.specs.Adding.{added, client_named, client_number, line_named, number_in, stage_of}
+use Rattle.script.specs.Adding.{added, client_named, client_number, ident_named, line_named, stage_of, targets_named}
 use Rattle.script.specs.Kinds.{rank}
 use Rattle.script.specs.Naming.{has_long, has_strange_client, has_stranger, is_among, is_client}
 use Rattle.script.specs.Scenario.{IsStep}
 use Rattle.script.specs.Script.{SoFar}
 use Rattle.script.specs.Words.{Word}
-use Rattle.script.proofs.ClientLines.{client_in, line_built, line_in, line_printable, line_wider, none_of_four, none_of_three}
+use Rattle.script.proofs.ClientLines.{client_in, client_is, line_built, line_in, line_printable, line_wider, none_of_four, none_of_three}
 use Rattle.script.proofs.Distinct.{AreDistinct-push, among_names}
 use Rattle.script.proofs.Forms.{IsFormed}
 use Rattle.script.proofs.Kept.{IsKept, IsKeptClient, IsKeptLine, All-none, all_more_lines, kept_more, list_all-push, names_of}
 use Rattle.script.proofs.Places.{place-in}
+use Rattle.script.proofs.SubNames.{few_kept, few_with_sub, subs_of_pushed}
 use Rattle.script.proofs.Unbroken.{IsUnbroken, short_name, single_short}
 
 -- a kind that comes now comes no earlier than the last
@@ -50,6 +50,7 @@ geo_kept n s u k =
       clients_apart = k.clients_apart;
       few_clients = m.few_clients;
       few_of_topic = k.few_of_topic;
+      few_subs = k.few_subs;
       steps = k.steps;
       pair = k.pair;
       no_topics = λ _. k.no_topics (omega arith);
@@ -76,6 +77,7 @@ cluster_kept n s x f u k =
       clients_apart = k.clients_apart;
       few_clients = omega arith;
       few_of_topic = k.few_of_topic;
+      few_subs = k.few_subs;
       steps = All-none (IsStep (added s (row.Cluster x)).setup) s.steps steps;
       pair = λ some. absurd (omega arith);
       no_topics = λ _. topics;
@@ -101,6 +103,7 @@ topic_kept n s t f u k =
       clients_apart = k.clients_apart;
       few_clients = omega arith;
       few_of_topic = k.few_of_topic;
+      few_subs = k.few_subs;
       steps = All-none (IsStep (added s (row.Topic t)).setup) s.steps steps;
       pair = λ _. ltb-false (length s.setup.clusters) 2 u.lone;
       no_topics = λ late. absurd (omega arith);
@@ -157,6 +160,7 @@ client_kept n s c t x f u some k =
       clients_apart = rw (map-append (λ (e : Declared). e.name) s.setup.clients (d ∷ [])) (AreDistinct-push (names_of s.setup) c (among_names s.setup.clients c ∙ u.again) k.clients_apart);
       few_clients = omega (arith, length_push s.setup.clients d, k.few_clients);
       few_of_topic = λ (at : ℕ). of_topic_pushed at s.setup.clients d (k.few_of_topic at) (λ same. subst (λ (m : ℕ). length (clients_of s.setup m) < 32) same (leb-false 32 _ u.clients));
+      few_subs = λ (at : ℕ). rw (subs_of_pushed s.setup d at refl) (k.few_subs at);
       steps = All-none (IsStep after) s.steps steps;
       pair = k.pair;
       no_topics = λ late. absurd (omega arith);
@@ -165,6 +169,20 @@ client_kept n s c t x f u some k =
     }
 
 -- ---- a client's line
+-- there is room for the subscription that a line names, where it is a new one
+sub_room : (s : SoFar) (c sub : Word) (kind : SubKind) (earliest replicated : Bool) → IsUnbroken s (row.Do c (act.Sub sub kind earliest replicated)) → is_among (sub_names s.setup (declared_at s.setup (client_number s.setup c)).topic) sub ≡ false → length (sub_names s.setup (declared_at s.setup (client_number s.setup c)).topic) < 32
+sub_room s c sub kind earliest replicated u new =
+    let names = sub_names s.setup (declared_at s.setup (client_number s.setup c)).topic in
+    let known = client_is s c (act.Sub sub kind earliest replicated) u in
+    elim (and_cases (is_client s.setup c) (not (is_among names sub) && nat_le 32 (length names)) u.subs) [
+      | inl stranger ↦ absurd (both_ways (is_client s.setup c) stranger known)
+      | inr fits ↦
+          elim (and_cases (not (is_among names sub)) (nat_le 32 (length names)) fits) [
+            | inl there ↦ absurd (both_ways (is_among names sub) new (not-false (is_among names sub) there))
+            | inr few ↦ leb-false 32 (length names) few
+          ]
+    ]
+
 topics_counted : (t : ℕ) (ds : List Declared) → length (filter (λ (d : Declared). d.topic == t) ds) ≡ length (filter (λ (u : ℕ). u == t) (map (λ (d : Declared). d.topic) ds))
 topics_counted t [] = refl
 topics_counted t (d ∷ ds) =
@@ -173,6 +191,18 @@ topics_counted t (d ∷ ds) =
 same_clients : (s : Setup) (ds : List Declared) → map (λ (d : Declared). d.name) ds ≡ names_of s → (p : Word) → is_client s p ≡ true → is_client (record s { clients = ds }) p ≡ true
 same_clients s ds same p is =
     sym (among_names ds p) ∙ (ap (λ (ns : List Word). is_among ns p) same ∙ (among_names s.clients p ∙ is))
+
+-- a line names at most one subscription more, and none where its topic has 32
+subs_fit : (n : ℕ) (s : SoFar) (c : Word) (a : Act) → IsUnbroken s (row.Do c a) → client_number s.setup c < length s.setup.clients → IsKept n s → (t : ℕ) → length (sub_names (added s (row.Do c a)).setup t) ≤ 32
+subs_fit n s c act.Produce u within k t = few_kept s (client_number s.setup c) line.Produce t within refl (k.few_subs t)
+subs_fit n s c (act.Pub seq to key text) u within k t =
+    few_kept s (client_number s.setup c) (line.Pub seq (targets_named s.setup.clusters to) key text) t within refl (k.few_subs t)
+subs_fit n s c (act.Flow permits) u within k t = few_kept s (client_number s.setup c) (line.Flow permits) t within refl (k.few_subs t)
+subs_fit n s c (act.Ack i) u within k t = few_kept s (client_number s.setup c) (line.Ack (ident_named s.setup i)) t within refl (k.few_subs t)
+subs_fit n s c (act.AckTo i) u within k t = few_kept s (client_number s.setup c) (line.AckTo (ident_named s.setup i)) t within refl (k.few_subs t)
+subs_fit n s c act.AckAll u within k t = few_kept s (client_number s.setup c) line.AckAll t within refl (k.few_subs t)
+subs_fit n s c (act.Sub sub kind earliest replicated) u within k t =
+    few_with_sub s (client_number s.setup c) sub kind earliest replicated t within (sub_room s c sub kind earliest replicated u) (k.few_subs t)
 
 pub line_kept : (n : ℕ) (s : SoFar) (c : Word) (a : Act) → IsFormed (row.Do c a) → IsUnbroken s (row.Do c a) → IsKept n s → IsKept (n + 1) (added s (row.Do c a))
 line_kept n s c a f u k =
@@ -214,6 +244,7 @@ line_kept n s c a f u k =
       clients_apart = subst AreDistinct (sym same_names) k.clients_apart;
       few_clients = omega (arith, length-set s.setup.clients at e, k.few_clients);
       few_of_topic = λ (t : ℕ). subst (λ (m : ℕ). m ≤ 32) (topics_counted t s.setup.clients ∙ (ap (λ (ts : List ℕ). length (filter (λ (b : ℕ). b == t) ts)) (sym same_topics) ∙ sym (topics_counted t ds))) (k.few_of_topic t);
+      few_subs = subs_fit n s c a u within k;
       steps = All-none (IsStep after) s.steps steps;
       pair = k.pair;
       no_topics = λ late. absurd (omega arith);

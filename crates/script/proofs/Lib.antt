@@ -5,6 +5,10 @@ pub mod Printable
 pub mod Parts
 pub mod Places
 pub mod Masks
+pub mod SubNames
+pub mod NoTopic
+pub mod Noting
+pub mod Drafting
 pub mod Forms
 pub mod Unbroken
 pub mod ClientLines

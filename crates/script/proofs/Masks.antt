@@ -1,5 +1,5 @@
 -- Masks of clusters.
-use Rattle.std.proofs.Common.{◌≡◌, ℕ, zero, suc, ◌+◌, ◌*◌, ◌<◌, ◌≤◌, ◌^◌, Bool, true, false, List, [], ◌∷◌, length, arith, refl}
+use Rattle.std.proofs.Common.{ℕ, zero, suc, ◌<◌, ◌≤◌, ◌^◌, Bool, true, false, List, [], ◌∷◌, length, arith}
 use Rattle.script.specs.Adding.{bit, mask_of}
 use Rattle.script.specs.Naming.{is_among}
 use Rattle.script.specs.Words.{Word}

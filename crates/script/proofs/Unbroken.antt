@@ -1,16 +1,14 @@
 -- A row that breaks no rule, rule by rule; and what the code has to know of one.
-use Rattle.std.proofs.Common.{◌≡◌, ℕ, ◌<◌, ◌≤◌, nat_lt, nat_le, Bool, true, false, not, ◌&&◌, ◌||◌, List, [], ◌∷◌, ◌++◌, length, find, Option, Some, None, arith, refl, inl, inr, ◌^◌}
-use Rattle.std.specs.List.{list_all, list_any}
-use Rattle.std.proofs.lemmas.Bool.{and_cases, and_from, and_parts, leb-false, ltb-false, lt-ltb, le-leb, not-false, or_parts, both_ways}
+use Rattle.std.proofs.Common.{◌≡◌, nat_lt, nat_le, true, false, ◌&&◌, [], ◌∷◌, length, find, None}
+use Rattle.std.specs.List.{list_all}
+use Rattle.std.proofs.lemmas.Bool.{and_from, and_parts, ltb-false, le-leb, or_parts}
 use Rattle.geo_base.specs.Name.{is_name, name_byte}
-use Rattle.geo_base.specs.Setup.{Declared, Setup, nobody}
-use Rattle.script.specs.declared.fault.Rule.{Rule}
 use Rattle.script.specs.declared.fault.Rule.TheVariants as rule
 use Rattle.script.specs.declared.row.Row.{Row}
 use Rattle.script.specs.Adding.{stage_of}
 use Rattle.script.specs.Kinds.{rank}
 use Rattle.script.specs.Naming.{has_long, has_long_name, has_undeclared, is_long}
-use Rattle.script.specs.Rules.{declares_again, has_loop, has_text_past, is_client_past, is_cluster, is_geo, is_topic, row_breaks, row_rules, targets_repeat}
+use Rattle.script.specs.Rules.{declares_again, has_loop, has_text_past, is_client_past, is_cluster, is_sub_past, is_topic, offers_stranger, row_breaks, row_rules}
 use Rattle.script.specs.Script.{SoFar}
 use Rattle.script.specs.Words.{Word, has_name_bytes}
 use Rattle.script.proofs.Parts.{none_found}
@@ -23,8 +21,10 @@ pub record IsUnbroken (s : SoFar) (r : Row) : Type 0 where
   pub lone : (is_topic r && nat_lt (length s.setup.clusters) 2) ≡ false
   pub topics : (is_topic r && nat_le 16 (length s.setup.topics)) ≡ false
   pub clients : is_client_past 32 s.setup r ≡ false
+  pub subs : is_sub_past 32 s.setup r ≡ false
   pub text : has_text_past 1024 r ≡ false
   pub declared : has_undeclared s.setup r ≡ false
+  pub offered : offers_stranger s.setup r ≡ false
   pub apart : has_loop r ≡ false
 
 pub row_unbroken : (s : SoFar) (r : Row) → find (row_breaks s r) row_rules ≡ None → IsUnbroken s r
@@ -37,9 +37,11 @@ row_unbroken s r e =
     let lone = none_found (row_breaks s r rule.Lone) rule.Lone _ again.1 in
     let topics = none_found (row_breaks s r rule.Topics) rule.Topics _ lone.1 in
     let clients = none_found (row_breaks s r rule.Clients) rule.Clients _ topics.1 in
-    let text = none_found (row_breaks s r rule.LongText) rule.LongText _ clients.1 in
+    let subs = none_found (row_breaks s r rule.Subscriptions) rule.Subscriptions _ clients.1 in
+    let text = none_found (row_breaks s r rule.LongText) rule.LongText _ subs.1 in
     let declared = none_found (row_breaks s r rule.Undeclared) rule.Undeclared _ text.1 in
-    let apart = none_found (row_breaks s r rule.Loop) rule.Loop _ declared.1 in
+    let offered = none_found (row_breaks s r rule.StrangeSubscription) rule.StrangeSubscription _ declared.1 in
+    let apart = none_found (row_breaks s r rule.Loop) rule.Loop _ offered.1 in
     record {
       names = names.0;
       order = order.0;
@@ -48,8 +50,10 @@ row_unbroken s r e =
       lone = lone.0;
       topics = topics.0;
       clients = clients.0;
+      subs = subs.0;
       text = text.0;
       declared = declared.0;
+      offered = offered.0;
       apart = apart.0;
     }
 

@@ -4,26 +4,29 @@ use Rattle.std.specs.List.{position_or_len}
 use Rattle.std.specs.Str.{bytes_eq}
 use Rattle.geo_base.specs.declared.client.Line.{Line}
 use Rattle.geo_base.specs.declared.client.Line.TheVariants as line
+use Rattle.geo_base.specs.declared.entry.Ident.{Ident}
 use Rattle.geo_base.specs.declared.entry.Targets.{Targets}
 use Rattle.geo_base.specs.declared.entry.Targets.TheVariants as targets
 use Rattle.geo_base.specs.declared.event.Event.{Event}
 use Rattle.geo_base.specs.declared.event.Event.TheVariants as event
 use Rattle.geo_base.specs.declared.event.Step.{Step}
 use Rattle.geo_base.specs.declared.event.Step.TheVariants as step
-use Rattle.geo_base.specs.Setup.{Declared, Setup, declared_at}
+use Rattle.geo_base.specs.Setup.{Declared, Setup, declared_at, sub_names}
 use Rattle.script.specs.declared.kind.Stage.{Stage}
 use Rattle.script.specs.declared.kind.Stage.TheVariants as stage
 use Rattle.script.specs.declared.row.Act.{Act}
 use Rattle.script.specs.declared.row.Act.TheVariants as act
 use Rattle.script.specs.declared.row.Happening.{Happening}
 use Rattle.script.specs.declared.row.Happening.TheVariants as happening
+use Rattle.script.specs.declared.row.IdentWords.{IdentWords}
 use Rattle.script.specs.declared.row.Row.{Row}
 use Rattle.script.specs.declared.row.Row.TheVariants as row
 use Rattle.script.specs.Naming.{is_among}
 use Rattle.script.specs.Script.{SoFar}
 use Rattle.script.specs.Words.{Word}
 
--- clusters, topics and clients are numbered from 0, each in the order of their lines
+-- clusters, topics and clients are numbered from 0, each in the order of their lines; the names of a topic's subscriptions
+-- in the order of its clients and of their `sub` lines
 abbrev pub number_in : List Word → Word → ℕ
 number_in names word = position_or_len (λ n. bytes_eq n word) names
 
@@ -43,9 +46,17 @@ abbrev pub targets_named : List Word → Option (List Word) → Targets
 targets_named clusters None = targets.All
 targets_named clusters (Some names) = targets.Only (mask_of clusters names)
 
+abbrev pub ident_named : Setup → IdentWords → Ident
+ident_named s i = record { origin = number_in s.clusters i.origin; producer = i.producer; seq = i.seq }
+
 abbrev pub line_named : Setup → Act → Line
 line_named s act.Produce = line.Produce
 line_named s (act.Pub seq to key text) = line.Pub seq (targets_named s.clusters to) key text
+line_named s (act.Sub sub k earliest replicated) = line.Sub sub k earliest replicated
+line_named s (act.Flow permits) = line.Flow permits
+line_named s (act.Ack i) = line.Ack (ident_named s i)
+line_named s (act.AckTo i) = line.AckTo (ident_named s i)
+line_named s act.AckAll = line.AckAll
 
 -- ---- events
 abbrev pub event_named : Setup → Happening → Event
@@ -61,6 +72,8 @@ event_named s (happening.Take l f) =
     event.Take (number_in s.topics l.topic) (number_in s.clusters l.source) (number_in s.clusters l.target) f
 event_named s (happening.Receipt l f) =
     event.Receipt (number_in s.topics l.topic) (number_in s.clusters l.source) (number_in s.clusters l.target) f
+event_named s (happening.Offer t x sub) =
+    event.Offer (number_in s.topics t) (number_in s.clusters x) (number_in (sub_names s (number_in s.topics t)) sub)
 
 -- ---- all lines
 abbrev pub with_cluster : SoFar → Word → SoFar

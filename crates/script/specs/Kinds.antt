@@ -20,6 +20,7 @@ event_kind_of word =
     else if bytes_eq word (codes "read") then Some event_kind.Read
     else if bytes_eq word (codes "take") then Some event_kind.Take
     else if bytes_eq word (codes "receipt") then Some event_kind.Receipt
+    else if bytes_eq word (codes "offer") then Some event_kind.Offer
     else None
 
 -- the word after `do C`
@@ -27,6 +28,11 @@ abbrev pub act_kind_of : List ℕ → Option ActKind
 act_kind_of word =
     if bytes_eq word (codes "produce") then Some act_kind.Produce
     else if bytes_eq word (codes "pub") then Some act_kind.Pub
+    else if bytes_eq word (codes "sub") then Some act_kind.Sub
+    else if bytes_eq word (codes "flow") then Some act_kind.Flow
+    else if bytes_eq word (codes "ack") then Some act_kind.Ack
+    else if bytes_eq word (codes "ackto") then Some act_kind.AckTo
+    else if bytes_eq word (codes "ackall") then Some act_kind.AckAll
     else None
 
 abbrev pub kind_of : List ℕ → Option Kind

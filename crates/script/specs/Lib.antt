@@ -5,6 +5,7 @@ pub mod Words
 pub mod Rows
 pub mod Naming
 pub mod Script
+pub mod Subs
 pub mod Adding
 pub mod Rules
 pub mod Scenario

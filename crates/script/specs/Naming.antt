@@ -1,5 +1,5 @@
 -- The names in a line.
-use Rattle.std.specs.Prelude.{ℕ, nat_lt, Bool, not, ◌||◌, List, [], ◌∷◌, length, Option, Some, None}
+use Rattle.std.specs.Prelude.{nat_lt, Bool, not, ◌||◌, List, [], ◌∷◌, length, Option, Some, None}
 use Rattle.std.specs.List.{list_any}
 use Rattle.std.specs.Str.{bytes_eq}
 use Rattle.geo_base.specs.Setup.{Declared, Setup}
@@ -7,7 +7,6 @@ use Rattle.script.specs.declared.row.Act.{Act}
 use Rattle.script.specs.declared.row.Act.TheVariants as act
 use Rattle.script.specs.declared.row.Happening.{Happening}
 use Rattle.script.specs.declared.row.Happening.TheVariants as happening
-use Rattle.script.specs.declared.row.LinkWords.{LinkWords}
 use Rattle.script.specs.declared.row.Row.{Row}
 use Rattle.script.specs.declared.row.Row.TheVariants as row
 use Rattle.script.specs.Words.{Word}
@@ -29,6 +28,7 @@ event_clusters (happening.Reset l) = l.source ∷ l.target ∷ []
 event_clusters (happening.Read l) = l.source ∷ l.target ∷ []
 event_clusters (happening.Take l f) = l.source ∷ l.target ∷ []
 event_clusters (happening.Receipt l f) = l.source ∷ l.target ∷ []
+event_clusters (happening.Offer t x sub) = x ∷ []
 event_clusters e = []
 
 -- T of an event line
@@ -37,6 +37,7 @@ event_topics (happening.Reset l) = l.topic ∷ []
 event_topics (happening.Read l) = l.topic ∷ []
 event_topics (happening.Take l f) = l.topic ∷ []
 event_topics (happening.Receipt l f) = l.topic ∷ []
+event_topics (happening.Offer t x sub) = t ∷ []
 event_topics e = []
 
 -- C of an event line
@@ -48,8 +49,16 @@ event_clients (happening.Serve x c) = c ∷ []
 event_clients e = []
 
 abbrev pub act_clusters : Act → List Word
-act_clusters act.Produce = []
 act_clusters (act.Pub seq to key text) = names_listed to
+act_clusters (act.Ack i) = i.origin ∷ []
+act_clusters (act.AckTo i) = i.origin ∷ []
+act_clusters a = []
+
+-- P of an acknowledgement is a client of any topic
+abbrev pub act_clients : Act → List Word
+act_clients (act.Ack i) = i.producer ∷ []
+act_clients (act.AckTo i) = i.producer ∷ []
+act_clients a = []
 
 -- names at the places of a line where something declared is named
 abbrev pub clusters_in : Row → List Word
@@ -64,20 +73,26 @@ topics_in (row.Event e) = event_topics e
 topics_in r = []
 
 abbrev pub clients_in : Row → List Word
-clients_in (row.Do c a) = c ∷ []
+clients_in (row.Do c a) = c ∷ act_clients a
 clients_in (row.Event e) = event_clients e
 clients_in r = []
 
--- names that name nothing declared: what a line declares, and a key
+-- names that name nothing declared: what a line declares, a key, and a subscription
 abbrev pub act_names : Act → List Word
-act_names act.Produce = []
 act_names (act.Pub seq to key text) = key_named key
+act_names (act.Sub sub k earliest replicated) = sub ∷ []
+act_names a = []
+
+abbrev pub event_names : Happening → List Word
+event_names (happening.Offer t x sub) = sub ∷ []
+event_names e = []
 
 abbrev pub other_names_in : Row → List Word
 other_names_in (row.Cluster x) = x ∷ []
 other_names_in (row.Topic t) = t ∷ []
 other_names_in (row.Client c t x) = c ∷ []
 other_names_in (row.Do c a) = act_names a
+other_names_in (row.Event e) = event_names e
 other_names_in r = []
 
 -- a name has at most 16 bytes (own)

@@ -6,15 +6,22 @@
 --   client C T X
 --   do C produce
 --   do C pub SEQ TO KEY TEXT
+--   do C sub S exclusive INIT local
+--   do C flow N
+--   do C ack X P SEQ  do C ackto X P SEQ
+--   do C ackall
 --   go C              get C             reconnect C
 --   serve X C
 --   reset T X Y       read T X Y
 --   take T X Y FATE   receipt T X Y FATE
-use Rattle.std.specs.Prelude.{ℕ, ◌-◌, ◌^◌, Bool, true, false, ◌||◌, List, [], ◌∷◌, Option, Some, None, is_none, codes}
+--   offer T X S
+use Rattle.std.specs.Prelude.{ℕ, ◌-◌, ◌^◌, nat_lt, Bool, true, false, ◌||◌, List, [], ◌∷◌, Option, Some, None, codes}
 use Rattle.std.specs.Option.{option_map_or}
 use Rattle.std.specs.Str.{bytes_eq}
 use Rattle.geo_base.specs.declared.event.Fate.{Fate}
 use Rattle.geo_base.specs.declared.event.Fate.TheVariants as fate
+use Rattle.geo_base.specs.declared.frame.SubKind.{SubKind}
+use Rattle.geo_base.specs.declared.frame.SubKind.TheVariants as sub_kind
 use Rattle.script.specs.declared.kind.ActKind.{ActKind}
 use Rattle.script.specs.declared.kind.ActKind.TheVariants as act_kind
 use Rattle.script.specs.declared.kind.EventKind.{EventKind}
@@ -25,14 +32,38 @@ use Rattle.script.specs.declared.row.Act.{Act}
 use Rattle.script.specs.declared.row.Act.TheVariants as act
 use Rattle.script.specs.declared.row.Happening.{Happening}
 use Rattle.script.specs.declared.row.Happening.TheVariants as happening
+use Rattle.script.specs.declared.row.IdentWords.{IdentWords}
 use Rattle.script.specs.declared.row.LinkWords.{LinkWords}
 use Rattle.script.specs.declared.row.Row.{Row}
 use Rattle.script.specs.declared.row.Row.TheVariants as row
-use Rattle.script.specs.Kinds.{act_kind_of, event_kind_of, kind_of}
+use Rattle.script.specs.Kinds.{act_kind_of, kind_of}
 use Rattle.script.specs.Numbers.{number_of}
-use Rattle.script.specs.Words.{Word, ◌>>=◌, given, none_left, one, two, three, four, fourth, three_and_text, name_of, key_of, targets_of}
+use Rattle.script.specs.Words.{Word, ◌>>=◌, given, none_left, one, two, three, four, fourth, second, three_and_text, name_of, key_of, start_of, targets_of}
 
 -- ---- client lines, of the words after `do C` and the kind
+-- a kind of subscription (subType of CommandSubscribe)
+abbrev pub sub_kind_of : Word → Option SubKind
+sub_kind_of w = given (bytes_eq w (codes "exclusive")) sub_kind.Exclusive
+
+-- whether a subscription is replicated
+abbrev pub replication_of : Word → Option Bool
+replication_of w = given (bytes_eq w (codes "local")) false
+
+-- the most permits of one line (own)
+abbrev pub permits_of : Word → Option ℕ
+permits_of w = do
+  n ← number_of 1000000 w
+  given (nat_lt 0 n) n
+
+-- `X P SEQ`
+abbrev pub ident_of : List Word → Option IdentWords
+ident_of ws = do
+  w ← three ws
+  origin ← name_of w.0
+  producer ← name_of w.1
+  seq ← number_of (2 ^ 63 - 1) w.2
+  Some (record { origin = origin; producer = producer; seq = seq })
+
 abbrev pub act_of : ActKind → List Word → Option Act
 -- `produce`
 act_of act_kind.Produce ws = given (none_left ws) act.Produce
@@ -43,6 +74,28 @@ act_of act_kind.Pub ws = do
   to ← targets_of w.1
   key ← key_of w.2
   Some (act.Pub seq to key w.3)
+-- `sub S KIND INIT REPL`
+act_of act_kind.Sub ws = do
+  w ← four ws
+  sub ← name_of w.0
+  k ← sub_kind_of w.1
+  earliest ← start_of w.2
+  replicated ← replication_of w.3
+  Some (act.Sub sub k earliest replicated)
+-- `flow N`
+act_of act_kind.Flow ws = do
+  w ← one ws
+  permits ← permits_of w
+  Some (act.Flow permits)
+-- `ack X P SEQ`, `ackto X P SEQ`
+act_of act_kind.Ack ws = do
+  i ← ident_of ws
+  Some (act.Ack i)
+act_of act_kind.AckTo ws = do
+  i ← ident_of ws
+  Some (act.AckTo i)
+-- `ackall`
+act_of act_kind.AckAll ws = given (none_left ws) act.AckAll
 
 -- `do C` and a line of that client
 abbrev pub do_row : List Word → Option Row
@@ -113,6 +166,13 @@ happening_of event_kind.Take ws = do
 happening_of event_kind.Receipt ws = do
   l ← fated_link_of ws
   Some (happening.Receipt l.0 l.1)
+-- `T X S`
+happening_of event_kind.Offer ws = do
+  w ← three ws
+  t ← name_of w.0
+  x ← name_of w.1
+  sub ← name_of w.2
+  Some (happening.Offer t x sub)
 
 -- ---- all lines
 abbrev pub geo_row : List Word → Option Row
@@ -169,9 +229,25 @@ is_later_fate w = bytes_eq w (codes "lost") || bytes_eq w (codes "twice")
 abbrev pub has_later_fate : List Word → Bool
 has_later_fate ws = option_map_or is_later_fate (fourth ws) false
 
--- the word after `do C` is in no row
+-- the kinds of subscription, and the replicated ones, that are not read yet
+abbrev pub is_later_kind : Word → Bool
+is_later_kind w = bytes_eq w (codes "shared") || bytes_eq w (codes "failover") || bytes_eq w (codes "keyshared")
+
+abbrev pub is_later_replication : Word → Bool
+is_later_replication w = bytes_eq w (codes "replicated")
+
+-- KIND and REPL stand after S
+abbrev pub has_later_sub : List Word → Bool
+has_later_sub ws = option_map_or is_later_kind (second ws) false || option_map_or is_later_replication (fourth ws) false
+
+abbrev pub is_unknown_act : Option ActKind → List Word → Bool
+is_unknown_act None ws = true
+is_unknown_act (Some act_kind.Sub) ws = has_later_sub ws
+is_unknown_act (Some k) ws = false
+
+-- the word after `do C` is in no row, or one that is not read yet stands at its place
 abbrev pub has_unknown_act : List Word → Bool
-has_unknown_act (c ∷ w ∷ ws) = is_none (act_kind_of w)
+has_unknown_act (c ∷ w ∷ ws) = is_unknown_act (act_kind_of w) ws
 has_unknown_act ws = false
 
 abbrev pub has_unknown_event : EventKind → List Word → Bool

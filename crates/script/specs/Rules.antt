@@ -1,20 +1,19 @@
 -- The rules of a script, and what a whole script says.
-use Rattle.std.specs.Prelude.{ℕ, ◌+◌, nat_lt, nat_le, ◌==◌, Bool, true, false, not, ◌&&◌, ◌||◌, if◌then◌else◌, List, [], ◌∷◌, ◌++◌, length, filter, find, Option, Some, None, is_none, Result, Ok, Err, codes}
-use Rattle.std.specs.List.{list_all, list_any}
+use Rattle.std.specs.Prelude.{ℕ, ◌+◌, nat_lt, nat_le, ◌==◌, Bool, true, false, not, ◌&&◌, ◌||◌, if◌then◌else◌, List, [], ◌∷◌, length, find, Option, Some, None, is_none, Result, Ok, Err, codes}
+use Rattle.std.specs.List.{list_all}
 use Rattle.std.specs.Option.{option_map_or}
 use Rattle.std.specs.Str.{bytes_eq}
 use Rattle.geo_base.specs.Scripted.{clients_of}
-use Rattle.geo_base.specs.Setup.{Setup}
+use Rattle.geo_base.specs.Setup.{Setup, declared_at, sub_names}
 use Rattle.script.specs.declared.fault.Rule.{Rule}
 use Rattle.script.specs.declared.fault.Rule.TheVariants as rule
-use Rattle.script.specs.declared.row.Act.{Act}
 use Rattle.script.specs.declared.row.Act.TheVariants as act
 use Rattle.script.specs.declared.row.Happening.{Happening}
 use Rattle.script.specs.declared.row.Happening.TheVariants as happening
 use Rattle.script.specs.declared.row.LinkWords.{LinkWords}
 use Rattle.script.specs.declared.row.Row.{Row}
 use Rattle.script.specs.declared.row.Row.TheVariants as row
-use Rattle.script.specs.Adding.{added, number_in, stage_of}
+use Rattle.script.specs.Adding.{added, client_number, number_in, stage_of}
 use Rattle.script.specs.Kinds.{rank}
 use Rattle.script.specs.Lines.{TextLine, lines_of, words_of, is_skipped, is_printable}
 use Rattle.script.specs.Naming.{names_listed, has_long_name, has_undeclared, is_among, is_client}
@@ -75,11 +74,25 @@ abbrev pub targets_repeat : Row → Bool
 targets_repeat (row.Do c (act.Pub seq to key text)) = has_repeat (names_listed to)
 targets_repeat r = false
 
+-- its client's topic has so many subscriptions already, and it names another one; a client that is not declared has no topic
+abbrev pub is_sub_past_in : ℕ → List Word → Word → Bool
+is_sub_past_in most names sub = not (is_among names sub) && nat_le most (length names)
+
+abbrev pub is_sub_past : ℕ → Setup → Row → Bool
+is_sub_past most s (row.Do c (act.Sub sub k earliest replicated)) =
+    is_client s c && is_sub_past_in most (sub_names s (declared_at s (client_number s c)).topic) sub
+is_sub_past most s r = false
+
+-- its subscription is in no `sub` line of a client of its topic; a topic that is not declared has no client
+abbrev pub offers_stranger : Setup → Row → Bool
+offers_stranger s (row.Event (happening.Offer t x sub)) = not (is_among (sub_names s (number_in s.topics t)) sub)
+offers_stranger s r = false
+
 -- ---- the rules
 -- the rules that a row may break, the lowest first
 abbrev pub row_rules : List Rule
 row_rules = rule.LongName ∷ rule.Order ∷ rule.Twice ∷ rule.Clusters ∷ rule.NameTwice ∷ rule.Lone ∷ rule.Topics ∷ rule.Clients
-    ∷ rule.LongText ∷ rule.Undeclared ∷ rule.Loop ∷ rule.TargetTwice ∷ []
+    ∷ rule.Subscriptions ∷ rule.LongText ∷ rule.Undeclared ∷ rule.StrangeSubscription ∷ rule.Loop ∷ rule.TargetTwice ∷ []
 
 -- all rules, the lowest first
 abbrev pub rules : List Rule
@@ -98,8 +111,10 @@ rule_number rule.NameTwice = 9
 rule_number rule.Lone = 10
 rule_number rule.Topics = 11
 rule_number rule.Clients = 12
+rule_number rule.Subscriptions = 13
 rule_number rule.LongText = 14
 rule_number rule.Undeclared = 15
+rule_number rule.StrangeSubscription = 17
 rule_number rule.Loop = 18
 rule_number rule.TargetTwice = 19
 
@@ -121,10 +136,14 @@ row_breaks s r rule.Lone = is_topic r && nat_lt (length s.setup.clusters) 2
 row_breaks s r rule.Topics = is_topic r && nat_le 16 (length s.setup.topics)
 -- it is the 33rd client of its topic
 row_breaks s r rule.Clients = is_client_past 32 s.setup r
+-- it names the 33rd subscription of its topic
+row_breaks s r rule.Subscriptions = is_sub_past 32 s.setup r
 -- TEXT is longer than 1,024 bytes
 row_breaks s r rule.LongText = has_text_past 1024 r
 -- a cluster, topic or client is not declared
 row_breaks s r rule.Undeclared = has_undeclared s.setup r
+-- an offer's subscription is in no `sub` line of a client of that topic
+row_breaks s r rule.StrangeSubscription = offers_stranger s.setup r
 -- X and Y are the same
 row_breaks s r rule.Loop = has_loop r
 -- TO names a cluster twice

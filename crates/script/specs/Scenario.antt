@@ -1,5 +1,5 @@
 -- What is known of each script that is accepted.
-use Rattle.std.specs.Prelude.{◌≡◌, ◌≢◌, ℕ, ◌<◌, ◌≤◌, ◌^◌, Bool, true, List, length, All, Option, ⊤}
+use Rattle.std.specs.Prelude.{◌≡◌, ◌≢◌, ℕ, ◌<◌, ◌≤◌, ◌^◌, Bool, true, false, List, length, All, Option, ⊤}
 use Rattle.std.specs.List.{list_all}
 use Rattle.geo_base.specs.declared.client.Line.{Line}
 use Rattle.geo_base.specs.declared.client.Line.TheVariants as line
@@ -9,8 +9,10 @@ use Rattle.geo_base.specs.declared.event.Event.TheVariants as event
 use Rattle.geo_base.specs.declared.event.Fate.TheVariants as fate
 use Rattle.geo_base.specs.declared.event.Step.{Step}
 use Rattle.geo_base.specs.declared.event.Step.TheVariants as step
+use Rattle.geo_base.specs.declared.frame.SubKind.TheVariants as sub_kind
+use Rattle.geo_base.specs.Name.{is_name}
 use Rattle.geo_base.specs.Scripted.{IsScripted, is_optional_name, names_some}
-use Rattle.geo_base.specs.Setup.{Declared, Setup}
+use Rattle.geo_base.specs.Setup.{Declared, Setup, sub_names}
 use Rattle.script.specs.Lines.{is_printable}
 use Rattle.script.specs.Script.{Script}
 
@@ -26,6 +28,11 @@ pub record IsPublish (seq : ℕ) (to : Targets) (key : Option (List ℕ)) (text 
 abbrev pub IsClientLine : Line → Type 0
 IsClientLine line.Produce = ⊤
 IsClientLine (line.Pub seq to key text) = IsPublish seq to key text
+IsClientLine (line.Sub sub k earliest replicated) = (is_name sub ≡ true) × (k ≡ sub_kind.Exclusive) × (replicated ≡ false)
+IsClientLine (line.Flow permits) = (0 < permits) × (permits ≤ 1000000)
+IsClientLine (line.Ack i) = (i.seq < 2 ^ 63) × (is_name i.producer ≡ true)
+IsClientLine (line.AckTo i) = (i.seq < 2 ^ 63) × (is_name i.producer ≡ true)
+IsClientLine line.AckAll = ⊤
 IsClientLine l = ⊥
 
 -- the topic and the two ends of a link
@@ -45,6 +52,8 @@ IsEvent s (event.Reset topic source target) = IsLink s topic source target
 IsEvent s (event.Read topic source target) = IsLink s topic source target
 IsEvent s (event.Take topic source target f) = IsLink s topic source target × (f ≡ fate.Good)
 IsEvent s (event.Receipt topic source target f) = IsLink s topic source target × (f ≡ fate.Good)
+IsEvent s (event.Offer topic cluster sub) =
+    (topic < length s.topics) × (cluster < length s.clusters) × (sub < length (sub_names s topic))
 IsEvent s e = ⊥
 
 abbrev pub IsStep : Setup → Step → Type 0

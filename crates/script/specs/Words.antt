@@ -1,5 +1,5 @@
 -- Words, so many and no more, and what a word of each form is.
-use Rattle.std.specs.Prelude.{ℕ, nat_lt, ◌==◌, Bool, ◌&&◌, if◌then◌else◌, List, [], ◌∷◌, length, Option, Some, None, option_map, option_and_then, codes}
+use Rattle.std.specs.Prelude.{ℕ, nat_lt, ◌==◌, Bool, true, false, ◌&&◌, if◌then◌else◌, List, [], ◌∷◌, length, Option, Some, None, option_map, option_and_then, codes}
 use Rattle.std.specs.List.{list_all, slice_split, join_with_byte}
 use Rattle.std.specs.Str.{bytes_eq}
 use Rattle.geo_base.specs.Name.{name_byte}
@@ -34,6 +34,10 @@ abbrev pub four : List Word → Option (Word × Word × Word × Word)
 four (a ∷ b ∷ c ∷ d ∷ []) = Some (a, b, c, d)
 four ws = None
 
+abbrev pub second : List Word → Option Word
+second (a ∷ b ∷ more) = Some b
+second ws = None
+
 abbrev pub fourth : List Word → Option Word
 fourth (a ∷ b ∷ c ∷ d ∷ more) = Some d
 fourth ws = None
@@ -64,6 +68,10 @@ listed w = slice_split (λ b. b == 44) w
 abbrev pub targets_of : Word → Option (Option (List Word))
 targets_of w =
     if bytes_eq w (codes "*") then Some None else given (list_all has_name_bytes (listed w)) (Some (listed w))
+
+-- INIT: where a subscription begins that is not there yet, before the first entry or after the last
+abbrev pub start_of : Word → Option Bool
+start_of w = if bytes_eq w (codes "earliest") then Some true else given (bytes_eq w (codes "latest")) false
 
 -- KEY: `-`, which is no key, or a name
 abbrev pub key_of : Word → Option (Option Word)

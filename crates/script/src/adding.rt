@@ -2,16 +2,19 @@
 ghost use Rattle.std.specs.Prelude.{◌≡◌, ◌<◌, ◌≤◌, ◌+◌, ◌^◌, true, length, IfOk, OnOk};
 ghost use Rattle.geo_base.specs.Name.{is_name};
 ghost use Rattle.geo_base.specs.Scripted.{is_optional_name};
-ghost use Rattle.script.specs.Adding.{added, client_named, client_number, event_named, line_named, mask_of, targets_named, with_client, with_cluster, with_line, with_topic};
+ghost use Rattle.script.specs.Adding.{added, client_named, client_number, event_named, ident_named, line_named, mask_of, targets_named, with_client, with_cluster, with_line, with_topic};
 ghost use Rattle.script.specs.Drafts.{IsFitting};
+ghost use Rattle.script.specs.Kinds.{rank};
 ghost use Rattle.script.specs.Scenario.{IsClientLine};
 
 use crate::draft::Draft;
 use crate::name_list::NameList;
 use crate::place::NameWord;
-use crate::row::{Act, Happening, Row};
+use crate::row::{Act, Happening, IdentWords, Row};
 use crate::scenario::{ClientDecl, ScriptLine};
-use geo_base::{Blob, ClusterName, Event, Memory, ProducerName, Step, Targets, Text, TopicName};
+use geo_base::{
+    Blob, ClusterName, Event, Ident, Memory, ProducerName, Step, Targets, Text, TopicName,
+};
 use std::alloc::Global;
 
 impl Draft {
@@ -56,6 +59,7 @@ impl Draft {
     fn add_topic(&mut self, alloc: Global, name: &NameWord<'_>) -> Result<(), Memory>
         requires name { is_name name.now ≡ true }
         requires few { length self.old.setup.topics < 16 }
+        requires early { rank self.old.last < 5 }
         ensures { OnOk result (self.new ≡ with_topic self.old name.now) }
     {
         match TopicName::read(alloc, name.text()) {
@@ -74,6 +78,7 @@ impl Draft {
     ) -> Result<(), Memory>
         requires name { is_name name.now ≡ true }
         requires few { length self.old.setup.clients + 1 < 2 ^ 32 }
+        requires early { rank self.old.last < 5 }
         ensures { OnOk result (self.new
             ≡ with_client self.old (client_named self.old.setup name.now topic.now cluster.now)) }
     {
@@ -97,13 +102,22 @@ impl Draft {
         act: &Act<'_>,
     ) -> Result<(), Memory>
         requires known { client_number self.old.setup client.now < length self.old.setup.clients }
+        requires early { rank self.old.last < 5 }
         requires fits { IsClientLine (line_named self.old.setup act.now) }
         ensures { OnOk result (self.new ≡ with_line self.old (client_number self.old.setup client.now)
             (line_named self.old.setup act.now)) }
     {
         let client = self.client_number(client);
         let line = self.line(alloc, act)?;
-        self.clients[client as usize].push_line(line)
+        match act {
+            Act::Sub { sub, .. } => self.push_sub_line(alloc, client, line, sub),
+            Act::Produce
+            | Act::Pub { .. }
+            | Act::Flow(_)
+            | Act::Ack(_)
+            | Act::AckTo(_)
+            | Act::AckAll => self.push_line(client, line),
+        }
     }
 
     /// The line that a client is to do.
@@ -118,6 +132,19 @@ impl Draft {
                 let text = Blob::from_slice(alloc, text.as_bytes())?;
                 Ok(ScriptLine::publish(*seq, self.targets(to), key, text))
             }
+            Act::Sub {
+                sub,
+                kind,
+                earliest,
+                replicated,
+            } => {
+                let sub = Text::from_str(alloc, sub.text())?;
+                Ok(ScriptLine::subscribe(sub, *kind, *earliest, *replicated))
+            }
+            Act::Flow(permits) => Ok(ScriptLine::flow(*permits)),
+            Act::Ack(ident) => Ok(ScriptLine::ack(self.ident(alloc, ident)?)),
+            Act::AckTo(ident) => Ok(ScriptLine::ack_to(self.ident(alloc, ident)?)),
+            Act::AckAll => Ok(ScriptLine::ack_all()),
         }
     }
 
@@ -131,8 +158,21 @@ impl Draft {
         }
     }
 
+    /// The message that words name.
+    fn ident(&self, alloc: Global, words: &IdentWords<'_>) -> Result<Ident, Memory>
+        requires { is_name words.now.producer ≡ true }
+        ensures { IfOk result (λ ident. ident ≡ ident_named self.now.setup words.now) }
+    {
+        Ok(Ident {
+            origin: self.cluster_number(&words.origin),
+            producer: words.producer.producer(alloc)?,
+            seq: words.seq,
+        })
+    }
+
     /// The event that a line schedules.
     fn event(&self, happening: &Happening<'_>) -> Event
+        requires { IsFitting self.now (Row.Event happening.now) }
         ensures { result ≡ event_named self.now.setup happening.now }
     {
         match happening {
@@ -171,6 +211,18 @@ impl Draft {
                 target: self.cluster_number(&link.target),
                 fate: *fate,
             },
+            Happening::Offer {
+                topic,
+                cluster,
+                sub,
+            } => {
+                let topic = self.topic_number(topic);
+                Event::Offer {
+                    topic,
+                    cluster: self.cluster_number(cluster),
+                    sub: self.sub_number(topic, sub),
+                }
+            }
         }
     }
 }

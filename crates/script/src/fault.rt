@@ -43,10 +43,14 @@ pub(crate) enum Rule {
     Topics,
     /// A topic has at most 32 clients.
     Clients,
+    /// A topic has at most 32 subscriptions.
+    Subscriptions,
     /// A text has at most 1,024 bytes.
     LongText,
     /// Clusters, topics and clients that are named are declared.
     Undeclared,
+    /// A subscription that is offered is in a `sub` line of a client of its topic.
+    StrangeSubscription,
     /// The two ends of a link differ.
     Loop,
     /// A list names a cluster once.
@@ -71,8 +75,10 @@ impl Rule {
             Rule::Lone => 10,
             Rule::Topics => 11,
             Rule::Clients => 12,
+            Rule::Subscriptions => 13,
             Rule::LongText => 14,
             Rule::Undeclared => 15,
+            Rule::StrangeSubscription => 17,
             Rule::Loop => 18,
             Rule::TargetTwice => 19,
         }

@@ -13,6 +13,7 @@ pub(crate) enum EventKind {
     Read,
     Take,
     Receipt,
+    Offer,
 }
 
 /// The kind of a client's line, by the word after `do C`.
@@ -20,6 +21,11 @@ pub(crate) enum EventKind {
 pub(crate) enum ActKind {
     Produce,
     Pub,
+    Sub,
+    Flow,
+    Ack,
+    AckTo,
+    AckAll,
 }
 
 /// The kind of a line, by its first word.
@@ -58,6 +64,7 @@ impl EventKind {
             b"read" => Some(EventKind::Read),
             b"take" => Some(EventKind::Take),
             b"receipt" => Some(EventKind::Receipt),
+            b"offer" => Some(EventKind::Offer),
             _ => None,
         }
     }
@@ -68,12 +75,15 @@ impl ActKind {
     pub(crate) fn of(word: &[u8]) -> Option<ActKind>
         ensures { result ≡ act_kind_of word.now }
     {
-        if word == b"produce".as_slice() {
-            Some(ActKind::Produce)
-        } else if word == b"pub".as_slice() {
-            Some(ActKind::Pub)
-        } else {
-            None
+        match word {
+            b"produce" => Some(ActKind::Produce),
+            b"pub" => Some(ActKind::Pub),
+            b"sub" => Some(ActKind::Sub),
+            b"flow" => Some(ActKind::Flow),
+            b"ack" => Some(ActKind::Ack),
+            b"ackto" => Some(ActKind::AckTo),
+            b"ackall" => Some(ActKind::AckAll),
+            _ => None,
         }
     }
 }

@@ -32,6 +32,7 @@ mod read;
 mod row;
 mod ruling;
 mod scenario;
+mod subs;
 #[cfg(test)]
 mod tests;
 mod words;

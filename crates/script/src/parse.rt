@@ -1,17 +1,22 @@
 //! The row that the words of a line are.
-ghost use Rattle.std.specs.Prelude.{◌≡◌};
-ghost use Rattle.script.specs.Rows.{act_of, client_of, client_row, do_row, fate_of, fated_link_of, happening_of, has_later_fate, has_unknown_act, has_unknown_event, has_unknown_word, link_named, link_of, row_after, row_of};
+ghost use Rattle.std.specs.Prelude.{◌≡◌, false};
+ghost use Rattle.std.specs.Option.{option_map_or};
+ghost use Rattle.script.specs.Rows.{act_of, client_of, client_row, do_row, fate_of, fated_link_of, happening_of, has_later_fate, has_later_sub, has_unknown_act, has_unknown_event, has_unknown_word, ident_of, is_later_kind, is_later_replication, is_unknown_act, link_named, link_of, permits_of, replication_of, row_after, row_of, sub_kind_of};
+ghost use Rattle.script.specs.Words.{fourth, second, start_of};
 
 use crate::kind::{ActKind, EventKind, Kind};
 use crate::name_list::targets_of;
 use crate::number::number_of;
 use crate::place::{NameWord, TextWord, key_of};
-use crate::row::{Act, Happening, LinkWords, Row};
+use crate::row::{Act, Happening, IdentWords, LinkWords, Row};
 use crate::words::Words;
-use geo_base::Fate;
+use geo_base::{Fate, SubKind};
 
 /// The greatest sequence id: it fits a signed number of 64 bits.
 const MOST_SEQ: u64 = 9_223_372_036_854_775_807;
+
+/// The most permits of one line (own).
+const MOST_PERMITS: u64 = 1_000_000;
 
 /// Whether the first word of a line, or the one after `do C`, is in no row, or a word that is not read yet stands at its
 /// place.
@@ -37,7 +42,54 @@ fn has_unknown_act(mut words: Words<'_>) -> bool
         return false;
     }
     match words.next_word() {
-        Some(word) => ActKind::of(word).is_none(),
+        Some(word) => is_unknown_act(ActKind::of(word), words),
+        None => false,
+    }
+}
+
+/// Whether there is no kind, or a word that is not read yet stands at its place after it.
+fn is_unknown_act(kind: Option<ActKind>, words: Words<'_>) -> bool
+    ensures { result ≡ is_unknown_act kind words.entry }
+{
+    match kind {
+        None => true,
+        Some(ActKind::Sub) => has_later_sub(&words),
+        Some(
+            ActKind::Produce
+            | ActKind::Pub
+            | ActKind::Flow
+            | ActKind::Ack
+            | ActKind::AckTo
+            | ActKind::AckAll,
+        ) => false,
+    }
+}
+
+/// Whether a kind that is not read yet, or `replicated`, stands at its place after S.
+fn has_later_sub(words: &Words<'_>) -> bool
+    ensures { result ≡ has_later_sub words.now }
+{
+    has_later_kind(words.copied()) || has_later_replication(words.copied())
+}
+
+fn has_later_kind(words: Words<'_>) -> bool
+    ensures { result ≡ option_map_or is_later_kind (second words.entry) false }
+{
+    match words.second() {
+        Some(word) => {
+            word == b"shared".as_slice()
+                || word == b"failover".as_slice()
+                || word == b"keyshared".as_slice()
+        }
+        None => false,
+    }
+}
+
+fn has_later_replication(words: Words<'_>) -> bool
+    ensures { result ≡ option_map_or is_later_replication (fourth words.entry) false }
+{
+    match words.fourth() {
+        Some(word) => word == b"replicated".as_slice(),
         None => false,
     }
 }
@@ -53,7 +105,8 @@ fn has_unknown_event(kind: EventKind, words: Words<'_>) -> bool
         | EventKind::Reconnect
         | EventKind::Serve
         | EventKind::Reset
-        | EventKind::Read => false,
+        | EventKind::Read
+        | EventKind::Offer => false,
     }
 }
 
@@ -127,14 +180,13 @@ impl<'a> Act<'a> {
         ensures { result ≡ act_of kind words.entry }
     {
         match kind {
-            ActKind::Produce => {
-                if words.is_empty() {
-                    Some(Act::Produce)
-                } else {
-                    None
-                }
-            }
+            ActKind::Produce => words.is_empty().then_some(Act::Produce),
             ActKind::Pub => Act::publish(words),
+            ActKind::Sub => Act::subscribe(words),
+            ActKind::Flow => Some(Act::Flow(permits_of(words.one()?)?)),
+            ActKind::Ack => Some(Act::Ack(IdentWords::read(words)?)),
+            ActKind::AckTo => Some(Act::AckTo(IdentWords::read(words)?)),
+            ActKind::AckAll => words.is_empty().then_some(Act::AckAll),
         }
     }
 
@@ -148,6 +200,19 @@ impl<'a> Act<'a> {
             to: targets_of(to)?,
             key: key_of(key)?,
             text: TextWord::new(text),
+        })
+    }
+
+    /// `S KIND INIT REPL`
+    fn subscribe(words: Words<'a>) -> Option<Act<'a>>
+        ensures { result ≡ act_of ActKind.Sub words.entry }
+    {
+        let (sub, kind, start, replication) = words.four()?;
+        Some(Act::Sub {
+            sub: NameWord::read(sub)?,
+            kind: sub_kind_of(kind)?,
+            earliest: start_of(start)?,
+            replicated: replication_of(replication)?,
         })
     }
 }
@@ -172,6 +237,7 @@ impl<'a> Happening<'a> {
                 let (link, fate) = LinkWords::fated(words)?;
                 Some(Happening::Receipt(link, fate))
             }
+            EventKind::Offer => Happening::offer(words),
         }
     }
 
@@ -183,6 +249,32 @@ impl<'a> Happening<'a> {
         Some(Happening::Serve {
             cluster: NameWord::read(cluster)?,
             client: NameWord::read(client)?,
+        })
+    }
+
+    /// `T X S`
+    fn offer(words: Words<'a>) -> Option<Happening<'a>>
+        ensures { result ≡ happening_of EventKind.Offer words.entry }
+    {
+        let (topic, cluster, sub) = words.three()?;
+        Some(Happening::Offer {
+            topic: NameWord::read(topic)?,
+            cluster: NameWord::read(cluster)?,
+            sub: NameWord::read(sub)?,
+        })
+    }
+}
+
+impl<'a> IdentWords<'a> {
+    /// `X P SEQ`
+    fn read(words: Words<'a>) -> Option<IdentWords<'a>>
+        ensures { result ≡ ident_of words.entry }
+    {
+        let (origin, producer, seq) = words.three()?;
+        Some(IdentWords {
+            origin: NameWord::read(origin)?,
+            producer: NameWord::read(producer)?,
+            seq: number_of(seq, MOST_SEQ)?,
         })
     }
 }
@@ -212,6 +304,51 @@ impl<'a> LinkWords<'a> {
             source: NameWord::read(source)?,
             target: NameWord::read(target)?,
         })
+    }
+}
+
+/// A kind of subscription.
+fn sub_kind_of(word: &[u8]) -> Option<SubKind>
+    ensures { result ≡ sub_kind_of word.now }
+{
+    if word == b"exclusive".as_slice() {
+        Some(SubKind::Exclusive)
+    } else {
+        None
+    }
+}
+
+/// Whether a new subscription begins before the first entry.
+fn start_of(word: &[u8]) -> Option<bool>
+    ensures { result ≡ start_of word.now }
+{
+    if word == b"earliest".as_slice() {
+        Some(true)
+    } else if word == b"latest".as_slice() {
+        Some(false)
+    } else {
+        None
+    }
+}
+
+/// Whether a subscription is replicated.
+fn replication_of(word: &[u8]) -> Option<bool>
+    ensures { result ≡ replication_of word.now }
+{
+    if word == b"local".as_slice() {
+        Some(false)
+    } else {
+        None
+    }
+}
+
+/// Permits, at least one.
+fn permits_of(word: &[u8]) -> Option<u32>
+    ensures { result ≡ permits_of word.now }
+{
+    match number_of(word, MOST_PERMITS)? {
+        0 => None,
+        permits => Some(permits as u32),
     }
 }
 

@@ -1,5 +1,5 @@
 //! What stands at the places of a row: names, keys and texts.
-ghost use Rattle.std.specs.Prelude.{◌≡◌, true};
+ghost use Rattle.std.specs.Prelude.{◌≡◌, true, IfOk};
 ghost use Rattle.std.specs.List.{list_all};
 ghost use Rattle.geo_base.specs.Name.{is_name, name_byte};
 ghost use Rattle.script.specs.Naming.{is_among, is_long};
@@ -7,6 +7,8 @@ ghost use Rattle.script.specs.Words.{has_name_bytes, key_of, name_of};
 
 use geo_base::limits::NAME_BYTES;
 use geo_base::name::{Name, name_text};
+use geo_base::{Memory, ProducerName};
+use std::alloc::Global;
 use std::marker::Model;
 
 /// A word that has a name's bytes: at least one, each of `a` to `z`, `0` to `9` and `_`. It may be longer than a name.
@@ -61,6 +63,14 @@ impl<'a> NameWord<'a> {
             Some(text) => text,
             None => unreachable!(),
         }
+    }
+
+    /// The producer of this name.
+    pub(crate) fn producer(&self, alloc: Global) -> Result<ProducerName, Memory>
+        requires { is_name self.now ≡ true }
+        ensures { IfOk result (λ name. name ≡ self.now) }
+    {
+        ProducerName::any(alloc, self.text())
     }
 
     /// Whether it is among names.

@@ -1,5 +1,6 @@
 //! The reader of a script.
-ghost use Rattle.std.specs.Prelude.{◌≡◌, ℕ, ◌+◌, ◌<◌, ◌^◌, ◌⊎◌, length, Err, Ok, IfOk};
+ghost use Rattle.std.specs.Prelude.{◌≡◌, ℕ, ◌+◌, ◌<◌, ◌≤◌, ◌^◌, ◌⊎◌, length, Err, Ok, IfOk};
+ghost use Rattle.geo_base.specs.Setup.{sub_names};
 ghost use Rattle.script.specs.Drafts.{Judges};
 ghost use Rattle.script.specs.Rules.{judged, script_of};
 ghost use Rattle.script.specs.Scenario.{IsScenario};
@@ -48,19 +49,21 @@ pub fn read_script(alloc: Global, bytes: &[u8]) -> Result<Scenario, ScriptFault>
             Err(LineFault::Memory) => return Err(ScriptFault::Memory),
         }
     }
-    match draft.finish() {
+    match draft.finish(alloc) {
         Ok(scenario) => Ok(scenario),
-        Err(rule) => Err(ScriptFault::Rule {
+        Err(LineFault::Broken(rule)) => Err(ScriptFault::Rule {
             line: number,
             rule: rule.number(),
         }),
+        Err(LineFault::Memory) => Err(ScriptFault::Memory),
     }
 }
 
 impl Draft {
     /// Takes the next line in, unless it breaks a rule.
     fn read_line(&mut self, alloc: Global, line: &TextLine<'_>) -> Result<(), LineFault>
-        requires { length self.old.setup.clients + 1 < 2 ^ 32 }
+        requires few { length self.old.setup.clients + 1 < 2 ^ 32 }
+        requires subs { (topic : ℕ) → length (sub_names self.old.setup topic) ≤ 32 }
         ensures { Judges result self.new (judged self.old line.now) }
     {
         if line.is_skipped() {
@@ -78,6 +81,7 @@ impl Draft {
         let Some(row) = Row::of(line.words()) else {
             return Err(LineFault::Broken(Rule::Form));
         };
+        self.make_ready(alloc, &row)?;
         if let Some(rule) = self.broken(&row) {
             return Err(LineFault::Broken(rule));
         }

@@ -5,7 +5,7 @@ ghost use Rattle.script.specs.Adding.{stage_of};
 use crate::kind::Stage;
 use crate::name_list::NameList;
 use crate::place::{NameWord, TextWord};
-use geo_base::Fate;
+use geo_base::{Fate, SubKind};
 
 /// `T X Y`: a topic and the two ends of a link.
 #[derive(Debug, Drop)]
@@ -13,6 +13,14 @@ pub(crate) struct LinkWords<'a> {
     pub(crate) topic: NameWord<'a>,
     pub(crate) source: NameWord<'a>,
     pub(crate) target: NameWord<'a>,
+}
+
+/// `X P SEQ`: a message by the cluster that it came from, its producer and its sequence id.
+#[derive(Debug, Drop)]
+pub(crate) struct IdentWords<'a> {
+    pub(crate) origin: NameWord<'a>,
+    pub(crate) producer: NameWord<'a>,
+    pub(crate) seq: u64,
 }
 
 /// What an event line schedules.
@@ -37,6 +45,12 @@ pub(crate) enum Happening<'a> {
     Take(LinkWords<'a>, Fate),
     /// `receipt T X Y FATE`
     Receipt(LinkWords<'a>, Fate),
+    /// `offer T X S`
+    Offer {
+        topic: NameWord<'a>,
+        cluster: NameWord<'a>,
+        sub: NameWord<'a>,
+    },
 }
 
 /// What a client is to do.
@@ -51,6 +65,21 @@ pub(crate) enum Act<'a> {
         key: Option<NameWord<'a>>,
         text: TextWord<'a>,
     },
+    /// `sub S KIND INIT REPL`
+    Sub {
+        sub: NameWord<'a>,
+        kind: SubKind,
+        earliest: bool,
+        replicated: bool,
+    },
+    /// `flow N`
+    Flow(u32),
+    /// `ack X P SEQ`
+    Ack(IdentWords<'a>),
+    /// `ackto X P SEQ`
+    AckTo(IdentWords<'a>),
+    /// `ackall`
+    AckAll,
 }
 
 /// A line.

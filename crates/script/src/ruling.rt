@@ -1,18 +1,20 @@
 //! Which rules a row breaks.
-ghost use Rattle.std.specs.Prelude.{◌≡◌, ◌||◌, ◌∷◌, [], not, find};
+ghost use Rattle.std.specs.Prelude.{◌≡◌, ◌&&◌, ◌||◌, ◌∷◌, [], true, not, find};
+ghost use Rattle.geo_base.specs.Setup.{declared_at, sub_names};
+ghost use Rattle.script.specs.Adding.{client_number};
 ghost use Rattle.script.specs.Drafts.{IsSmall};
-ghost use Rattle.script.specs.Naming.{act_clusters, act_names, event_clients, event_clusters, event_topics, has_long, has_long_name, has_stranger, has_undeclared, is_among, key_named, names_listed};
-ghost use Rattle.script.specs.Rules.{declares_again, has_loop, has_text_past, is_client_past, is_cluster, is_geo, is_loop, is_topic, row_breaks, row_rules, targets_repeat};
+ghost use Rattle.script.specs.Naming.{act_clients, act_clusters, act_names, event_clients, event_clusters, event_names, event_topics, has_long, has_long_name, has_strange_client, has_stranger, has_undeclared, is_among, is_client, key_named, names_listed};
+ghost use Rattle.script.specs.Rules.{declares_again, has_loop, has_text_past, is_client_past, is_cluster, is_geo, is_loop, is_sub_past, is_sub_past_in, is_topic, offers_stranger, row_breaks, row_rules, targets_repeat};
 
 use crate::draft::Draft;
 use crate::fault::Rule;
 use crate::name_list::NameList;
 use crate::place::NameWord;
-use crate::row::{Act, Happening, LinkWords, Row};
-use geo_base::limits::{CLIENTS, CLUSTERS, TEXT_BYTES, TOPICS};
+use crate::row::{Act, Happening, IdentWords, LinkWords, Row};
+use geo_base::limits::{CLIENTS, CLUSTERS, SUBSCRIPTIONS, TEXT_BYTES, TOPICS};
 
 /// The rules that a row may break, the lowest first.
-const ROW_RULES: [Rule; 12] = [
+const ROW_RULES: [Rule; 14] = [
     Rule::LongName,
     Rule::Order,
     Rule::Twice,
@@ -21,8 +23,10 @@ const ROW_RULES: [Rule; 12] = [
     Rule::Lone,
     Rule::Topics,
     Rule::Clients,
+    Rule::Subscriptions,
     Rule::LongText,
     Rule::Undeclared,
+    Rule::StrangeSubscription,
     Rule::Loop,
     Rule::TargetTwice,
 ];
@@ -55,8 +59,10 @@ impl Draft {
             Rule::Lone => row.is_topic() && self.clusters.len() < 2,
             Rule::Topics => row.is_topic() && self.topics.len() >= TOPICS,
             Rule::Clients => self.is_client_past(row),
+            Rule::Subscriptions => self.is_sub_past(row),
             Rule::LongText => row.has_long_text(),
             Rule::Undeclared => self.has_undeclared(row),
+            Rule::StrangeSubscription => self.offers_stranger(row),
             Rule::Loop => row.has_loop(),
             Rule::TargetTwice => row.targets_repeat(),
             Rule::Bytes | Rule::Head | Rule::Word | Rule::Form => false,
@@ -85,6 +91,60 @@ impl Draft {
         }
     }
 
+    /// Whether a row names the 33rd subscription of its topic.
+    fn is_sub_past(&self, row: &Row<'_>) -> bool
+        ensures { result ≡ is_sub_past 32 self.now.setup row.now }
+    {
+        match row {
+            Row::Do { client, act } => self.is_sub_past_by(client, act),
+            Row::Geo | Row::Cluster(_) | Row::Topic(_) | Row::Client { .. } | Row::Event(_) =>
+                false,
+        }
+    }
+
+    fn is_sub_past_by(&self, client: &NameWord<'_>, act: &Act<'_>) -> bool
+        ensures { result ≡ is_sub_past 32 self.now.setup (Row.Do client.now act.now) }
+    {
+        match act {
+            Act::Sub { sub, .. } => self.is_sub_past_for(client, sub),
+            Act::Produce
+            | Act::Pub { .. }
+            | Act::Flow(_)
+            | Act::Ack(_)
+            | Act::AckTo(_)
+            | Act::AckAll => false,
+        }
+    }
+
+    fn is_sub_past_for(&self, client: &NameWord<'_>, sub: &NameWord<'_>) -> bool
+        ensures { result ≡ (is_client self.now.setup client.now && is_sub_past_in 32 (sub_names self.now.setup
+            (declared_at self.now.setup (client_number self.now.setup client.now)).topic) sub.now) }
+    {
+        self.is_client(client) && self.is_sub_past_of(client, sub)
+    }
+
+    #[tactic(auto, using(crate::proofs::Places::client_within))]
+    fn is_sub_past_of(&self, client: &NameWord<'_>, sub: &NameWord<'_>) -> bool
+        requires { is_client self.now.setup client.now ≡ true }
+        ensures { result ≡ is_sub_past_in 32 (sub_names self.now.setup
+            (declared_at self.now.setup (client_number self.now.setup client.now)).topic) sub.now }
+    {
+        let topic = self.topic_of(self.client_number(client));
+        !self.is_sub(topic, sub) && self.subs_of(topic) >= SUBSCRIPTIONS
+    }
+
+    /// Whether a row offers of a subscription that no `sub` line of a client of its topic names.
+    fn offers_stranger(&self, row: &Row<'_>) -> bool
+        ensures { result ≡ offers_stranger self.now.setup row.now }
+    {
+        match row {
+            Row::Event(Happening::Offer { topic, sub, .. }) => {
+                !self.is_sub(self.topic_number(topic), sub)
+            }
+            _ => false,
+        }
+    }
+
     /// Whether a row names a cluster, topic or client that is not declared.
     fn has_undeclared(&self, row: &Row<'_>) -> bool
         ensures { result ≡ has_undeclared self.now.setup row.now }
@@ -93,7 +153,9 @@ impl Draft {
             Row::Client { topic, cluster, .. } => {
                 self.lacks_cluster(cluster) || self.lacks_topic(topic)
             }
-            Row::Do { client, act } => self.lacks_target(act) || !self.is_client(client),
+            Row::Do { client, act } => {
+                self.lacks_cluster_of(act) || !self.is_client(client) || self.lacks_client_of(act)
+            }
             Row::Event(happening) => self.has_undeclared_in(happening),
             Row::Geo | Row::Cluster(_) | Row::Topic(_) => false,
         }
@@ -114,6 +176,9 @@ impl Draft {
             | Happening::Read(link)
             | Happening::Take(link, _)
             | Happening::Receipt(link, _) => self.lacks_end(link),
+            Happening::Offer { topic, cluster, .. } => {
+                self.lacks_cluster(cluster) || self.lacks_topic(topic)
+            }
         }
     }
 
@@ -126,8 +191,8 @@ impl Draft {
             || self.lacks_topic(&link.topic)
     }
 
-    /// Whether a list of targets has a name that is no cluster's.
-    fn lacks_target(&self, act: &Act<'_>) -> bool
+    /// Whether a client line names a cluster that is not declared.
+    fn lacks_cluster_of(&self, act: &Act<'_>) -> bool
         ensures { result ≡ has_stranger self.now.setup.clusters (act_clusters act.now) }
     {
         match act {
@@ -135,7 +200,22 @@ impl Draft {
                 to: Some(names),
                 ..
             } => names.has_stranger(self.clusters.as_slice()),
-            Act::Produce | Act::Pub { to: None, .. } => false,
+            Act::Ack(ident) | Act::AckTo(ident) => self.lacks_cluster(&ident.origin),
+            Act::Produce
+            | Act::Pub { to: None, .. }
+            | Act::Sub { .. }
+            | Act::Flow(_)
+            | Act::AckAll => false,
+        }
+    }
+
+    /// Whether a client line names a producer that is no client.
+    fn lacks_client_of(&self, act: &Act<'_>) -> bool
+        ensures { result ≡ has_strange_client self.now.setup (act_clients act.now) }
+    {
+        match act {
+            Act::Ack(ident) | Act::AckTo(ident) => !self.is_client(&ident.producer),
+            Act::Produce | Act::Pub { .. } | Act::Sub { .. } | Act::Flow(_) | Act::AckAll => false,
         }
     }
 
@@ -236,11 +316,14 @@ impl Row<'_> {
 impl Act<'_> {
     /// Whether it has a name that is too long.
     fn has_long(&self) -> bool
-        ensures { result ≡ (has_long (act_names self.now) || has_long (act_clusters self.now)) }
+        ensures { result ≡ (has_long (act_names self.now) || has_long (act_clusters self.now)
+            || has_long (act_clients self.now)) }
     {
         match self {
-            Act::Produce => false,
             Act::Pub { to, key, .. } => is_long_key(key) || is_long_list(to),
+            Act::Sub { sub, .. } => sub.is_long(),
+            Act::Ack(ident) | Act::AckTo(ident) => ident.has_long(),
+            Act::Produce | Act::Flow(_) | Act::AckAll => false,
         }
     }
 }
@@ -266,8 +349,8 @@ fn is_long_list(to: &Option<NameList<'_>>) -> bool
 impl Happening<'_> {
     /// Whether it has a name that is too long.
     fn has_long(&self) -> bool
-        ensures { result ≡ (has_long (event_clusters self.now) || has_long (event_topics self.now)
-            || has_long (event_clients self.now)) }
+        ensures { result ≡ (has_long (event_names self.now) || has_long (event_clusters self.now)
+            || has_long (event_topics self.now) || has_long (event_clients self.now)) }
     {
         match self {
             Happening::Go(client) | Happening::Get(client) | Happening::Reconnect(client) => {
@@ -278,7 +361,21 @@ impl Happening<'_> {
             | Happening::Read(link)
             | Happening::Take(link, _)
             | Happening::Receipt(link, _) => link.has_long(),
+            Happening::Offer {
+                topic,
+                cluster,
+                sub,
+            } => sub.is_long() || cluster.is_long() || topic.is_long(),
         }
+    }
+}
+
+impl IdentWords<'_> {
+    /// Whether it has a name that is too long.
+    fn has_long(&self) -> bool
+        ensures { result ≡ has_long (self.now.origin ∷ self.now.producer ∷ []) }
+    {
+        self.origin.is_long() || self.producer.is_long()
     }
 }
 

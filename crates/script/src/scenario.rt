@@ -1,18 +1,23 @@
 //! What an accepted script says.
-ghost use Rattle.std.specs.Prelude.{◌≡◌, true, [], ◌∷◌, ◌++◌, All, OnOk, OnErr};
+ghost use Rattle.std.specs.Prelude.{◌≡◌, true, [], ◌∷◌, ◌++◌, slice_get, All, OnOk, OnErr};
+ghost use Rattle.std.specs.Option.{option_copied};
 ghost use Rattle.geo_base.specs.Name.{is_name};
 ghost use Rattle.geo_base.specs.Scripted.{is_produce, IsScripted};
-ghost use Rattle.geo_base.specs.Setup.{Declared};
+ghost use Rattle.geo_base.specs.Setup.{Declared, sub_names};
+ghost use Rattle.script.specs.Subs.{AreNamed, sub_in};
 ghost use Rattle.script.specs.Scenario.{IsClientLine, IsClient, IsPublish, IsStep, IsScenario};
 ghost use Rattle.script.specs.Script.{script_with};
 
+use crate::subs::SubNames;
 use geo_base::{
-    Blob, ClusterName, Line, Memory, ProducerName, Sequence, Step, Targets, Text, TopicName,
+    Blob, ClusterName, Ident, Line, Memory, ProducerName, Sequence, Step, SubKind, SubName,
+    Targets, Text, TopicName,
 };
 use std::alloc::Global;
 use std::marker::Model;
 
-/// A line of a client: `produce`, or a publish of at most 1,024 bytes to all clusters or to some.
+/// A line of a client: `produce`, `pub`, `sub` of an exclusive subscription that is not replicated, `flow`, `ack`, `ackto`
+/// or `ackall`.
 #[derive(Debug, Drop)]
 pub struct ScriptLine {
     line: Line,
@@ -46,6 +51,73 @@ impl ScriptLine {
     {
         ScriptLine {
             line: Line::Pub { seq, to, key, text },
+        }
+    }
+
+    /// `sub S exclusive INIT local`
+    pub(crate) fn subscribe(
+        sub: Text,
+        kind: SubKind,
+        earliest: bool,
+        replicated: bool,
+    ) -> ScriptLine
+        requires { IsClientLine (Line.Sub sub kind earliest replicated) }
+        ensures { result ≡ Line.Sub sub kind earliest replicated }
+    {
+        ScriptLine {
+            line: Line::Sub {
+                sub,
+                kind,
+                earliest,
+                replicated,
+            },
+        }
+    }
+
+    /// `flow N`
+    pub(crate) fn flow(permits: u32) -> ScriptLine
+        requires { IsClientLine (Line.Flow permits) }
+        ensures { result ≡ Line.Flow permits }
+    {
+        ScriptLine {
+            line: Line::Flow { permits },
+        }
+    }
+
+    /// `ack X P SEQ`
+    pub(crate) fn ack(ident: Ident) -> ScriptLine
+        requires { IsClientLine (Line.Ack ident) }
+        ensures { result ≡ Line.Ack ident }
+    {
+        ScriptLine {
+            line: Line::Ack { ident },
+        }
+    }
+
+    /// `ackto X P SEQ`
+    pub(crate) fn ack_to(ident: Ident) -> ScriptLine
+        requires { IsClientLine (Line.AckTo ident) }
+        ensures { result ≡ Line.AckTo ident }
+    {
+        ScriptLine {
+            line: Line::AckTo { ident },
+        }
+    }
+
+    /// `ackall`
+    pub(crate) fn ack_all() -> ScriptLine
+        ensures { result ≡ Line.AckAll }
+    {
+        ScriptLine { line: Line::AckAll }
+    }
+
+    /// The subscription that a `sub` line names.
+    pub(crate) fn sub_named(&self) -> Option<&Text>
+        ensures { option_copied result ≡ sub_in self.now }
+    {
+        match &self.line {
+            Line::Sub { sub, .. } => Some(sub),
+            _ => None,
         }
     }
 
@@ -149,17 +221,20 @@ pub struct Scenario {
     topics: Sequence<TopicName>,
     clients: Sequence<ClientDecl>,
     steps: Sequence<Step>,
+    subs: Sequence<SubNames>,
 }
 
 impl Model for Scenario {
     ghost use Rattle.script.specs.Script.{Script, script_with};
+    ghost use Rattle.script.specs.Subs.{AreNamed};
     ghost use Rattle.script.specs.Scenario.{IsScenario};
 
     ghost Value = { Script };
 
     ghost view = { λ s. script_with s.per_ledger s.clusters s.topics s.clients s.steps };
 
-    ghost invariant = { λ s. IsScenario (script_with s.per_ledger s.clusters s.topics s.clients s.steps) };
+    ghost invariant = { λ s. IsScenario (script_with s.per_ledger s.clusters s.topics s.clients s.steps)
+        × AreNamed (script_with s.per_ledger s.clusters s.topics s.clients s.steps).setup s.subs };
 }
 
 impl Scenario {
@@ -170,8 +245,10 @@ impl Scenario {
         topics: Sequence<TopicName>,
         clients: Sequence<ClientDecl>,
         steps: Sequence<Step>,
+        subs: Sequence<SubNames>,
     ) -> Scenario
-        requires { IsScenario (script_with per_ledger clusters topics clients steps) }
+        requires known { IsScenario (script_with per_ledger clusters topics clients steps) }
+        requires named { AreNamed (script_with per_ledger clusters topics clients steps).setup subs }
         ensures { result ≡ script_with per_ledger clusters topics clients steps }
     {
         Scenario {
@@ -180,6 +257,7 @@ impl Scenario {
             topics,
             clients,
             steps,
+            subs,
         }
     }
 
@@ -213,6 +291,25 @@ impl Scenario {
         ensures each { All IsClient self.now.setup.clients }
     {
         self.clients.as_slice()
+    }
+
+    /// The name that a number of a subscription of a topic stands for; None exactly where there is none. The names are
+    /// numbered from 0 in the order of the topic's clients and, within a client, of its `sub` lines; a name that came
+    /// before keeps its number.
+    pub fn sub_name(&self, topic: u32, sub: u32) -> Option<&SubName>
+        ensures { option_copied result ≡ slice_get (sub_names self.now.setup topic) sub }
+    {
+        self.sub_names(topic).get(sub as usize)
+    }
+
+    /// The names of a topic's subscriptions.
+    fn sub_names(&self, topic: u32) -> &[SubName]
+        ensures { result.now ≡ sub_names self.now.setup topic }
+    {
+        match self.subs.as_slice().get(topic as usize) {
+            Some(names) => names.as_slice(),
+            None => &[],
+        }
     }
 
     /// The schedule.

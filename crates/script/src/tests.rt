@@ -163,6 +163,32 @@ const LINES: &str = "0 0 \n\
 0 0 do p pub 0 b,a k  two  spaces |do p produce|\n\
 0 0 go p|get p|reconnect p|serve b p|\n\
 0 0 take t a b good|receipt t b a good|\n\
+0 0 do p sub s exclusive earliest local|do p flow 10|do p ack a p 1|do p ackto b p 0|do p ackall|offer t a s|\n\
+# subscriptions\n\
+6 3 do p sub s shared earliest local|\n\
+6 3 do q sub s failover when|\n\
+6 3 do p sub s keyshared latest local|\n\
+6 3 do p sub s exclusive latest replicated|\n\
+6 3 do p unsub|\n\
+6 4 do p sub s exclusive latest|\n\
+6 4 do p sub s exclusive first local|\n\
+6 4 do p sub S exclusive latest local|\n\
+6 4 do p sub s exclusively latest local|\n\
+6 5 do p sub abcdefghijklmnopq exclusive latest local|\n\
+6 15 do q sub s exclusive latest local|\n\
+6 4 do p flow 0|\n\
+6 4 do p flow 1000001|\n\
+0 0 do p flow 1000000|\n\
+6 4 do p ack a p|\n\
+6 4 do p ack a p 9223372036854775808|\n\
+6 15 do p ack c p 0|\n\
+6 15 do p ackto a q 0|\n\
+6 4 do p ackall now|\n\
+6 4 offer t a|\n\
+6 15 offer u a s|\n\
+6 15 offer t c s|\n\
+6 17 offer t a s|\n\
+7 17 do p sub u exclusive latest local|offer t a s|\n\
 # the first line that breaks a rule\n\
 6 15 go q|topik t|\n\
 6 18 reset t a a|go\tp|\n\
@@ -181,6 +207,39 @@ const CLIENT_LINES: &str = "0 0 client x u a|\n\
 38 12 client x t c|\n\
 38 9 client n3 t c|\n\
 38 15 client x v a|";
+
+/// The 32 subscriptions that a topic may have, and the clients of two topics, up to line 39.
+const SUBSCRIPTIONS: &str = "geo 1\n\
+cluster a\n\
+cluster b\n\
+topic t\n\
+topic u\n\
+client p t a\n\
+client q u a\n\
+do p sub n0 exclusive latest local\ndo p sub n1 exclusive latest local\n\
+do p sub n2 exclusive latest local\ndo p sub n3 exclusive latest local\n\
+do p sub n4 exclusive latest local\ndo p sub n5 exclusive latest local\n\
+do p sub n6 exclusive latest local\ndo p sub n7 exclusive latest local\n\
+do p sub n8 exclusive latest local\ndo p sub n9 exclusive latest local\n\
+do p sub n10 exclusive latest local\ndo p sub n11 exclusive latest local\n\
+do p sub n12 exclusive latest local\ndo p sub n13 exclusive latest local\n\
+do p sub n14 exclusive latest local\ndo p sub n15 exclusive latest local\n\
+do p sub n16 exclusive latest local\ndo p sub n17 exclusive latest local\n\
+do p sub n18 exclusive latest local\ndo p sub n19 exclusive latest local\n\
+do p sub n20 exclusive latest local\ndo p sub n21 exclusive latest local\n\
+do p sub n22 exclusive latest local\ndo p sub n23 exclusive latest local\n\
+do p sub n24 exclusive latest local\ndo p sub n25 exclusive latest local\n\
+do p sub n26 exclusive latest local\ndo p sub n27 exclusive latest local\n\
+do p sub n28 exclusive latest local\ndo p sub n29 exclusive latest local\n\
+do p sub n30 exclusive latest local\ndo p sub n31 exclusive latest local\n";
+
+/// A line behind 32 subscriptions of a topic.
+const SUBSCRIPTION_LINES: &str =
+    "0 0 do p sub n7 exclusive earliest local|do q sub x exclusive earliest local|\n\
+40 13 do p sub x exclusive earliest local|\n\
+40 15 do r sub x exclusive earliest local|\n\
+0 0 offer t a n31|\n\
+40 17 offer u a n31|";
 
 /// What a case says of the answer, and its script.
 fn parts(case: &str) -> Option<(&str, &str, &str)> {
@@ -229,7 +288,41 @@ fn the_first_offending_line_and_its_lowest_rule_are_named(rt: HostRuntime) -> Re
     judge(&rt, rt.alloc(), "", SCRIPTS)?;
     judge(&rt, rt.alloc(), DECLARED, LINES)?;
     judge(&rt, rt.alloc(), TOPICS, TOPIC_LINES)?;
-    judge(&rt, rt.alloc(), CLIENTS, CLIENT_LINES)
+    judge(&rt, rt.alloc(), CLIENTS, CLIENT_LINES)?;
+    judge(&rt, rt.alloc(), SUBSCRIPTIONS, SUBSCRIPTION_LINES)
+}
+
+/// Clients of one topic that name subscriptions, the second client first.
+const THREE_NAMES: &[u8] =
+    b"geo 1\ncluster a\ncluster b\ntopic t\ntopic u\nclient p t a\nclient q t b\n\
+do q sub x exclusive latest local\ndo p sub y exclusive earliest local\n\
+do q sub y exclusive latest local\ndo p sub z exclusive latest local\noffer t b x\n";
+
+#[test]
+fn subscriptions_are_numbered_by_clients(rt: HostRuntime) -> Result<(), Fail> {
+    let scenario = read_script(rt.alloc(), THREE_NAMES)?;
+    let names = [
+        (0, 0, "y"),
+        (0, 1, "z"),
+        (0, 2, "x"),
+        (0, 3, ""),
+        (1, 0, ""),
+        (2, 0, ""),
+    ];
+    for (topic, sub, expected) in names {
+        let name = match scenario.sub_name(topic, sub) {
+            Some(name) => name.as_str(),
+            None => "",
+        };
+        assert_eq!(rt; name, expected);
+    }
+    let offer = [Step::Plain(Event::Offer {
+        topic: 0,
+        cluster: 1,
+        sub: 2,
+    })];
+    assert_eq!(rt; scenario.steps(), offer.as_slice());
+    Ok(())
 }
 
 /// A comment of any bytes, a publish of a text of so many bytes, and a comment without a line feed.

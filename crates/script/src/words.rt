@@ -2,7 +2,7 @@
 ghost use Rattle.std.specs.Prelude.{◌≡◌, [], ◌∷◌, List, ℕ, ◌↔◌, IsTrue, MatchOption, option_map};
 ghost use Rattle.std.specs.Option.{option_copied};
 ghost use Rattle.script.specs.Lines.{words_of};
-ghost use Rattle.script.specs.Words.{fourth, one, two, three, four, text_of, three_and_text};
+ghost use Rattle.script.specs.Words.{fourth, one, second, two, three, four, text_of, three_and_text};
 
 use crate::cut::cut_at;
 use std::marker::Model;
@@ -29,6 +29,13 @@ impl<'a> Words<'a> {
         ensures { result ≡ words_of line.now }
     {
         Words { rest: Some(line) }
+    }
+
+    /// The words that are left.
+    pub(crate) fn copied(&self) -> Words<'a>
+        ensures { result ≡ self.now }
+    {
+        Words { rest: self.rest }
     }
 
     /// The next word.
@@ -99,6 +106,14 @@ impl<'a> Words<'a> {
             self.next_word()?,
         );
         if self.is_empty() { Some(words) } else { None }
+    }
+
+    /// The second of the words that are left.
+    pub(crate) fn second(mut self) -> Option<&'a [u8]>
+        ensures { option_copied result ≡ second self.entry }
+    {
+        let _first = self.next_word()?;
+        self.next_word()
     }
 
     /// The fourth of the words that are left.

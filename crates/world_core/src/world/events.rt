@@ -51,6 +51,11 @@ impl World {
                 target,
                 fate: _,
             } => self.receipt(alloc, setup, topic, source, target),
+            Event::Offer {
+                topic,
+                cluster,
+                sub,
+            } => self.offer(alloc, setup, topic, cluster, sub),
             _ => unreachable!(),
         }
     }
@@ -246,5 +251,32 @@ impl World {
             target,
         };
         self.finish(alloc, setup, topic, source, input, prepared)
+    }
+
+    /// The dispatcher of a subscription at a broker offers the least entry that is due.
+    #[tactic(auto, using(crate::proofs::Doing::was_offered, crate::proofs::Places::node_in))]
+    fn offer(
+        &mut self,
+        alloc: Global,
+        setup: &Declarations,
+        topic: u32,
+        cluster: u32,
+        sub: u32,
+    ) -> Result<(), Memory>
+        requires setup { IsScripted setup.now }
+        requires world { WorldFits setup.now self.old.world }
+        requires topic { topic < length setup.now.topics }
+        requires cluster { cluster < length setup.now.clusters }
+        ensures ok { OnOk result (self.new.world ≡ uncounted (happens setup.now self.old.world (event.Offer topic cluster sub))) }
+        ensures err { OnErr result (self.new.world ≡ self.old.world) }
+    {
+        let site = site(setup, topic, cluster);
+        let action = Action::Offer {
+            sub: setup.sub_name(topic, sub),
+        };
+        let prepared = self
+            .books
+            .prepare(node(setup, topic, cluster), alloc, &site, action)?;
+        self.finish(alloc, setup, topic, cluster, Input::Nothing, prepared)
     }
 }
