@@ -81,6 +81,7 @@ impl<'a> Declarations<'a> {
     }
 
     /// The name that a number of a subscription of a topic stands for; empty where there is none.
+    #[tactic(auto, using(crate::proofs::SubNames::no_name))]
     pub fn sub_name(&self, topic: u32, sub: u32) -> &str
         ensures { result.now ≡ sub_name self.now topic sub }
     {
