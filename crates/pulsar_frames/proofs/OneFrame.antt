@@ -1,5 +1,5 @@
 -- A frame at the front of bytes is one at most, and there is one thing wrong at most.
-use Rattle.std.proofs.Common.{◌≡◌, ◌≢◌, ℕ, Bool, true, false, List, [], ◌++◌, Option, Some, None, refl, sym, ap, subst, ◌∙◌}
+use Rattle.std.proofs.Common.{◌≡◌, ◌≢◌, ℕ, Bool, true, List, [], ◌++◌, Option, Some, None, refl, sym, ap, subst, ◌∙◌}
 use Rattle.std.proofs.lemmas.List.{append-nil}
 use Rattle.std.specs.Prelude.{is_some}
 use Rattle.message_meta.specs.declared.table.TheConstants.{ROWS}
@@ -16,7 +16,7 @@ use Rattle.pulsar_frames.specs.declared.fault.FrameFault.{FrameFault}
 use Rattle.pulsar_frames.specs.declared.fault.FrameFault.TheVariants as fault
 use Rattle.pulsar_frames.specs.declared.frame.Body.{Body}
 use Rattle.pulsar_frames.specs.declared.frame.Frame.{Frame}
-use Rattle.pulsar_frames.specs.Layout.{Layout, BodyLayout, layout_text, TakesLayout, IsUnfinished, BrokenLayout}
+use Rattle.pulsar_frames.specs.Layout.{Layout, BodyLayout, layout_text, TakesLayout, IsUnfinished}
 use Rattle.pulsar_frames.specs.Frames.{carries, MeansBody, MeansFrame, IsFrameText, TakesFrame, WrongFrame, command, carried, meta, HasFault, sizes, parts}
 use Rattle.pulsar_frames.proofs.Commands.{command_one, command_fault_one, command_sound}
 use Rattle.pulsar_frames.proofs.Layouts.{layout_one, layout_text_one, layout_finished, layout_sound, unfinished_sound, broken_one}

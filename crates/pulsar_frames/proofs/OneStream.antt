@@ -1,11 +1,11 @@
 -- A stream is one list of frames, one rest and one fault at most, however it came.
-use Rattle.std.proofs.Common.{◌≡◌, ◌≢◌, ℕ, List, [], ◌∷◌, ◌++◌, Option, Some, None, refl, sym, ap, subst, ◌∙◌, append_assoc, arith}
+use Rattle.std.proofs.Common.{◌≡◌, ℕ, List, [], ◌∷◌, ◌++◌, Option, Some, None, refl, sym, ap, subst, ◌∙◌, append_assoc, arith}
 use Rattle.std.proofs.lemmas.List.{append-nil}
 use Rattle.pulsar_frames.specs.declared.fault.FrameFault.{FrameFault}
 use Rattle.pulsar_frames.specs.declared.frame.Frame.{Frame}
-use Rattle.pulsar_frames.specs.Layout.{TakesLayout, sized, layout_text, IsUnfinished, begun, BrokenLayout, too_large, content, size}
+use Rattle.pulsar_frames.specs.Layout.{sized, layout_text, begun, BrokenLayout, too_large, content, size}
 use Rattle.pulsar_frames.specs.Frames.{IsFrameText, TakesFrame, HasFault, sizes, parts}
-use Rattle.pulsar_frames.specs.Streams.{AreFrames, end, next, Ends, unfinished, refused, IsStream, Reading, fresh, Feeds, reads, refuses, Takes, Came, begins, fed, took, ReadsStream}
+use Rattle.pulsar_frames.specs.Streams.{AreFrames, end, next, Ends, unfinished, refused, IsStream, Reading, Feeds, reads, refuses, Came, begins, fed, took, ReadsStream}
 use Rattle.pulsar_frames.proofs.OneFrame.{frame_one, frame_finished, frame_sound, fault_unfinished, fault_one}
 
 -- ---- one stream

@@ -1,6 +1,6 @@
 -- Faults of parts as faults of frames.
-use Rattle.std.proofs.Common.{◌≡◌, ◌≢◌, ℕ, ◌+◌, ◌<◌, ◌≤◌, ◌-◌, Bool, true, false, List, [], ◌∷◌, ◌++◌, Option, Some, None, Result, length, drop, refl, sym, ap, subst, ◌∙◌, arith, length-append, append_assoc}
-use Rattle.std.proofs.lemmas.List.{append-nil, drop_at}
+use Rattle.std.proofs.Common.{◌≡◌, ◌≢◌, ℕ, ◌<◌, ◌≤◌, ◌-◌, Bool, true, false, List, [], ◌∷◌, ◌++◌, Option, Some, None, length, drop, refl, sym, ap, ◌∙◌, arith, length-append, append_assoc}
+use Rattle.std.proofs.lemmas.List.{drop_at}
 use Rattle.std.specs.Prelude.{is_some, not}
 use Rattle.std.specs.Bool.{beq}
 use Rattle.std.specs.Option.{option_map}
@@ -16,8 +16,8 @@ use Rattle.pulsar_frames.specs.declared.fault.FrameFault.TheVariants as fault
 use Rattle.pulsar_frames.specs.declared.frame.Frame.{Frame}
 use Rattle.pulsar_frames.specs.declared.layout.BodyParts.{BodyParts}
 use Rattle.pulsar_frames.specs.Viewed.{body_layout}
-use Rattle.pulsar_frames.specs.Layout.{Layout, BodyLayout, TakesLayout, BrokenLayout, content_text, layout_text, sized}
-use Rattle.pulsar_frames.specs.Frames.{carries, IsFrameText, TakesFrame, WrongFrame, command, carried, meta, HasFault, sizes, parts, IsFaultOrMemory, WrongBody, command_fault}
+use Rattle.pulsar_frames.specs.Layout.{Layout, BodyLayout, TakesLayout, content_text}
+use Rattle.pulsar_frames.specs.Frames.{carries, TakesFrame, WrongFrame, command, meta, HasFault, parts, IsFaultOrMemory, WrongBody, command_fault}
 use Rattle.pulsar_frames.specs.Streams.{AreFrames, end, next}
 use Rattle.pulsar_frames.proofs.Layouts.{length-sized}
 use Rattle.pulsar_frames.proofs.OneStream.{frames_append}

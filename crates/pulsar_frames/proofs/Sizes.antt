@@ -1,5 +1,5 @@
 -- How many bytes the parts of a frame take.
-use Rattle.std.proofs.Common.{◌≡◌, ℕ, ◌+◌, List, Option, Some, None, length, ap, ◌∙◌, arith, length-append}
+use Rattle.std.proofs.Common.{◌≡◌, ℕ, ◌+◌, Option, Some, None, length, ap, ◌∙◌, arith, length-append}
 use Rattle.std.specs.Option.{option_map}
 use Rattle.pulsar_frames.specs.declared.layout.BodyParts.{BodyParts}
 use Rattle.pulsar_frames.specs.declared.layout.FrameParts.{FrameParts}

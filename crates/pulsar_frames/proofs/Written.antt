@@ -1,14 +1,11 @@
 -- The canonical text of a frame is a text of it.
-use Rattle.std.proofs.Common.{◌≡◌, ℕ, Bool, List, Option, Some, None, refl, sym, ◌∙◌}
+use Rattle.std.proofs.Common.{◌≡◌, Option, Some, None, refl, ◌∙◌}
 use Rattle.std.specs.Prelude.{IfSome, is_some}
 use Rattle.std.specs.Option.{option_map}
-use Rattle.pb_fields.specs.Canonical.{text}
-use Rattle.message_meta.specs.Metadata.{IsMetaText}
-use Rattle.message_meta.specs.Canonical.{IsMetadata, canonical_fields}
+use Rattle.message_meta.specs.Canonical.{IsMetadata}
 use Rattle.message_meta.proofs.Written as meta
 use Rattle.pulsar_frames.specs.declared.frame.Body.{Body}
 use Rattle.pulsar_frames.specs.declared.frame.Frame.{Frame}
-use Rattle.pulsar_frames.specs.Layout.{BodyLayout}
 use Rattle.pulsar_frames.specs.Frames.{MeansBody, IsFrameText}
 use Rattle.pulsar_frames.specs.Canonical.{canonical_body, canonical_layout, frame_text, IsWritableFrame}
 use Rattle.pulsar_frames.proofs.Commands.{command_canonical}

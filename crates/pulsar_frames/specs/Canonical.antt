@@ -1,5 +1,5 @@
 -- The canonical text of a frame: those of its command and its metadata, behind their sizes.
-use Rattle.std.specs.Prelude.{◌≡◌, ℕ, ◌<◌, List, length, Option, Some, is_some, IfSome}
+use Rattle.std.specs.Prelude.{◌≡◌, ℕ, ◌<◌, List, length, Some, is_some, IfSome}
 use Rattle.std.specs.Option.{option_map}
 use Rattle.geo_base.specs.declared.limits.TheConstants.{FRAME_BYTES}
 use Rattle.pb_fields.specs.Canonical.{text}

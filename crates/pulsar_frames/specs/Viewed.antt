@@ -1,5 +1,4 @@
 -- The code's parts of a frame, without where they lie in memory.
-use Rattle.std.specs.Prelude.{Option}
 use Rattle.std.specs.Option.{option_map}
 use Rattle.pulsar_frames.specs.declared.layout.FrameParts.{FrameParts}
 use Rattle.pulsar_frames.specs.declared.layout.BodyParts.{BodyParts}

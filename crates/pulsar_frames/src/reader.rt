@@ -54,7 +54,7 @@ impl FrameReader {
     pub fn feed(&mut self, piece: &[u8]) -> Result<(), FrameFault>
         // The piece is read, and the answer is the fault of the stream, if it has one; or memory ran out, and nothing changed.
         ensures fed { Answered self.old piece.now result self.new }
-        // What reading the piece comes to is alone what it comes to, unless memory runs out.
+        // Nothing else can come of the piece, unless memory runs out.
         ensures only { (r : Reading) → Feeds self.old piece.now r → CameTo r result self.new }
         // A stream that is refused stays so, and the answer takes no memory.
         ensures refused { (why : FrameFault) → self.old.fault ≡ Some why → (result ≡ Err why) × (self.new ≡ self.old) }

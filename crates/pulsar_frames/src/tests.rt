@@ -1,5 +1,5 @@
 use super::*;
-use geo_base::{Blob, Memory, Sequence, Text};
+use geo_base::{Blob, Sequence, Text};
 use message_meta::Meta;
 use pb_fields::FieldList;
 use pulsar_commands::Command;
@@ -17,8 +17,8 @@ const PING: [u8; 13] = [
     0x00, 0x00, 0x00, 0x09, 0x00, 0x00, 0x00, 0x05, 0x08, 0x12, 0x92, 0x01, 0x00,
 ];
 
-/// That frame, with another payload.
-fn send(alloc: Global, payload: Blob) -> Result<Frame, Memory> {
+/// That frame with another payload, written.
+fn write_send(alloc: Global, payload: Blob) -> Result<Blob, FrameFault> {
     let meta = Meta {
         producer: Text::from_str(alloc, "p")?,
         seq: 0,
@@ -29,14 +29,27 @@ fn send(alloc: Global, payload: Blob) -> Result<Frame, Memory> {
         marker: None,
         rest: FieldList::new(alloc),
     };
-    Ok(Frame {
+    let frame = Frame {
         command: Command::Send {
             producer_id: 1,
             sequence_id: 0,
             num_messages: 1,
         },
         body: Some(Body { meta, payload }),
-    })
+    };
+    write_frame(alloc, &frame)
+}
+
+/// How many bytes that frame takes with a payload of so many, or its fault.
+fn size_of_send(alloc: Global, payload: usize) -> Result<String, AllocError> {
+    let payload = Blob::from_vec(vec![in alloc; 0u8; payload]?);
+    match write_send(alloc, payload) {
+        Ok(written) => {
+            let bytes = written.as_slice().len();
+            format!(in alloc; "{bytes} bytes")
+        }
+        Err(why) => format!(in alloc; "{why}"),
+    }
 }
 
 /// What a reader has come to: how many frames, how many bytes after them, and what it answered last.
@@ -48,7 +61,7 @@ fn outcome(
     let mut frames = 0u64;
     for _ in 0..100 {
         if reader.next().is_some() {
-            frames += 1;
+            frames = frames.wrapping_add(1);
         }
     }
     let rest = reader.rest();
@@ -194,26 +207,45 @@ fn a_frame_comes_with_its_last_byte(rt: HostRuntime) -> Result<(), Fail> {
     Ok(())
 }
 
+/// What a reader answers to pieces one by one, as a fault or `Ok`, and what it has come to.
+fn answers(alloc: Global, pieces: &[&[u8]]) -> Result<String, AllocError> {
+    let mut text = String::new(alloc);
+    let mut reader = FrameReader::new(alloc);
+    for piece in pieces {
+        match reader.feed(piece) {
+            Ok(()) => text.push_str("Ok, ")?,
+            Err(why) => {
+                let why = format!(in alloc; "{why}, ")?;
+                text.push_str(why.as_str())?;
+            }
+        }
+    }
+    let came = outcome(alloc, &mut reader, Ok(()))?;
+    text.push_str(came.as_str())?;
+    Ok(text)
+}
+
 #[test]
 fn a_refused_stream_stays_refused(rt: HostRuntime) -> Result<(), Fail> {
-    let mut reader = FrameReader::new(rt.alloc());
-    reader.feed(&PING)?;
+    let pieces = [
+        PING.as_slice(),
+        [0; 4].as_slice(),
+        PING.as_slice(),
+        [].as_slice(),
+    ];
+    let found = answers(rt.alloc(), &pieces)?;
     assert_eq!(rt;
-        reader.feed(&[0x00, 0x00, 0x00, 0x00]),
-        Err(FrameFault::Sizes)
+        found.as_str(),
+        "Ok, Sizes(2), Sizes(2), Sizes(2), 1 frames, 4 bytes"
     );
-    assert_eq!(rt; reader.feed(&PING), Err(FrameFault::Sizes));
-    assert!(rt; reader.next().is_some());
-    assert_eq!(rt; reader.feed(&[]), Err(FrameFault::Sizes));
-    assert!(rt; reader.next().is_none());
     Ok(())
 }
 
 #[test]
-fn a_frame_is_written_byte_for_byte(rt: HostRuntime) -> Result<(), Fail> {
+fn frames_are_written_byte_for_byte(rt: HostRuntime) -> Result<(), Fail> {
     let alloc = rt.alloc();
-    let frame = send(alloc, Blob::from_slice(alloc, b"hi")?)?;
-    assert_eq!(rt; write_frame(alloc, &frame)?.as_slice(), SEND.as_slice());
+    let written = write_send(alloc, Blob::from_slice(alloc, b"hi")?)?;
+    assert_eq!(rt; written.as_slice(), SEND.as_slice());
     let ping = Frame {
         command: Command::Ping,
         body: None,
@@ -224,15 +256,13 @@ fn a_frame_is_written_byte_for_byte(rt: HostRuntime) -> Result<(), Fail> {
 
 #[test]
 fn a_frame_has_at_most_the_limit(rt: HostRuntime) -> Result<(), Fail> {
-    let alloc = rt.alloc();
-    let most = Blob::from_vec(vec![in alloc; 0u8; 5_253_092]?);
-    let written = write_frame(alloc, &send(alloc, most)?)?;
-    assert_eq!(rt; written.as_slice().len(), 5_253_124);
-    let more = Blob::from_vec(vec![in alloc; 0u8; 5_253_093]?);
-    let refused = match write_frame(alloc, &send(alloc, more)?) {
-        Ok(_) => FrameFault::Memory,
-        Err(why) => why,
-    };
-    assert_eq!(rt; refused, FrameFault::TooLarge { size: 5_253_121 });
+    let table = [
+        (5_253_092, "5253124 bytes"),
+        (5_253_093, "TooLarge(1, 5253121)"),
+    ];
+    for (payload, expected) in table {
+        let found = size_of_send(rt.alloc(), payload)?;
+        assert_eq!(rt; found.as_str(), expected);
+    }
     Ok(())
 }

@@ -1,6 +1,5 @@
-use Rattle.std.proofs.Common.{ℕ, List, arith, subst}
-use Rattle.pulsar_frames.specs.declared.fault.FrameFault.TheVariants as fault
-use Rattle.pulsar_frames.specs.Layout.{begun, under_way, too_large, content, BrokenLayout}
+use Rattle.std.proofs.Common.{arith}
+use Rattle.pulsar_frames.specs.Layout.{begun, under_way, too_large, content}
 use Rattle.pulsar_frames.proofs.SizeTexts.{sized_split}
 use Rattle.pulsar_frames.proofs.layout.parts_at.Goals as goal
 

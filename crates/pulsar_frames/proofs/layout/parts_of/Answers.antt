@@ -1,4 +1,4 @@
-use Rattle.std.proofs.Common.{refl, length, ap, eq-eqb, List, ℕ, sym}
+use Rattle.std.proofs.Common.{refl, length, ap, eq-eqb, List, ℕ}
 use Rattle.pulsar_frames.specs.Layout.{command, checksum, meta}
 use Rattle.pulsar_frames.proofs.layout.parts_of.Goals as goal
 

@@ -1,6 +1,5 @@
-use Rattle.std.proofs.Common.{◌≡◌, [], List, subst, sym, Some, None, refl}
+use Rattle.std.proofs.Common.{List, subst, sym}
 use Rattle.pulsar_frames.specs.declared.frame.Frame.{Frame}
-use Rattle.pulsar_frames.specs.Frames.{TakesFrame}
 use Rattle.pulsar_frames.specs.Streams.{AreFrames, end, unfinished, refused}
 use Rattle.pulsar_frames.proofs.Reading.{frames_push, frame_shorter, is_fault}
 use Rattle.pulsar_frames.proofs.read.parse.Goals as goal

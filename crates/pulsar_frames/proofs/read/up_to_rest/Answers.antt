@@ -1,4 +1,4 @@
-use Rattle.std.proofs.Common.{ℕ, List, ◌-◌, length, drop, arith, subst, sym, ◌∙◌}
+use Rattle.std.proofs.Common.{ℕ, List, arith, subst}
 use Rattle.pulsar_frames.specs.Streams.{IsStream}
 use Rattle.pulsar_frames.proofs.Complete.{frames_complete}
 use Rattle.pulsar_frames.proofs.Reading.{rest_length, rest_is}

@@ -1,5 +1,4 @@
-use Rattle.std.proofs.Common.{◌≡◌, ◌++◌, Option, None, refl, ap, sym, ◌∙◌}
-use Rattle.pulsar_frames.specs.declared.fault.FrameFault.{FrameFault}
+use Rattle.std.proofs.Common.{◌≡◌, ◌++◌, None, ap, sym, ◌∙◌}
 use Rattle.pulsar_frames.specs.Streams.{Feeds, Reading}
 use Rattle.pulsar_frames.proofs.Fed.{answered_refused, feeds_piece, answered, came_to}
 use Rattle.pulsar_frames.proofs.reader.FrameReader.feed.Goals as goal
