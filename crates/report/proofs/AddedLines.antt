@@ -1,21 +1,18 @@
 -- Lines that are appended one after another: what each part of a report leaves of the whole.
-use Rattle.std.proofs.Common.{◌≡◌, ℕ, zero, suc, ◌+◌, ◌<◌, ◌≤◌, ◌==◌, Bool, true, false, if◌then◌else◌, List, [], ◌∷◌, ◌++◌, length, drop, get_or, map, min, Some, inl, inr, refl, sym, ap, subst, ◌∙◌, append_assoc, arith}
+use Rattle.std.proofs.Common.{◌≡◌, ℕ, zero, suc, ◌+◌, ◌<◌, ◌≤◌, ◌==◌, Bool, true, false, if◌then◌else◌, List, [], ◌∷◌, ◌++◌, length, drop, get_or, map, min, Some, inl, inr, refl, sym, ap, ◌∙◌, append_assoc, arith}
 use Rattle.std.proofs.Math.ListN.{drop_of_length-le}
 use Rattle.std.proofs.lemmas.Bool.{cases_lt}
 use Rattle.std.proofs.lemmas.List.{append-nil, drop_more}
 use Rattle.std.specs.Prelude.{codes, decimal, slice_get}
 use Rattle.geo_base.specs.declared.entry.Entry.{Entry}
 use Rattle.geo_base.specs.declared.position.Position.{Position}
-use Rattle.geo_base.specs.Broker.{Broker, backlog, sender_at}
+use Rattle.geo_base.specs.Broker.{Broker, backlog}
 use Rattle.geo_base.specs.Cursor.{mark}
 use Rattle.topic_book.specs.SubRoom.{IsPlain}
-use Rattle.geo_base.specs.Client.{Client}
-use Rattle.geo_base.specs.Report.{broker_lines, client_line, client_lines, cluster_lines, entry_line, entry_lines, got_line, sender_line, sender_lines, sub_line, topic_lines, with_line_feeds, words}
+use Rattle.geo_base.specs.Report.{broker_lines, entry_line, entry_lines, sender_line, sender_lines, sub_line, with_line_feeds, words}
 use Rattle.geo_base.specs.Sender.{Sender, new_sender}
-use Rattle.geo_base.specs.Setup.{Declared, Setup}
 use Rattle.geo_base.specs.Subscription.{Subscription}
 use Rattle.geo_base.specs.Topic.{position_at}
-use Rattle.geo_base.specs.World.{World, client_at, topic_at}
 
 pub with_line_feeds-append : (ls ms : List (List ℕ)) → with_line_feeds (ls ++ ms) ≡ with_line_feeds ls ++ with_line_feeds ms
 with_line_feeds-append [] ms = refl

@@ -1,8 +1,7 @@
 -- Steps of a walk over the positions of a topic's entries.
-use Rattle.std.proofs.Common.{◌≡◌, ℕ, ◌+◌, ◌<◌, ◌≤◌, nat_lt, true, List, length, drop, get_or, Some, None, ap, ◌∙◌, arith, add-zero, drop-cons}
+use Rattle.std.proofs.Common.{◌≡◌, ℕ, ◌+◌, ◌<◌, ◌≤◌, nat_lt, true, List, length, get_or, Some, None, ap, ◌∙◌, arith, add-zero, drop-cons}
 use Rattle.std.proofs.lemmas.Bool.Decides.{nat_tests}
 use Rattle.std.proofs.Math.ListN.{drop_of_length-le}
-use Rattle.geo_base.specs.declared.position.Position.{Position}
 use Rattle.geo_base.specs.Topic.{or_first, position_at, position_from}
 use Rattle.report.specs.Walk.{IsSamePlace}
 

@@ -1,4 +1,4 @@
-use Rattle.std.proofs.Common.{◌≡◌, ◌++◌, ◌∙◌, map}
+use Rattle.std.proofs.Common.{◌++◌, ◌∙◌, map}
 use Rattle.std.specs.Prelude.{string_bytes}
 use Rattle.geo_base.specs.Report.{sub_line, with_line_feeds}
 use Rattle.report.proofs.AddedLines.{plain_line, sub_added}

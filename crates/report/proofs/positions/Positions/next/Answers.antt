@@ -1,4 +1,4 @@
-use Rattle.std.proofs.Common.{◌<◌, ◌≤◌, length, sym, arith}
+use Rattle.std.proofs.Common.{sym}
 use Rattle.report.proofs.Walking.{nothing_stands, same_place_trans, stands}
 use Rattle.report.proofs.positions.Positions.next.Goals as goal
 
