@@ -1,6 +1,6 @@
 //! The world: every broker, client and link, and the counts. An event is prepared at its node, its packets go out whole or not
 //! at all, and then it is committed; so one that finds no memory changes nothing.
-ghost use Rattle.std.specs.Prelude.{◌≡◌, ◌+◌, ◌<◌, ◌≤◌, ◌^◌, Some, None, [], length, map, max, OnOk, OnErr, IfOk, slice_index};
+ghost use Rattle.std.specs.Prelude.{◌≡◌, ◌+◌, ◌<◌, ◌^◌, Some, None, [], length, map, max, OnOk, OnErr, IfOk};
 ghost use Rattle.geo_base.specs.Client.{new_client};
 ghost use Rattle.geo_base.specs.Scripted.{IsScripted};
 ghost use Rattle.geo_base.specs.Happening.{broker_does, client_does};
