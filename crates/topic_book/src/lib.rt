@@ -24,7 +24,5 @@ pub mod site;
 pub mod subscribing;
 pub mod subscription;
 pub mod subscriptions;
-#[cfg(test)]
-mod tests;
 pub mod topic;
 pub mod write;
