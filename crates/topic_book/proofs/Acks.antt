@@ -1,7 +1,7 @@
 -- What ACK makes of the indexes that it names.
-use Rattle.std.proofs.Common.{◌≡◌, ℕ, zero, suc, ◌+◌, ◌<◌, ◌≤◌, Bool, true, false, List, [], ◌∷◌, ◌++◌, length, get_or, drop, refl, ap, sym, ◌∙◌, arith, add-one, append_assoc, append-nil}
-use Rattle.std.specs.Prelude.{max, if◌then◌else◌, Option, Some, None}
-use Rattle.std.specs.List.{All, range_with_len}
+use Rattle.std.proofs.Common.{◌≡◌, ℕ, ◌+◌, ◌<◌, ◌≤◌, Bool, true, false, List, [], ◌∷◌, length, refl, arith}
+use Rattle.std.specs.Prelude.{max, if◌then◌else◌, Some}
+use Rattle.std.specs.List.{All}
 use Rattle.std.specs.Str.{bytes_eq}
 use Rattle.std.proofs.lemmas.List.FromFn.{get_or-range_with_len, length-range_with_len}
 use Rattle.geo_base.specs.declared.frame.AckKind.TheVariants as ack_kind
@@ -13,7 +13,6 @@ use Rattle.geo_base.specs.Broker.{Broker, Site}
 use Rattle.geo_base.specs.Cursor.{below}
 use Rattle.geo_base.specs.Plan.{Plan, plan_of, quiet_plan}
 use Rattle.geo_base.specs.Subscription.{Subscription}
-use Rattle.geo_base.specs.Topic.{index_of}
 use Rattle.topic_book.specs.Fits.{PlanFits}
 use Rattle.topic_book.specs.SubRoom.{IsPlain, need}
 use Rattle.topic_book.proofs.SubTables.{need_to}

@@ -1,6 +1,6 @@
 -- A backlog, one entry after another.
-use Rattle.std.proofs.Common.{◌≡◌, ℕ, zero, suc, ◌+◌, Bool, true, false, List, [], ◌∷◌, drop, map, refl, ap, sym, ◌∙◌, arith, add-one}
-use Rattle.std.specs.Prelude.{◌&&◌, not, if◌then◌else◌, Option, Some, slice_get}
+use Rattle.std.proofs.Common.{◌≡◌, ℕ, zero, suc, ◌+◌, Bool, true, false, List, [], ◌∷◌, drop, map, ap, arith}
+use Rattle.std.specs.Prelude.{◌&&◌, not, if◌then◌else◌, Some, slice_get}
 use Rattle.geo_base.specs.declared.entry.Entry.{Entry}
 use Rattle.geo_base.specs.Cursor.{backlog_from, has}
 use Rattle.geo_base.specs.Entry.{is_data}

@@ -1,15 +1,14 @@
 -- What an offer of a message to the consumer that came first is.
-use Rattle.std.proofs.Common.{◌≡◌, ℕ, ◌<◌, nat_lt, Bool, true, false, List, [], ◌∷◌, refl, ap, sym, ◌∙◌, arith}
-use Rattle.std.specs.Prelude.{if◌then◌else◌, Option, Some, None}
+use Rattle.std.proofs.Common.{◌≡◌, ℕ, ◌<◌, nat_lt, Bool, true, false, [], ◌∷◌, refl, ap, ◌∙◌, arith}
+use Rattle.std.specs.Prelude.{if◌then◌else◌, Some, None}
 use Rattle.std.proofs.lemmas.Bool.Decides.{nat_tests}
 use Rattle.geo_base.specs.declared.change.Change.TheVariants as change
 use Rattle.geo_base.specs.declared.entry.Entry.{Entry}
 use Rattle.geo_base.specs.Broker.{Broker, Site}
-use Rattle.geo_base.specs.Dispatcher.{consumer_at, pick}
-use Rattle.geo_base.specs.Entry.{key_bytes}
+use Rattle.geo_base.specs.Dispatcher.{consumer_at}
 use Rattle.geo_base.specs.Message.{is_message}
-use Rattle.geo_base.specs.Offering.{message, offer_content, offer_data, offer_entry}
-use Rattle.geo_base.specs.Plan.{Plan, idle_plan, plan_of}
+use Rattle.geo_base.specs.Offering.{message, offer_data, offer_entry}
+use Rattle.geo_base.specs.Plan.{idle_plan, plan_of}
 use Rattle.geo_base.specs.Subscription.{Subscription}
 use Rattle.topic_book.specs.SubRoom.{IsPlain}
 use Rattle.topic_book.proofs.Messages.{message_data}

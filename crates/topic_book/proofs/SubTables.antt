@@ -1,6 +1,6 @@
 -- The subscriptions of a topic, seen without their room.
 use Rattle.std.proofs.Common.{◌≡◌, ℕ, ◌+◌, ◌-◌, ◌<◌, ◌≤◌, ◌==◌, Bool, true, false, List, [], ◌++◌, length, get_or, set, ap, sym, ◌∙◌, arith, inl, inr, refl, append-nil}
-use Rattle.std.specs.Prelude.{◌≢◌, ◌⊎◌, ◌||◌, if◌then◌else◌}
+use Rattle.std.specs.Prelude.{◌≢◌, ◌⊎◌, if◌then◌else◌}
 use Rattle.std.proofs.lemmas.Bool.Decides.{nat_tests}
 use Rattle.std.proofs.lemmas.Grind.{common_steps}
 use Rattle.std.proofs.lemmas.List.{get_or_default, get_or-set_same}

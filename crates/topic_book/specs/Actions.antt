@@ -1,5 +1,5 @@
 -- What a broker may be asked to do, with the packet that it takes.
-use Rattle.std.specs.Prelude.{◌≡◌, ℕ, ◌+◌, ◌<◌, ◌^◌, length, ⊤}
+use Rattle.std.specs.Prelude.{◌+◌, ◌<◌, ◌^◌, length, ⊤}
 use Rattle.std.specs.Option.{option_copied}
 use Rattle.geo_base.specs.declared.event.Fate.TheVariants as fate
 use Rattle.geo_base.specs.Broker.{Broker, Site, sender_at}

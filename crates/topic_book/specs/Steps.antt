@@ -1,5 +1,5 @@
 -- What an event does to a sender, one step at a time.
-use Rattle.std.specs.Prelude.{ℕ, ◌+◌, ◌<◌, ◌^◌, ⊤}
+use Rattle.std.specs.Prelude.{◌+◌, ◌<◌, ◌^◌, ⊤}
 use Rattle.geo_base.specs.declared.sender.SenderState.TheVariants as sender_state
 use Rattle.geo_base.specs.Cursor.{with_index}
 use Rattle.geo_base.specs.Sender.{Sender, sender_reset, sender_sent, without_number}

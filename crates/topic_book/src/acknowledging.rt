@@ -1,9 +1,8 @@
 //! A broker and its clients' consumers: ACK.
-ghost use Rattle.std.specs.Prelude.{◌≡◌, ◌<◌, ◌≤◌, ◌+◌, ◌∷◌, [], ℕ, false, length, max, IfOk};
+ghost use Rattle.std.specs.Prelude.{◌≡◌, ◌<◌, ◌≤◌, ◌∷◌, [], ℕ, length, max, IfOk};
 ghost use Rattle.std.specs.List.{All};
 ghost use Rattle.geo_base.specs.Acknowledging.{acks, cumulative_indexes, serve_ack, stored_indexes};
 ghost use Rattle.geo_base.specs.Broker.{Site};
-ghost use Rattle.geo_base.specs.Cursor.{below};
 ghost use Rattle.geo_base.specs.Subscribing.{consumed_by};
 ghost use Rattle.geo_base.specs.Plan.{plan_of};
 ghost use Rattle.geo_base.specs.declared.change.Change.TheVariants as change;

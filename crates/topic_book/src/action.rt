@@ -1,5 +1,5 @@
 //! What a broker may be asked to do.
-ghost use Rattle.std.specs.Prelude.{◌≡◌, ◌≤◌, IfOk};
+ghost use Rattle.std.specs.Prelude.{◌≡◌, IfOk};
 ghost use Rattle.topic_book.specs.Actions.{ActionFits, action_plan};
 ghost use Rattle.topic_book.specs.Fits.{HasRoom, PlanFits};
 

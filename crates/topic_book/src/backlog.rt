@@ -1,5 +1,5 @@
 //! What a subscription has not acknowledged.
-ghost use Rattle.std.specs.Prelude.{◌≡◌, ◌<◌, ◌&&◌, ◌+◌, Some, not, length, slice_get};
+ghost use Rattle.std.specs.Prelude.{◌≡◌, ◌&&◌, ◌+◌, not};
 ghost use Rattle.geo_base.specs.Broker.{backlog};
 ghost use Rattle.geo_base.specs.Cursor.{has};
 ghost use Rattle.geo_base.specs.Entry.{is_data};

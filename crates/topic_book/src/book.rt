@@ -1,5 +1,5 @@
 //! A broker's state, and how a prepared event becomes of it.
-ghost use Rattle.std.specs.Prelude.{◌≡◌, ◌<◌, ◌≤◌, ◌+◌, ◌-◌, ◌++◌, None, Some, true, length, replicate, slice_get, IfOk, OnOk, []};
+ghost use Rattle.std.specs.Prelude.{◌≡◌, ◌<◌, ◌≤◌, ◌+◌, ◌-◌, ◌++◌, None, Some, true, length, replicate, slice_get, IfOk, OnOk};
 ghost use Rattle.std.specs.Option.{IfSome, option_copied};
 ghost use Rattle.geo_base.specs.Broker.{at_sender, at_sub, changed, new_broker, receiver_at, sender_at, session_at, written};
 ghost use Rattle.geo_base.specs.Entry.{with_origin};

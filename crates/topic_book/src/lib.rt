@@ -14,6 +14,7 @@ pub mod message;
 pub mod offering;
 pub mod packet;
 pub mod prepared;
+pub mod producing;
 pub mod receiving;
 pub mod sender;
 pub mod senders;

@@ -1,5 +1,5 @@
 //! The dispatcher of a subscription: offer.
-ghost use Rattle.std.specs.Prelude.{◌≡◌, ◌<◌, ◌≤◌, ◌+◌, ◌^◌, ◌∷◌, [], true, Some, length, IfOk};
+ghost use Rattle.std.specs.Prelude.{◌≡◌, ◌<◌, ◌+◌, ◌^◌, true, Some, length, IfOk};
 ghost use Rattle.geo_base.specs.Broker.{session_at};
 ghost use Rattle.geo_base.specs.Dispatcher.{least_due};
 ghost use Rattle.geo_base.specs.Message.{is_message};

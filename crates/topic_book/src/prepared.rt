@@ -1,8 +1,7 @@
 //! What an event will do at a broker.
-ghost use Rattle.std.specs.Prelude.{◌≡◌, ◌++◌, ◌∷◌, [], true, length, OnOk, IfOk};
+ghost use Rattle.std.specs.Prelude.{◌≡◌, ◌++◌, ◌∷◌, [], true, OnOk};
 ghost use Rattle.geo_base.specs.Plan.{idle_plan, quiet_plan};
 ghost use Rattle.geo_base.specs.Built.{fits_link};
-ghost use Rattle.topic_book.specs.Fits.{steps};
 ghost use Rattle.topic_book.specs.Writes.{IsReady, machine_write};
 
 use crate::packet::Outgoing;

@@ -1,5 +1,5 @@
 //! The receiving end of a forward link: take.
-ghost use Rattle.std.specs.Prelude.{◌≡◌, ◌<◌, ◌≤◌, true, length, IfOk};
+ghost use Rattle.std.specs.Prelude.{◌≡◌, ◌<◌, true, length, IfOk};
 ghost use Rattle.std.specs.Option.{option_copied};
 ghost use Rattle.geo_base.specs.Forwarding.{closes, take_command, take_frame, take_in, take_packet, take_send};
 ghost use Rattle.geo_base.specs.Receiver.{is_from};

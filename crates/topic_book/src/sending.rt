@@ -1,11 +1,10 @@
 //! The sending end of a forward link: reset, read and receipt.
-ghost use Rattle.std.specs.Prelude.{◌≡◌, ◌==◌, ◌&&◌, ◌<◌, ◌≤◌, ◌+◌, ◌^◌, [], Some, true, length, IfOk};
+ghost use Rattle.std.specs.Prelude.{◌≡◌, ◌==◌, ◌&&◌, ◌<◌, ◌+◌, ◌^◌, [], Some, true, length, IfOk};
 ghost use Rattle.std.specs.Option.{option_copied};
 ghost use Rattle.geo_base.specs.Broker.{sender_at};
 ghost use Rattle.geo_base.specs.Entry.{goes_to};
-ghost use Rattle.geo_base.specs.Forwarding.{opens, receipt, receipt_command, receipt_packet, receives, reset};
+ghost use Rattle.geo_base.specs.Forwarding.{receipt, receipt_command, reset};
 ghost use Rattle.geo_base.specs.Reading.{forwards, read, read_at, read_entry};
-ghost use Rattle.geo_base.specs.Sender.{Sender};
 ghost use Rattle.geo_base.specs.Updating.{handled};
 ghost use Rattle.geo_base.specs.declared.event.Fate.TheVariants as fate;
 ghost use Rattle.topic_book.specs.Fits.{HasRoom, PlanFits, room_for};

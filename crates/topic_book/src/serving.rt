@@ -1,18 +1,16 @@
-//! A broker and its clients: CONNECT, PRODUCER and SEND, and what the commands of consumers have in common with them.
-ghost use Rattle.std.specs.Prelude.{◌≡◌, ◌≢◌, ◌==◌, ◌&&◌, ◌<◌, ◌≤◌, ◌++◌, ◌∷◌, [], true, length, IfOk};
-ghost use Rattle.std.specs.List.{list_any};
+//! A broker and its clients: CONNECT, SEND, and the way to every other command.
+ghost use Rattle.std.specs.Prelude.{◌≡◌, ◌≢◌, ◌==◌, ◌&&◌, ◌<◌, true, length, IfOk};
 ghost use Rattle.std.specs.Option.{option_copied};
 ghost use Rattle.std.specs.Str.{bytes_eq};
 ghost use Rattle.geo_base.specs.Answers.{answers, refuses, unknown_error};
 ghost use Rattle.geo_base.specs.Broker.{Site, session_at};
 ghost use Rattle.geo_base.specs.Entry.{with_origin};
-ghost use Rattle.geo_base.specs.Producing.{attaches, is_sound, is_taken, may_attach, name_with, serve_producer, serve_send, stores, uses_name, without_producer};
+ghost use Rattle.geo_base.specs.Producing.{is_sound, name_with, serve_send, stores};
 ghost use Rattle.geo_base.specs.Serving.{serve, serve_command, serve_frame, serve_in};
 ghost use Rattle.geo_base.specs.declared.frame.Frame.TheVariants as frame;
 ghost use Rattle.geo_base.specs.Built.{is_client_frame};
 ghost use Rattle.topic_book.specs.Fits.{HasRoom, PlanFits, acks_for, room_for};
 ghost use Rattle.geo_base.specs.Message.{is_message};
-ghost use Rattle.topic_book.specs.Refusing.{refusal};
 
 use crate::book::Book;
 use crate::packet::ClientPacket;
@@ -31,12 +29,6 @@ use std::alloc::Global;
 
 /// UnknownError of ServerError in PulsarApi.proto.
 pub(crate) const UNKNOWN_ERROR: u64 = 0;
-
-/// ProducerBusy of ServerError in PulsarApi.proto.
-const PRODUCER_BUSY: u64 = 16;
-
-/// The longest name that a producer may have, in bytes (own).
-const PRODUCER_NAME_BYTES: usize = 1024;
 
 impl Book {
     /// What the next packet of a client will do. Only room is made; an `Err` is want of memory.
@@ -164,32 +156,6 @@ impl Book {
         }
     }
 
-    #[tactic(auto, using(crate::proofs::Refusals::producer_served))]
-    fn serve_producer(
-        &self,
-        alloc: Global,
-        site: &Site,
-        client: u32,
-        session: &Session,
-        topic: &Text,
-        id: u64,
-        request: u64,
-        name: &Option<Text>,
-    ) -> Result<Prepared, Memory>
-        requires client { client < length self.now.broker.sessions }
-        ensures plan { IfOk result (λ p. p ≡ serve_producer site.now self.now.broker client session.now topic.now id request name.now) }
-        ensures fits { IfOk result (λ p. PlanFits site.now.per_ledger self.now.broker p) }
-        ensures few { IfOk result (λ p. HasRoom (room_for 0) p) }
-    {
-        let Some(name) = name else {
-            return refusing(alloc, client, session, request, UNKNOWN_ERROR);
-        };
-        match self.refusal(site, client, topic, name) {
-            Some(code) => refusing(alloc, client, session, request, code),
-            None => attaching(alloc, client, session, id, request, name),
-        }
-    }
-
     fn serve_send(
         &self,
         alloc: Global,
@@ -213,19 +179,6 @@ impl Book {
             }
             _ => failing(alloc, client, session, id, seq),
         }
-    }
-
-    /// Why a producer may not attach, as a ServerError, if it may not.
-    fn refusal(&self, site: &Site, client: u32, topic: &Text, name: &Text) -> Option<u64>
-        ensures { result ≡ refusal site.now self.now.broker client topic.now name.now }
-    {
-        if topic.as_bytes() != site.topic().as_bytes() || !may_attach(name.as_bytes()) {
-            return Some(UNKNOWN_ERROR);
-        }
-        if is_taken(name.as_bytes(), client, self.sessions()) {
-            return Some(PRODUCER_BUSY);
-        }
-        None
     }
 
     /// A sound message is stored, or is a duplicate, and is answered either way.
@@ -309,95 +262,6 @@ fn failing(
         code: UNKNOWN_ERROR,
     };
     answering(alloc, client, session, error)
-}
-
-/// A producer attaches.
-fn attaching(
-    alloc: Global,
-    client: u32,
-    session: &Session,
-    id: u64,
-    request: u64,
-    name: &Text,
-) -> Result<Prepared, Memory>
-    ensures { IfOk result (λ p. p ≡ attaches client session.now id request name.now) }
-{
-    let attached = Session {
-        number: session.number,
-        producers: with_producer(alloc, session.producers.as_slice(), id, name)?,
-    };
-    let success = Frame::ProducerSuccess {
-        request,
-        name: name.copy(alloc)?,
-    };
-    let mut plan = Prepared::quiet(alloc);
-    plan.change(Change::Client {
-        client,
-        session: Some(attached),
-    })?;
-    plan.send(Peer::Client(client), session.number, success)?;
-    Ok(plan)
-}
-
-/// The producers of a session after one attached, which takes the place of one with its id.
-fn with_producer(
-    alloc: Global,
-    producers: &[AttachedProducer],
-    id: u64,
-    name: &Text,
-) -> Result<Sequence<AttachedProducer>, Memory>
-    ensures { IfOk result (λ ps. ps ≡ without_producer id producers.now ++ record { id = id; name = name.now } ∷ []) }
-{
-    let mut kept = Sequence::new(alloc);
-    for producer in producers {
-        if producer.id != id {
-            kept.push(AttachedProducer {
-                id: producer.id,
-                name: producer.name.copy(alloc)?,
-            })?;
-        }
-    }
-    kept.push(AttachedProducer {
-        id,
-        name: name.copy(alloc)?,
-    })?;
-    Ok(kept)
-}
-
-/// Whether a name may be a producer's: it is not too long, and none of the system's own.
-fn may_attach(name: &[u8]) -> bool
-    ensures { result ≡ may_attach name.now }
-{
-    name.len() <= PRODUCER_NAME_BYTES && !name.starts_with(b"pulsar.")
-}
-
-/// Whether another client's open session has a producer of this name.
-fn is_taken(name: &[u8], client: u32, sessions: &[Option<Session>]) -> bool
-    ensures { result ≡ is_taken name.now client 0 sessions.now }
-{
-    for (other, session) in sessions.iter().enumerate() {
-        if other != client as usize && uses_name(name, session) {
-            return true;
-        }
-    }
-    false
-}
-
-fn uses_name(name: &[u8], session: &Option<Session>) -> bool
-    ensures { result ≡ uses_name name.now session.now }
-{
-    match session {
-        None => false,
-        Some(session) => has_name(name, session.producers.as_slice()),
-    }
-}
-
-fn has_name(name: &[u8], producers: &[AttachedProducer]) -> bool
-    ensures { result ≡ list_any (λ p. bytes_eq p.name name.now) producers.now }
-{
-    producers
-        .iter()
-        .any(|producer| producer.name.as_bytes() == name)
 }
 
 /// The name of the producer of an id.

@@ -1,13 +1,11 @@
 //! A subscription of a topic at one cluster: kind Exclusive, and not replicated.
-ghost use Rattle.std.specs.Prelude.{◌≡◌, ◌<◌, ◌≤◌, ◌+◌, ◌==◌, ◌^◌, [], false, length, not, nat_lt, slice_get, slice_set, vec_len, vec_capacity, IfOk, OnOk, OnErr, if◌then◌else◌};
-ghost use Rattle.std.specs.List.{All, filter};
-ghost use Rattle.std.specs.Str.{bytes_eq};
-ghost use Rattle.geo_base.specs.Cursor.{below, has, mark, with_indexes};
-ghost use Rattle.geo_base.specs.Dispatcher.{consumer_at, given, least_due, used};
+ghost use Rattle.std.specs.Prelude.{◌≡◌, ◌<◌, ◌≤◌, ◌+◌, ◌==◌, ◌^◌, [], false, vec_len, vec_capacity, IfOk, OnOk};
+ghost use Rattle.std.specs.List.{All};
+ghost use Rattle.geo_base.specs.Cursor.{below, has, mark};
+ghost use Rattle.geo_base.specs.Dispatcher.{consumer_at, given, least_due};
 ghost use Rattle.geo_base.specs.Subscribing.{is_busy};
-ghost use Rattle.geo_base.specs.Subscription.{after_acks, attached, detached, has_consumer, is_attached, new_subscription, out_with, permitted, with_acks};
+ghost use Rattle.geo_base.specs.Subscription.{after_acks, attached, detached, has_consumer, is_attached, new_subscription, permitted, with_acks};
 ghost use Rattle.geo_base.specs.declared.frame.SubKind.TheVariants as sub_kind;
-ghost use Rattle.topic_book.specs.Room.{IsAscending};
 ghost use Rattle.topic_book.specs.SubRoom.{IsLeast, IsPlain, SubBook, SubStepFits, need, sub_stepped};
 
 mod parts;

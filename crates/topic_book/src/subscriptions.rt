@@ -8,7 +8,7 @@ ghost use Rattle.geo_base.specs.Cursor.{below};
 ghost use Rattle.geo_base.specs.Subscribing.{consumed_by};
 ghost use Rattle.geo_base.specs.Subscription.{Subscription, is_attached, new_subscription};
 ghost use Rattle.geo_base.specs.declared.frame.SubKind.TheVariants as sub_kind;
-ghost use Rattle.topic_book.specs.SubRoom.{AllKeepRoom, AllSubsFit, AllSubsHaveRoom, IsFresh, IsPlain, SubBook, SubBooks, SubStepFits, selected, sub_of, sub_stepped, subs_of};
+ghost use Rattle.topic_book.specs.SubRoom.{AllKeepRoom, AllSubsFit, AllSubsHaveRoom, IsFresh, IsPlain, SubBooks, SubStepFits, selected, sub_of, sub_stepped, subs_of};
 
 use crate::subscription::{Sub, SubStep};
 use geo_base::memory::Memory;

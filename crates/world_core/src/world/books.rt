@@ -1,5 +1,5 @@
 //! The brokers of the world.
-ghost use Rattle.std.specs.Prelude.{◌≡◌, ◌+◌, ◌*◌, ◌<◌, ◌≤◌, length, replicate, slice_index, slice_index_or, slice_set, IfOk};
+ghost use Rattle.std.specs.Prelude.{◌≡◌, ◌+◌, ◌*◌, ◌<◌, length, replicate, slice_index_or, slice_set, IfOk};
 ghost use Rattle.geo_base.specs.Broker.{new_broker, no_broker};
 ghost use Rattle.geo_base.specs.Plan.{done};
 ghost use Rattle.topic_book.specs.Actions.{ActionFits, action_plan};

@@ -1,5 +1,4 @@
-use Rattle.std.proofs.Common.{◌≡◌, ◌≢◌, ◌<◌, ◌-◌, ◌+◌, ℕ, length, get_or, sym, ◌∙◌, arith}
-use Rattle.geo_base.specs.Cursor.{next_open}
+use Rattle.std.proofs.Common.{◌≡◌, ◌≢◌, ◌<◌, ◌-◌, ◌+◌, length, get_or, sym, ◌∙◌, arith}
 use Rattle.topic_book.proofs.Cursors.{next_open_acked, next_open_here, place_next}
 use Rattle.topic_book.proofs.cursor.first_open.Goals as goal
 use Rattle.topic_book.proofs.cursor.first_open.Goals.{then-at-cursor-via-then-at-cursor, then-at-cursor-via-else-at-cursor+then-cursor-at}

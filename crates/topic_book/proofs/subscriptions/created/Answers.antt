@@ -1,4 +1,4 @@
-use Rattle.std.proofs.Common.{sym, ◌∙◌}
+use Rattle.std.proofs.Common.{◌∙◌}
 use Rattle.topic_book.proofs.SubTables.{at_latest}
 use Rattle.topic_book.proofs.subscriptions.created.Goals as goal
 

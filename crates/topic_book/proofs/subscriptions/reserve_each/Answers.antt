@@ -1,7 +1,7 @@
-use Rattle.std.proofs.Common.{ap, sym, ◌∙◌, arith}
+use Rattle.std.proofs.Common.{◌∙◌, arith}
 use Rattle.std.proofs.Math.Seq.{map-set_same}
 use Rattle.std.proofs.lemmas.Grind.{common_steps}
-use Rattle.topic_book.specs.SubRoom.{SubBook, sub_of}
+use Rattle.topic_book.specs.SubRoom.{sub_of}
 use Rattle.topic_book.proofs.subscriptions.reserve_each.Goals as goal
 
 pub loop-sub-preserved : goal.loop-sub-preserved

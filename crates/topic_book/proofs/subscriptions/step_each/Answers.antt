@@ -1,11 +1,11 @@
-use Rattle.std.proofs.Common.{◌≡◌, ℕ, ◌+◌, ◌≤◌, ◌<◌, List, get_or, length, ap, sym, ◌∙◌, arith}
+use Rattle.std.proofs.Common.{◌≡◌, ℕ, ◌<◌, List, get_or, length, ap, sym, ◌∙◌, arith}
 use Rattle.std.specs.Prelude.{if◌then◌else◌, Option, slice_set}
 use Rattle.std.specs.Option.{option_copied}
 use Rattle.std.proofs.lemmas.Grind.{common_steps}
 use Rattle.std.proofs.lemmas.List.{map-set, get_or-map, length-map}
 use Rattle.geo_base.specs.Subscription.{Subscription}
 use Rattle.topic_book.specs.declared.subscription.SubStep.{SubStep}
-use Rattle.topic_book.specs.SubRoom.{SubBook, selected, sub_of, sub_stepped, subs_of}
+use Rattle.topic_book.specs.SubRoom.{selected, sub_of, sub_stepped, subs_of}
 use Rattle.topic_book.proofs.Mapped.{all_mapped, mapped_to, set_mapped}
 use Rattle.topic_book.proofs.SubTables.{kept_set}
 use Rattle.topic_book.proofs.subscriptions.step_each.Goals as goal

@@ -1,4 +1,4 @@
-use Rattle.std.proofs.Common.{◌≡◌, ◌-◌, false, true, get_or, sym, ◌∙◌, arith}
+use Rattle.std.proofs.Common.{◌≡◌, ◌-◌, get_or, sym, arith}
 use Rattle.topic_book.proofs.Accepting.{decided, passed}
 use Rattle.topic_book.proofs.topic.is_accepted.Goals as goal
 

@@ -1,4 +1,4 @@
-use Rattle.std.proofs.Common.{◌≡◌, ◌+◌, ◌≤◌, length, vec_len}
+use Rattle.std.proofs.Common.{◌≡◌, ◌≤◌, length, vec_len}
 use Rattle.geo_base.specs.Plan.{all_changed}
 use Rattle.topic_book.specs.Fits.{AllChangesFit, SameShape}
 use Rattle.topic_book.proofs.book.Book.change_all.Given as goal

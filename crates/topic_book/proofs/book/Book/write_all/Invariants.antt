@@ -1,4 +1,4 @@
-use Rattle.std.proofs.Common.{◌≡◌, ◌+◌, ◌≤◌, length, vec_len}
+use Rattle.std.proofs.Common.{◌≡◌, ◌+◌, length, vec_len}
 use Rattle.geo_base.specs.Plan.{all_written}
 use Rattle.topic_book.specs.Fits.{AllWritesFit, SameShape}
 use Rattle.topic_book.specs.Writes.{AcksFit}

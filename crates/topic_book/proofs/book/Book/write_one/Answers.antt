@@ -1,4 +1,4 @@
-use Rattle.std.proofs.Common.{◌≡◌, ◌≤◌, ◌<◌, ℕ, ap, sym, ◌∙◌, arith}
+use Rattle.std.proofs.Common.{ap, arith}
 use Rattle.std.specs.Prelude.{length}
 use Rattle.topic_book.specs.Room.{BrokerBook}
 use Rattle.topic_book.proofs.SubTables.{ack_to_within}

@@ -1,5 +1,5 @@
-use Rattle.std.proofs.Common.{◌≡◌, ℕ, ap, sym, ◌∙◌}
-use Rattle.std.specs.Prelude.{Option, Some}
+use Rattle.std.proofs.Common.{ap, sym, ◌∙◌}
+use Rattle.std.specs.Prelude.{Some}
 use Rattle.geo_base.specs.declared.sender.Pending.{Pending}
 use Rattle.topic_book.specs.Room.{SenderBook}
 use Rattle.topic_book.proofs.Pendings.{pending_at, pending_none}

@@ -1,7 +1,7 @@
-use Rattle.std.proofs.Common.{◌≡◌, ℕ, Bool, true, ap, sym, subst, ◌∙◌, arith}
-use Rattle.std.specs.Prelude.{not, find, Some, None}
+use Rattle.std.proofs.Common.{ap, sym, ◌∙◌}
+use Rattle.std.specs.Prelude.{not, find}
 use Rattle.geo_base.specs.Cursor.{has}
-use Rattle.topic_book.specs.SubRoom.{IsLeast, SubBook}
+use Rattle.topic_book.specs.SubRoom.{SubBook}
 use Rattle.topic_book.proofs.LeastDue.{found, least_again, least_read, none_due, past_due}
 use Rattle.topic_book.proofs.subscription.Sub.least.Goals as goal
 

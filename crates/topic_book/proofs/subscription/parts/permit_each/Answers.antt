@@ -1,4 +1,4 @@
-use Rattle.std.proofs.Common.{◌≡◌, ℕ, List, ◌+◌, sym, ◌∙◌, ap, arith, get_or, length}
+use Rattle.std.proofs.Common.{◌≡◌, ℕ, List, ◌+◌, ◌∙◌, ap, arith, get_or}
 use Rattle.std.specs.Prelude.{min, if◌then◌else◌, slice_set}
 use Rattle.geo_base.specs.declared.consumer.Consumer.{Consumer}
 use Rattle.geo_base.specs.Subscription.{is_of, most_permits}
