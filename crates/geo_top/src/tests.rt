@@ -57,7 +57,8 @@ sender a session 0 closed mark 0\nsender b session 0 closed mark 0\n\
 client p at a lines 4/4 receipts 0 duplicates 0 errors 0\n";
 
 /// The second message is acknowledged first; after a reconnect the first comes again, alone, and all up to it is acknowledged.
-const ACKNOWLEDGE_AND_RECONNECT: &[u8] = b"geo 1\ncluster a\ncluster b\ntopic t\nclient p t a\nclient c t a\n\
+const ACKNOWLEDGE_AND_RECONNECT: &[u8] =
+    b"geo 1\ncluster a\ncluster b\ntopic t\nclient p t a\nclient c t a\n\
 do p produce\ndo p pub 0 * - m0\ndo p pub 1 * - m1\n\
 do c sub s exclusive earliest local\ndo c flow 10\ndo c ack a p 1\ndo c ackto a p 0\n\
 reconnect p\nserve a p\ngo p\nserve a p\ngo p\nserve a p\ngo p\nserve a p\n\
@@ -78,10 +79,7 @@ fn scripts_are_reported(rt: HostRuntime) -> Result<(), Fail> {
         (ONE_MESSAGE, ONE_MESSAGE_REPORT),
         (DUPLICATE_PUBLISH, DUPLICATE_PUBLISH_REPORT),
         (TARGETS_AND_KEYS, TARGETS_AND_KEYS_REPORT),
-        (
-            ACKNOWLEDGE_AND_RECONNECT,
-            ACKNOWLEDGE_AND_RECONNECT_REPORT,
-        ),
+        (ACKNOWLEDGE_AND_RECONNECT, ACKNOWLEDGE_AND_RECONNECT_REPORT),
     ];
     for (script, report) in scripts {
         let mut sink = open_sink(rt.alloc())?;
@@ -209,16 +207,22 @@ fn an_input_that_is_too_large(rt: HostRuntime) -> Result<(), Fail> {
 #[test]
 fn a_run_of_too_many_events(rt: HostRuntime) -> Result<(), Fail> {
     let mut script = Vec::new(rt.alloc());
-    script
-        .extend_from_slice(b"geo 1\ncluster a\ncluster b\ntopic t\nclient p t a\n")?;
+    script.extend_from_slice(b"geo 1\ncluster a\ncluster b\ntopic t\nclient p t a\n")?;
     for _event in 0..2_000_000 {
         script.extend_from_slice(b"go p\n")?;
     }
     let mut sink = open_sink(rt.alloc())?;
-    assert_eq!(rt; run_at_once(rt.alloc(), script.as_slice(), &mut sink)?, Status::Ok);
-    assert_eq!(rt; sink.bytes(), b"events 0 idle 2000000 rounds 0\n\
+    assert_eq!(rt;
+        run_at_once(rt.alloc(), script.as_slice(), &mut sink)?,
+        Status::Ok
+    );
+    assert_eq!(rt;
+        sink.bytes(),
+        b"events 0 idle 2000000 rounds 0\n\
 topic t at a\nsender b session 0 closed mark 0\ntopic t at b\nsender a session 0 closed mark 0\n\
-client p at a lines 0/0 receipts 0 duplicates 0 errors 0\n".as_slice());
+client p at a lines 0/0 receipts 0 duplicates 0 errors 0\n"
+            .as_slice()
+    );
     script.extend_from_slice(b"go p\n")?;
     let mut refused = open_sink(rt.alloc())?;
     let status = run_at_once(rt.alloc(), script.as_slice(), &mut refused)?;
