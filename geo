@@ -2,7 +2,7 @@
 # Runs the program on standard input, as in: ./geo run < examples/one_message.geo
 #
 # The toolchain builds only what it has proved, which takes minutes. So until tools/build has made the program (.built/geo), or
-# where a source is newer than it, a call runs the unproved source by the toolchain's own means, in about half a minute.
+# where a source is newer than it, a call runs the unproved source by the toolchain's own means, in about a minute.
 set -eu
 top=$(cd "$(dirname "$0")" && pwd)
 program=$top/.built/geo
