@@ -6,8 +6,7 @@ use Rattle.cursor_acks.specs.Acks.{IsFirstOpen, if_below}
 use Rattle.geo_base.specs.Cursor.{has}
 use Rattle.geo_base.specs.Dispatcher.{is_due, least_due, least_due_from}
 use Rattle.geo_base.specs.Subscription.{Subscription}
-use Rattle.topic_book.specs.Room.{IsAscending}
-use Rattle.topic_book.specs.SubRoom.{IsLeast}
+use Rattle.topic_book.specs.SubRoom.{IsAscending, IsLeast}
 
 by_case : {P : Type 0} (b : Bool) → (b ≡ true → P) → (b ≡ false → P) → P
 by_case true h k = h refl

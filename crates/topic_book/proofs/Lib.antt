@@ -1,6 +1,5 @@
 pub mod Accepting
-pub mod Cursors
-pub mod Marks
+pub mod Ascending
 pub mod SenderTables
 pub mod Pendings
 pub mod Messages

@@ -7,7 +7,7 @@ use Rattle.std.proofs.lemmas.Grind.{get_or_default_zero}
 use Rattle.std.proofs.lemmas.List.Kept.{AllPairs-filter}
 use Rattle.geo_base.specs.declared.consumer.Outstanding.{Outstanding}
 use Rattle.geo_base.specs.Subscription.{out_with}
-use Rattle.topic_book.specs.Room.{IsAscending}
+use Rattle.topic_book.specs.SubRoom.{IsAscending}
 
 pub ascending_filter : (p : ℕ → Bool) (xs : List ℕ) → IsAscending xs → IsAscending (filter p xs)
 ascending_filter p xs h i j lt n =

@@ -1,26 +1,21 @@
 -- A broker's state as its owner sees it: the state itself, and how many more steps find memory.
-use Rattle.std.specs.Prelude.{◌≡◌, ℕ, ◌+◌, ◌≤◌, ◌<◌, true, List, length, map, take, slice_index_or}
-use Rattle.std.specs.List.{sum}
+use Rattle.std.specs.Prelude.{◌≡◌, ℕ, ◌+◌, ◌≤◌, ◌<◌, ◌^◌, true, List, length, map, take, slice_index_or}
+use Rattle.std.specs.List.{All, sum}
 use Rattle.geo_base.specs.declared.entry.Entry.{Entry}
+use Rattle.geo_base.specs.declared.sender.Pending.{Pending}
 use Rattle.geo_base.specs.Broker.{Broker}
 use Rattle.geo_base.specs.Sender.{Sender}
 use Rattle.geo_base.specs.Topic.{accepts}
 
--- each number is greater than those before it
-abbrev pub IsAscending : List ℕ → Type 0
-IsAscending xs = (i j : ℕ) → i < j → j < length xs → slice_index_or xs i 0 < slice_index_or xs j 0
-
--- the indexes before a place are below x, and those from it on are not
-pub record IsPlace (xs : List ℕ) (x at : ℕ) : Type 0 where
-  pub within : at ≤ length xs
-  pub low : (k : ℕ) → k < at → slice_index_or xs k 0 < x
-  pub high : (k : ℕ) → at ≤ k → k < length xs → x ≤ slice_index_or xs k 0
+-- a cursor can hold the index of each entry whose receipt is awaited
+abbrev pub IndexesFit : List Pending → Type 0
+IndexesFit ps = All (λ (p : Pending). p.index + 1 < 2 ^ 64) ps
 
 -- so many more acknowledged indexes and pending entries find room
-pub record SenderHolds (room len cap len' cap' : ℕ) (indexes : List ℕ) : Type 0 where
-  pub cursor : len + room ≤ cap
-  pub pending : len' + room ≤ cap'
-  pub ascending : IsAscending indexes
+pub record SenderHolds (room spare len cap : ℕ) (pending : List Pending) : Type 0 where
+  pub in_cursor : room ≤ spare
+  pub in_pending : len + room ≤ cap
+  pub fit : IndexesFit pending
 
 pub record SenderBook : Type 0 where
   pub sender : Sender

@@ -15,7 +15,8 @@ stepped (sender_step.Pend i) s = sender_sent i s
 stepped (sender_step.ReadTo i) s = record s { read_index = i }
 stepped (sender_step.Unpend n) s = record s { pending = without_number s.pending n }
 
--- the numbers that a step makes are 64-bit numbers
+-- the numbers that a step makes, and the one behind an acknowledged index, are 64-bit numbers
 abbrev pub StepFits : SenderStep → Sender → Type 0
+StepFits (sender_step.Acknowledge i) s = i + 1 < 2 ^ 64
 StepFits (sender_step.Pend i) s = (i + 1 < 2 ^ 64) × (s.next + 1 < 2 ^ 64)
 StepFits step s = ⊤

@@ -6,9 +6,12 @@ use Rattle.geo_base.specs.declared.frame.SubKind.TheVariants as sub_kind
 use Rattle.geo_base.specs.Cursor.{below}
 use Rattle.geo_base.specs.Dispatcher.{given, is_due}
 use Rattle.geo_base.specs.Subscription.{Subscription, after_acks, attached, detached, new_subscription, permitted, with_acks}
-use Rattle.topic_book.specs.Room.{IsAscending}
 use Rattle.topic_book.specs.declared.subscription.SubStep.{SubStep}
 use Rattle.topic_book.specs.declared.subscription.SubStep.TheVariants as sub_step
+
+-- each number is greater than those before it
+abbrev pub IsAscending : List ℕ → Type 0
+IsAscending xs = (i j : ℕ) → i < j → j < length xs → slice_index_or xs i 0 < slice_index_or xs j 0
 
 -- so many more steps find room, and so many more acknowledged indexes
 pub record SubBook : Type 0 where

@@ -1,5 +1,5 @@
 -- The machine's writes that a book's writes stand for, and what room they need.
-use Rattle.std.specs.Prelude.{ℕ, ◌+◌, ◌≤◌, List, [], ◌∷◌, false, ⊤}
+use Rattle.std.specs.Prelude.{ℕ, ◌+◌, ◌<◌, ◌≤◌, ◌^◌, List, [], ◌∷◌, false, ⊤}
 use Rattle.geo_base.specs.declared.frame.SubKind.TheVariants as sub_kind
 use Rattle.geo_base.specs.declared.write.Write.{Write}
 use Rattle.geo_base.specs.declared.write.Write.TheVariants as write
@@ -16,8 +16,10 @@ machine_write (book_write.AckTo n i) = write.Acks n (below (i + 1))
 machine_write (book_write.SenderAck y i) = write.SenderAck y i
 machine_write (book_write.SessionNumber y n) = write.SessionNumber y n
 
+-- what a write that is planned brings with it: memory, or an index that a cursor can hold
 abbrev pub IsReady : BookWrite → Type 0
 IsReady (book_write.Create s latest) = IsFresh s
+IsReady (book_write.SenderAck y i) = i + 1 < 2 ^ 64
 IsReady w = ⊤
 
 -- how many acknowledged indexes a write needs room for in a cursor

@@ -9,7 +9,6 @@ pub mod acknowledging;
 pub mod action;
 pub mod backlog;
 pub mod book;
-pub mod cursor;
 pub mod message;
 pub mod offering;
 pub mod packet;

@@ -1,12 +1,13 @@
 //! The sender of a broker to another cluster.
-ghost use Rattle.std.specs.Prelude.{◌≡◌, ◌<◌, ◌≤◌, ◌+◌, ◌-◌, ◌==◌, ◌^◌, position, OnOk, OnErr};
+ghost use Rattle.std.specs.Prelude.{◌≡◌, ◌<◌, ◌≤◌, ◌+◌, ◌==◌, ◌^◌, position, OnOk, OnErr};
+ghost use Rattle.std.specs.Option.{IfSome};
 ghost use Rattle.std.specs.VecDeque.{deque_len, deque_capacity};
-ghost use Rattle.geo_base.specs.Cursor.{mark};
+ghost use Rattle.geo_base.specs.Cursor.{mark, with_index};
 ghost use Rattle.geo_base.specs.Sender.{index_to_read, new_sender, pending_index, without_number};
-ghost use Rattle.topic_book.specs.Room.{SenderBook};
+ghost use Rattle.topic_book.specs.Room.{IndexesFit, SenderBook};
 ghost use Rattle.topic_book.specs.Steps.{StepFits, stepped};
 
-use crate::cursor::{add_index, first_open, mark_of};
+use cursor_acks::Cursor;
 use geo_base::memory::Memory;
 use geo_base::sender::{Pending, SenderState};
 use std::alloc::Global;
@@ -36,7 +37,7 @@ pub enum SenderStep {
 /// room that was reserved, since it may lengthen one of the two lists.
 #[derive(Debug, Drop)]
 pub struct Sender {
-    cursor: Vec<u64>,
+    cursor: Cursor,
     session: u64,
     state: SenderState,
     read_index: u64,
@@ -46,18 +47,17 @@ pub struct Sender {
 }
 
 impl Model for Sender {
-    ghost use Rattle.std.specs.Prelude.{vec_len, vec_capacity};
     ghost use Rattle.std.specs.VecDeque.{deque_len, deque_capacity};
     ghost use Rattle.topic_book.specs.Room.{SenderBook, SenderHolds};
 
     ghost Value = { SenderBook };
 
     ghost view = { λ s. record {
-      sender = record { cursor = s.cursor.items; session = s.session; state = s.state; read_index = s.read_index; next = s.next; pending = s.pending.items };
+      sender = record { cursor = s.cursor.indexes; session = s.session; state = s.state; read_index = s.read_index; next = s.next; pending = s.pending.items };
       room = s.room;
     } };
 
-    ghost invariant = { λ s. SenderHolds s.room (vec_len s.cursor) (vec_capacity s.cursor) (deque_len s.pending) (deque_capacity s.pending) s.cursor.items };
+    ghost invariant = { λ s. SenderHolds s.room s.cursor.spare (deque_len s.pending) (deque_capacity s.pending) s.pending.items };
 }
 
 impl Sender {
@@ -66,7 +66,7 @@ impl Sender {
         ensures { result ≡ record { sender = new_sender; room = 0 } }
     {
         Sender {
-            cursor: Vec::new(alloc),
+            cursor: Cursor::none(alloc),
             session: 0,
             state: SenderState::Closed,
             read_index: 0,
@@ -92,7 +92,7 @@ impl Sender {
     pub fn mark(&self) -> u64
         ensures { result ≡ mark self.now.sender.cursor }
     {
-        mark_of(self.cursor.as_slice())
+        self.cursor.mark_delete()
     }
 
     /// The session's number; 0 before the first.
@@ -121,18 +121,22 @@ impl Sender {
         ensures { result ≡ index_to_read self.now.sender.state self.now.sender entries }
     {
         match self.state {
-            SenderState::Open => first_open(
-                self.cursor.as_slice(),
-                self.read_index,
-                entries as u64,
-            ),
+            SenderState::Open => {
+                let index = self.cursor.next_open(self.read_index);
+                if index < entries as u64 {
+                    Some(index)
+                } else {
+                    None
+                }
+            }
             SenderState::Opening | SenderState::Closed => None,
         }
     }
 
     /// The index that was sent under a number.
     pub fn pending_index(&self, number: u64) -> Option<u64>
-        ensures { result ≡ pending_index self.now.sender.pending number }
+        ensures index { result ≡ pending_index self.now.sender.pending number }
+        ensures fits { IfSome result (λ i. i + 1 < 2 ^ 64) }
     {
         match place_of(&self.pending, number) {
             Some(at) => Some(self.pending[at].index),
@@ -149,7 +153,7 @@ impl Sender {
     {
         self.room -= 1;
         match step {
-            SenderStep::Acknowledge(index) => add_index(&mut self.cursor, index),
+            SenderStep::Acknowledge(index) => acknowledge(&mut self.cursor, index),
             SenderStep::Session(session) => self.session = session,
             SenderStep::Reset => {
                 self.state = SenderState::Opening;
@@ -172,6 +176,19 @@ impl Sender {
     }
 }
 
+/// Acknowledges one more index. A sender does not know the topic's length: an index that it is told of has an entry.
+fn acknowledge(cursor: &mut Cursor, index: u64)
+    requires room { 0 < cursor.old.spare }
+    requires fits { index + 1 < 2 ^ 64 }
+    ensures indexes { cursor.new.indexes ≡ with_index cursor.old.indexes index }
+    ensures spare { cursor.old.spare ≤ cursor.new.spare + 1 }
+{
+    match cursor.ack_one(index, u64::MAX) {
+        Ok(()) => {}
+        Err(_) => unreachable!(),
+    }
+}
+
 /// The place of the first pending entry of a number.
 fn place_of(pending: &VecDeque<Pending>, number: u64) -> Option<usize>
     ensures { result ≡ position (λ p. p.number == number) pending.now.items }
@@ -182,6 +199,7 @@ fn place_of(pending: &VecDeque<Pending>, number: u64) -> Option<usize>
 /// Takes the first pending entry of a number out, where there is one.
 fn forget(pending: &mut VecDeque<Pending>, number: u64)
     ensures items { pending.new.items ≡ without_number pending.old.items number }
+    ensures fit { IndexesFit pending.old.items → IndexesFit pending.new.items }
     ensures len { deque_len pending.new ≤ deque_len pending.old }
     ensures capacity { deque_capacity pending.new ≡ deque_capacity pending.old }
 {

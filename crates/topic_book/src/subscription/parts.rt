@@ -2,15 +2,13 @@
 ghost use Rattle.std.specs.Prelude.{◌≡◌, ◌<◌, ◌≤◌, ◌+◌, ◌==◌, length, map, not, min, slice_set, vec_len, vec_capacity, if◌then◌else◌, find};
 ghost use Rattle.std.specs.List.{All, filter};
 ghost use Rattle.std.specs.Str.{bytes_eq};
-ghost use Rattle.geo_base.specs.Cursor.{below, has, with_indexes};
+ghost use Rattle.geo_base.specs.Cursor.{below, has, with_index, with_indexes};
 ghost use Rattle.geo_base.specs.Dispatcher.{consumer_at, used};
 ghost use Rattle.geo_base.specs.Subscription.{is_of, most_permits, out_with};
 ghost use Rattle.geo_base.specs.declared.consumer.Consumer.{Consumer};
 ghost use Rattle.geo_base.specs.declared.consumer.Outstanding.{Outstanding};
-ghost use Rattle.topic_book.specs.Room.{IsAscending};
-ghost use Rattle.topic_book.specs.SubRoom.{need};
+ghost use Rattle.topic_book.specs.SubRoom.{IsAscending, need};
 
-use crate::cursor::add_index;
 use cursor_acks::Cursor;
 use geo_base::consumer::{Consumer, Outstanding};
 
@@ -27,6 +25,23 @@ pub(crate) fn first_open(indexes: &[u64], cursor: &Cursor) -> Option<u64>
         }
     }
     None
+}
+
+/// One more index is due again.
+fn add_index(due: &mut Vec<u64>, index: u64)
+    requires room { vec_len due.old < vec_capacity due.old }
+    requires ascending { IsAscending due.old.items }
+    ensures items { due.new.items ≡ with_index due.old.items index }
+    ensures ascending { IsAscending due.new.items }
+    ensures room { vec_capacity due.old + vec_len due.new ≤ vec_capacity due.new + vec_len due.old + 1 }
+{
+    match due.binary_search(&index) {
+        Ok(_) => {}
+        Err(at) => match due.insert(at, index) {
+            Ok(()) => {}
+            Err(_) => unreachable!(),
+        },
+    }
 }
 
 /// What is out with a client and is not acknowledged is due again.

@@ -3,7 +3,7 @@ use Rattle.std.specs.Prelude.{not, vec_capacity}
 use Rattle.std.specs.List.{filter}
 use Rattle.geo_base.specs.Cursor.{has, with_indexes}
 use Rattle.geo_base.specs.Subscription.{out_with}
-use Rattle.topic_book.specs.Room.{IsAscending}
+use Rattle.topic_book.specs.SubRoom.{IsAscending}
 use Rattle.topic_book.proofs.subscription.parts.add_due.Given as goal
 
 -- adding what is left is adding all from the start

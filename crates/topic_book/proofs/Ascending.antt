@@ -1,6 +1,6 @@
--- A cursor's indexes ascend, so the place that a search finds tells what one more index makes of them.
+-- Where indexes ascend, the place that a search finds tells what one more index makes of them.
 use Rattle.std.proofs.Common.{◌≡◌, ℕ, zero, suc, ◌+◌, ◌-◌, ◌<◌, ◌≤◌, ◌==◌, nat_lt, Bool, true, false, List, [], ◌∷◌, ◌++◌, length, get_or, take, drop, refl, ap, ◌∙◌, arith, add-zero}
-use Rattle.std.specs.Prelude.{Ok, Err, Some, ◌||◌, ◌≢◌}
+use Rattle.std.specs.Prelude.{Ok, Err}
 use Rattle.std.specs.List.{insert}
 use Rattle.std.specs.List.Sorted.{IsBinarySearchResult}
 use Rattle.std.specs.Ordering.{nat_cmp}
@@ -9,8 +9,14 @@ use Rattle.std.proofs.lemmas.Grind.{common_steps}
 use Rattle.std.proofs.lemmas.List.{get_or-drop, length-drop}
 use Rattle.std.proofs.lemmas.List.Edits.{length-insert, get_or-insert_below, get_or-insert_at, get_or-insert_above}
 use Rattle.std.proofs.lemmas.List.Sorted.{searched}
-use Rattle.geo_base.specs.Cursor.{has, next_open, with_index}
-use Rattle.topic_book.specs.Room.{IsAscending, IsPlace}
+use Rattle.geo_base.specs.Cursor.{with_index}
+use Rattle.topic_book.specs.SubRoom.{IsAscending}
+
+-- the indexes before a place are below x, and those from it on are not
+record IsPlace (xs : List ℕ) (x at : ℕ) : Type 0 where
+  within : at ≤ length xs
+  low : (k : ℕ) → k < at → get_or xs k 0 < x
+  high : (k : ℕ) → at ≤ k → k < length xs → x ≤ get_or xs k 0
 
 with_index_past : (xs : List ℕ) (x at : ℕ) → at ≤ length xs → ((k : ℕ) → k < at → get_or xs k 0 < x) → with_index xs x ≡ take at xs ++ with_index (drop at xs) x
 with_index_past xs x zero le low = refl
@@ -51,7 +57,7 @@ with_index_there xs x at p n e =
 rises : (xs : List ℕ) → IsAscending xs → (i j : ℕ) → i ≤ j → j < length xs → get_or xs i 0 ≤ get_or xs j 0
 rises xs asc i j le n = grind (arith, asc i j)
 
-pub place_found : (xs : List ℕ) (x k : ℕ) → IsAscending xs → IsBinarySearchResult (λ y. nat_cmp y x) xs (Ok k) → IsPlace xs x k × (k < length xs) × (get_or xs k 0 ≡ x)
+place_found : (xs : List ℕ) (x k : ℕ) → IsAscending xs → IsBinarySearchResult (λ y. nat_cmp y x) xs (Ok k) → IsPlace xs x k × (k < length xs) × (get_or xs k 0 ≡ x)
 place_found xs x k asc s =
     let f = searched xs x (Ok k) s (rises xs asc) in (
       record {
@@ -63,7 +69,7 @@ place_found xs x k asc s =
       f.1,
     )
 
-pub place_missed : (xs : List ℕ) (x at : ℕ) → IsAscending xs → IsBinarySearchResult (λ y. nat_cmp y x) xs (Err at) → IsPlace xs x at × ((k : ℕ) → at ≤ k → k < length xs → x < get_or xs k 0)
+place_missed : (xs : List ℕ) (x at : ℕ) → IsAscending xs → IsBinarySearchResult (λ y. nat_cmp y x) xs (Err at) → IsPlace xs x at × ((k : ℕ) → at ≤ k → k < length xs → x < get_or xs k 0)
 place_missed xs x at asc s =
     let f = searched xs x (Err at) s (rises xs asc) in
     (record { within = f.0; low = f.1; high = λ k h n. omega (arith, f.2 k h n) }, f.2)
@@ -99,45 +105,3 @@ ascending_insert xs x at asc s i j lt n =
     let i_high : at < i → get_or ys i 0 ≡ get_or xs (i - 1) 0 = after_at xs x at i within in
     let j_high : at < j → get_or ys j 0 ≡ get_or xs (j - 1) 0 = after_at xs x at j within in
     grind (arith, i_low, j_low, i_here, j_here, i_high, j_high, f.0.low i, f.1 (j - 1), asc i j, asc i (j - 1), asc (i - 1) (j - 1))
-
-or_true : (b : Bool) → (b || true) ≡ true
-or_true true = refl
-or_true false = refl
-
-has_there : (xs : List ℕ) (x k : ℕ) → k < length xs → get_or xs k 0 ≡ x → has xs x ≡ true
-has_there [] x k n e = absurd (omega arith)
-has_there (y ∷ ys) x zero n e =
-    let same : (y == x) ≡ true = grind (arith, nat_tests) in
-    rw same refl
-has_there (y ∷ ys) x (suc k) n e = rw (has_there ys x k (omega arith) e) (or_true (y == x))
-
-has_absent : (xs : List ℕ) (x : ℕ) → ((k : ℕ) → k < length xs → get_or xs k 0 ≢ x) → has xs x ≡ false
-has_absent [] x h = refl
-has_absent (y ∷ ys) x h =
-    let other : (y == x) ≡ false = grind (arith, nat_tests, h zero) in
-    rw other (has_absent ys x (λ k n. h (suc k) (omega arith)))
-
-open_here : (xs : List ℕ) (from n : ℕ) → 0 < n → has xs from ≡ false → next_open xs from n ≡ Some from
-open_here xs from zero h e = absurd (omega arith)
-open_here xs from (suc n) h e = rw e refl
-
-open_later : (xs : List ℕ) (from n : ℕ) → 0 < n → has xs from ≡ true → next_open xs from n ≡ next_open xs (from + 1) (n - 1)
-open_later xs from zero h e = absurd (omega arith)
-open_later xs from (suc n) h e =
-    let less : suc n - 1 ≡ n = omega arith in
-    rw (e, less) refl
-
--- an acknowledged index is passed
-pub place_next : (xs : List ℕ) (x at : ℕ) → IsAscending xs → IsPlace xs x at → at < length xs → get_or xs at 0 ≡ x → IsPlace xs (x + 1) (at + 1)
-place_next xs x at asc p n e = record {
-  within = omega arith;
-  low = λ k h. grind (arith, p.low k);
-  high = λ k h l. omega (arith, asc at k (omega arith) l);
-}
-
-pub next_open_acked : (xs : List ℕ) (x at n : ℕ) → 0 < n → at < length xs → get_or xs at 0 ≡ x → next_open xs x n ≡ next_open xs (x + 1) (n - 1)
-next_open_acked xs x at n h l e = open_later xs x n h (has_there xs x at l e)
-
--- an index that the place does not hold is open
-pub next_open_here : (xs : List ℕ) (x at n : ℕ) → IsAscending xs → IsPlace xs x at → 0 < n → (at < length xs → get_or xs at 0 ≢ x) → next_open xs x n ≡ Some x
-next_open_here xs x at n asc p h out = open_here xs x n h (has_absent xs x (λ k l e. grind (arith, p.low k, p.high at, asc at k, out)))
