@@ -1,5 +1,5 @@
 -- Plans that a broker can commit: their numbers name what is there, and what they append is accepted.
-use Rattle.std.specs.Prelude.{◌≡◌, ℕ, ◌+◌, ◌<◌, ◌≤◌, ◌^◌, true, List, [], ◌∷◌, length, max, None, ⊤}
+use Rattle.std.specs.Prelude.{◌≡◌, ℕ, ◌+◌, ◌<◌, ◌≤◌, ◌^◌, true, List, [], ◌∷◌, length, max, Option, None, Some, ⊤}
 use Rattle.std.specs.List.{All}
 use Rattle.geo_base.specs.declared.change.Change.{Change}
 use Rattle.geo_base.specs.declared.frame.Frame.{Frame}
@@ -11,7 +11,10 @@ use Rattle.geo_base.specs.Broker.{Broker, changed, sender_at, sub_named, written
 use Rattle.geo_base.specs.Plan.{Plan, all_written}
 use Rattle.geo_base.specs.Topic.{accepts}
 use Rattle.geo_base.specs.Message.{is_message}
-use Rattle.topic_book.specs.Room.{Room}
+use Rattle.geo_base.specs.Subscribing.{consumed_by}
+use Rattle.geo_base.specs.Subscription.{Subscription}
+use Rattle.topic_book.specs.declared.ack_room.AckRoom.{AckRoom}
+use Rattle.topic_book.specs.Room.{Room, no_acks}
 use Rattle.topic_book.specs.Writes.{AcksFit}
 
 -- what alters, deletes or seeks a subscription, and ledgers that a restart opens, are not built yet
@@ -66,10 +69,22 @@ pub record HasRoom (room : Room) (p : Plan) : Type 0 where
   pub acks : AcksFit room.acks p.writes
 
 -- an event has at most two steps
-abbrev pub room_for : ℕ → Room
+abbrev pub room_for : AckRoom → Room
 room_for acks = record { steps = 2; acks = acks }
 
--- how many acknowledged indexes a command needs room for in a cursor
-abbrev pub acks_for : Frame → ℕ
-acks_for (frame.Ack id kind ps) = max (length ps) 1
-acks_for f = 0
+-- what an event needs that is no ACK
+abbrev pub steps_room : Room
+steps_room = room_for no_acks
+
+-- what an ACK of so many positions needs in its subscription's cursor
+abbrev pub acks_in : Subscription → ℕ → AckRoom
+acks_in s n = record { sub = s.name; count = max n 1 }
+
+abbrev pub acks_of : Option Subscription → ℕ → AckRoom
+acks_of None n = no_acks
+acks_of (Some s) n = acks_in s n
+
+-- what a command of client c needs in a cursor
+abbrev pub acks_for : Broker → ℕ → Frame → AckRoom
+acks_for b c (frame.Ack id kind ps) = acks_of (consumed_by b.subs c id) (length ps)
+acks_for b c f = no_acks

@@ -1,11 +1,13 @@
 -- A broker's state as its owner sees it: the state itself, and how many more steps find memory.
-use Rattle.std.specs.Prelude.{◌≡◌, ℕ, ◌+◌, ◌≤◌, ◌<◌, ◌^◌, true, List, length, map, take, slice_index_or}
+use Rattle.std.specs.Prelude.{◌≡◌, ℕ, ◌+◌, ◌≤◌, ◌<◌, ◌^◌, true, List, [], length, map, take, slice_index_or, if◌then◌else◌}
 use Rattle.std.specs.List.{All, sum}
+use Rattle.std.specs.Str.{bytes_eq}
 use Rattle.geo_base.specs.declared.entry.Entry.{Entry}
 use Rattle.geo_base.specs.declared.sender.Pending.{Pending}
 use Rattle.geo_base.specs.Broker.{Broker}
 use Rattle.geo_base.specs.Sender.{Sender}
 use Rattle.geo_base.specs.Topic.{accepts}
+use Rattle.topic_book.specs.declared.ack_room.AckRoom.{AckRoom}
 
 -- a cursor can hold the index of each entry whose receipt is awaited
 abbrev pub IndexesFit : List Pending → Type 0
@@ -32,10 +34,24 @@ pub record SenderBooks : Type 0 where
   pub senders : List Sender
   pub room : ℕ
 
--- how many more steps find room, and how many acknowledged indexes in each cursor before the first of them
+-- room in no cursor
+abbrev pub no_acks : AckRoom
+no_acks = record { sub = []; count = 0 }
+
+-- how many acknowledged indexes the subscription of a name has room for
+abbrev pub acks_at : AckRoom → List ℕ → ℕ
+acks_at r n = if bytes_eq n r.sub then r.count else 0
+
+abbrev pub used_up : AckRoom → AckRoom
+used_up r = record r { count = 0 }
+
+-- how many more steps find room, and how many acknowledged indexes in one cursor before the first of them
 pub record Room : Type 0 where
   pub steps : ℕ
-  pub acks : ℕ
+  pub acks : AckRoom
+
+abbrev pub no_room : Room
+no_room = record { steps = 0; acks = no_acks }
 
 pub record BrokerBook : Type 0 where
   pub broker : Broker

@@ -6,6 +6,7 @@ use Rattle.geo_base.specs.declared.frame.SubKind.TheVariants as sub_kind
 use Rattle.geo_base.specs.Cursor.{below}
 use Rattle.geo_base.specs.Dispatcher.{given, is_due}
 use Rattle.geo_base.specs.Subscription.{Subscription, after_acks, attached, detached, new_subscription, permitted, with_acks}
+use Rattle.topic_book.specs.declared.ack_room.AckRoom.{AckRoom}
 use Rattle.topic_book.specs.declared.subscription.SubStep.{SubStep}
 use Rattle.topic_book.specs.declared.subscription.SubStep.TheVariants as sub_step
 
@@ -66,20 +67,19 @@ subs_of bs = map sub_of bs
 pub record SubBooks : Type 0 where
   pub subs : List Subscription
   pub room : ℕ
-  pub acks : ℕ
+  pub acks : AckRoom
 
--- each subscription has room for so many steps and acknowledged indexes
-pub record AllSubsHaveRoom (room acks : ℕ) (bs : List SubBook) : Type 0 where
-  pub each : (k : ℕ) (d : SubBook) → k < length bs → (room ≤ (slice_index_or bs k d).room) × (acks ≤ (slice_index_or bs k d).acks)
+-- a subscription has room for so many steps, and if it is the one of the name, for so many acknowledged indexes
+abbrev pub HasSubRoom : ℕ → AckRoom → SubBook → Type 0
+HasSubRoom room acks b = (room ≤ b.room) × (bytes_eq b.sub.name acks.sub ≡ true → acks.count ≤ b.acks)
+
+pub record AllSubsHaveRoom (room : ℕ) (acks : AckRoom) (bs : List SubBook) : Type 0 where
+  pub each : (k : ℕ) (d : SubBook) → k < length bs → HasSubRoom room acks (slice_index_or bs k d)
 
 -- so many more subscriptions find room too
-pub record SubTableHolds (room acks len cap : ℕ) (bs : List SubBook) : Type 0 where
+pub record SubTableHolds (room : ℕ) (acks : AckRoom) (len cap : ℕ) (bs : List SubBook) : Type 0 where
   pub places : len + room ≤ cap
   pub each : AllSubsHaveRoom room acks bs
-
--- each subscription can do a step
-pub record AllSubsFit (step : SubStep) (len : ℕ) (bs : List SubBook) : Type 0 where
-  pub each : (k : ℕ) (d : SubBook) → k < length bs → (0 < (slice_index_or bs k d).room) × SubStepFits step len (slice_index_or bs k d).acks
 
 -- each subscription lost at most one place
 pub record AllKeepRoom (old new : List SubBook) : Type 0 where
@@ -89,6 +89,10 @@ pub record AllKeepRoom (old new : List SubBook) : Type 0 where
 abbrev pub selected : Option (List ℕ) → Subscription → Bool
 selected None s = true
 selected (Some n) s = bytes_eq s.name n
+
+-- each subscription that is selected can do a step
+pub record AllSubsFit (name : Option (List ℕ)) (step : SubStep) (len : ℕ) (bs : List SubBook) : Type 0 where
+  pub each : (k : ℕ) (d : SubBook) → k < length bs → (0 < (slice_index_or bs k d).room) × (selected name (slice_index_or bs k d).sub ≡ true → SubStepFits step len (slice_index_or bs k d).acks)
 
 -- a subscription that is created, with room for what an event does after that
 pub record IsFresh (b : SubBook) : Type 0 where

@@ -1,10 +1,12 @@
 -- The machine's writes that a book's writes stand for, and what room they need.
-use Rattle.std.specs.Prelude.{ℕ, ◌+◌, ◌<◌, ◌≤◌, ◌^◌, List, [], ◌∷◌, false, ⊤}
+use Rattle.std.specs.Prelude.{◌≡◌, ◌+◌, ◌<◌, ◌≤◌, ◌^◌, List, [], ◌∷◌, false, ⊤}
 use Rattle.geo_base.specs.declared.frame.SubKind.TheVariants as sub_kind
 use Rattle.geo_base.specs.declared.write.Write.{Write}
 use Rattle.geo_base.specs.declared.write.Write.TheVariants as write
 use Rattle.geo_base.specs.Cursor.{below}
+use Rattle.topic_book.specs.Room.{used_up}
 use Rattle.topic_book.specs.SubRoom.{IsFresh, need}
+use Rattle.topic_book.specs.declared.ack_room.AckRoom.{AckRoom}
 use Rattle.topic_book.specs.declared.write.BookWrite.{BookWrite}
 use Rattle.topic_book.specs.declared.write.BookWrite.TheVariants as book_write
 
@@ -22,12 +24,12 @@ IsReady (book_write.Create s latest) = IsFresh s
 IsReady (book_write.SenderAck y i) = i + 1 < 2 ^ 64
 IsReady w = ⊤
 
--- how many acknowledged indexes a write needs room for in a cursor
-abbrev pub need_of : Write → ℕ
-need_of (write.Acks n is) = need is
-need_of w = 0
+-- the cursor that a write acknowledges indexes in has room for them
+abbrev pub AckFits : AckRoom → Write → Type 0
+AckFits acks (write.Acks n is) = (n ≡ acks.sub) × (need is ≤ acks.count)
+AckFits acks w = ⊤
 
 -- a list of writes begins with the one that needs room for acknowledged indexes, if one does
-abbrev pub AcksFit : ℕ → List Write → Type 0
+abbrev pub AcksFit : AckRoom → List Write → Type 0
 AcksFit acks [] = ⊤
-AcksFit acks (w ∷ ws) = (need_of w ≤ acks) × AcksFit 0 ws
+AcksFit acks (w ∷ ws) = AckFits acks w × AcksFit (used_up acks) ws

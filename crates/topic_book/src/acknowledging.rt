@@ -1,5 +1,5 @@
 //! A broker and its clients' consumers: ACK.
-ghost use Rattle.std.specs.Prelude.{◌≡◌, ◌<◌, ◌≤◌, ◌∷◌, [], ℕ, length, max, IfOk};
+ghost use Rattle.std.specs.Prelude.{◌≡◌, ◌<◌, ◌≤◌, ◌∷◌, [], ℕ, length, IfOk};
 ghost use Rattle.std.specs.List.{All};
 ghost use Rattle.geo_base.specs.Acknowledging.{acks, cumulative_indexes, serve_ack, stored_indexes};
 ghost use Rattle.geo_base.specs.Broker.{Site};
@@ -7,7 +7,7 @@ ghost use Rattle.geo_base.specs.Subscribing.{consumed_by};
 ghost use Rattle.geo_base.specs.Plan.{plan_of};
 ghost use Rattle.geo_base.specs.declared.change.Change.TheVariants as change;
 ghost use Rattle.topic_book.specs.Writes.{IsReady, machine_write};
-ghost use Rattle.topic_book.specs.Fits.{HasRoom, PlanFits, room_for};
+ghost use Rattle.topic_book.specs.Fits.{HasRoom, PlanFits, acks_in, acks_of, room_for};
 
 use crate::book::Book;
 use crate::prepared::Prepared;
@@ -34,7 +34,7 @@ impl Book {
     ) -> Result<Prepared, Memory>
         ensures plan { (h : Site) → IfOk result (λ p. p ≡ serve_ack h self.now.broker kind positions.now (consumed_by self.now.broker.subs client id)) }
         ensures fits { (per : ℕ) → IfOk result (λ p. PlanFits per self.now.broker p) }
-        ensures few { IfOk result (λ p. HasRoom (room_for (max (length positions.now) 1)) p) }
+        ensures few { IfOk result (λ p. HasRoom (room_for (acks_of (consumed_by self.now.broker.subs client id) (length positions.now))) p) }
     {
         let Some(sub) = self.subs().consumed_by(client, id) else {
             return Ok(Prepared::quiet(alloc));
@@ -50,7 +50,7 @@ impl Book {
     fn ack_each(&self, alloc: Global, sub: &Sub, positions: &[Position]) -> Result<Prepared, Memory>
         ensures plan { (h : Site) → IfOk result (λ p. p ≡ acks h self.now.broker sub.now.sub (stored_indexes self.now.broker.ledgers positions.now)) }
         ensures fits { (per : ℕ) → IfOk result (λ p. PlanFits per self.now.broker p) }
-        ensures few { IfOk result (λ p. HasRoom (room_for (max (length positions.now) 1)) p) }
+        ensures few { IfOk result (λ p. HasRoom (room_for (acks_in sub.now.sub (length positions.now))) p) }
     {
         let indexes = self.stored_indexes(alloc, positions)?;
         if indexes.len() == 0 {
@@ -65,7 +65,7 @@ impl Book {
     fn ack_to(&self, alloc: Global, sub: &Sub, positions: &[Position]) -> Result<Prepared, Memory>
         ensures plan { (h : Site) → IfOk result (λ p. p ≡ acks h self.now.broker sub.now.sub (cumulative_indexes self.now.broker.ledgers positions.now)) }
         ensures fits { (per : ℕ) → IfOk result (λ p. PlanFits per self.now.broker p) }
-        ensures few { IfOk result (λ p. HasRoom (room_for (max (length positions.now) 1)) p) }
+        ensures few { IfOk result (λ p. HasRoom (room_for (acks_in sub.now.sub (length positions.now))) p) }
     {
         let [position] = positions else {
             return Ok(Prepared::quiet(alloc));

@@ -9,10 +9,12 @@ ghost use Rattle.geo_base.specs.Message.{is_message};
 ghost use Rattle.geo_base.specs.Topic.{index_of};
 ghost use Rattle.geo_base.specs.Plan.{all_changed, all_written, done};
 ghost use Rattle.topic_book.specs.Fits.{AllChangesFit, AllWritesFit, ChangeFits, HasRoom, PlanFits, SameShape, WriteFits, room_for};
+ghost use Rattle.topic_book.specs.Room.{no_acks, no_room, used_up};
 ghost use Rattle.topic_book.specs.Steps.{StepFits, stepped};
 ghost use Rattle.topic_book.specs.SubRoom.{SubStepFits, sub_stepped};
-ghost use Rattle.topic_book.specs.Writes.{AcksFit, IsReady, machine_write, need_of};
+ghost use Rattle.topic_book.specs.Writes.{AckFits, AcksFit, IsReady, machine_write};
 
+use crate::ack_room::AckRoom;
 use crate::message::Message;
 use crate::prepared::Prepared;
 use crate::sender::{Sender, SenderStep};
@@ -34,7 +36,7 @@ use std::marker::Model;
 /// A topic's entries and ledgers, the senders and receivers by cluster, the subscriptions, and the clients' sessions.
 ///
 /// `room` is how many more steps find memory: each write and each change takes one. `acks` is how many acknowledged indexes
-/// find memory in each subscription's cursor before the first step.
+/// find memory, before the first step, in the cursor of the one subscription that the last `reserve` was told of.
 #[derive(Debug, Drop)]
 pub struct Book {
     entries: Vec<Message>,
@@ -55,10 +57,10 @@ impl Model for Book {
 
     ghost view = { λ b. record {
       broker = record { entries = b.entries.items; ledgers = b.ledgers.items; senders = b.senders.senders; receivers = b.receivers.items; subs = b.subs.subs; sessions = b.sessions.items; builder = None };
-      room = record { steps = b.room; acks = b.acks };
+      room = record { steps = b.room; acks = record { sub = b.subs.acks.sub; count = b.acks } };
     } };
 
-    ghost invariant = { λ b. BookHolds b.room b.acks (vec_len b.entries) (vec_capacity b.entries) (vec_len b.ledgers) (vec_capacity b.ledgers) b.senders.room b.subs.room b.subs.acks b.entries.items b.ledgers.items };
+    ghost invariant = { λ b. BookHolds b.room b.acks (vec_len b.entries) (vec_capacity b.entries) (vec_len b.ledgers) (vec_capacity b.ledgers) b.senders.room b.subs.room b.subs.acks.count b.entries.items b.ledgers.items };
 }
 
 /// The most steps that an event takes.
@@ -67,7 +69,7 @@ pub const STEPS: usize = 2;
 impl Book {
     /// An empty topic, with closed senders and receivers for so many clusters, and no session of so many clients.
     pub fn new(alloc: Global, clusters: usize, clients: usize) -> Result<Book, Memory>
-        ensures { IfOk result (λ b. b ≡ record { broker = new_broker clusters clients; room = record { steps = 0; acks = 0 } }) }
+        ensures { IfOk result (λ b. b ≡ record { broker = new_broker clusters clients; room = no_room }) }
     {
         let mut ledgers = Vec::new(alloc);
         match ledgers.push(0) {
@@ -170,7 +172,7 @@ impl Book {
         ensures position { IfOk result (λ at. receipt_position site.now.per_ledger self.now.broker (with_origin origin entry.now) ≡ Some at) }
         ensures fits { OnOk result (AllWritesFit site.now.per_ledger self.now.broker (storing self.now.broker (with_origin origin entry.now))) }
         ensures few { OnOk result (length (storing self.now.broker (with_origin origin entry.now)) ≤ 1) }
-        ensures acks { OnOk result (AcksFit 0 (storing self.now.broker (with_origin origin entry.now))) }
+        ensures acks { OnOk result (AcksFit no_acks (storing self.now.broker (with_origin origin entry.now))) }
     {
         let mut stored = entry.copy(alloc)?;
         stored.ident.origin = origin;
@@ -196,8 +198,8 @@ impl Book {
         &self.subs
     }
 
-    /// Makes room for the steps of an event, and for so many acknowledged indexes in each subscription's cursor.
-    pub fn reserve(&mut self, acks: usize) -> Result<(), Memory>
+    /// Makes room for the steps of an event, and for the acknowledged indexes of one subscription.
+    pub fn reserve(&mut self, acks: AckRoom) -> Result<(), Memory>
         ensures broker { self.new.broker ≡ self.old.broker }
         ensures ok { OnOk result (self.new.room ≡ room_for acks) }
     {
@@ -206,9 +208,10 @@ impl Book {
         self.entries.reserve(STEPS)?;
         self.ledgers.reserve(STEPS)?;
         self.senders.reserve(STEPS)?;
+        let count = acks.count;
         self.subs.reserve(STEPS, acks)?;
         self.room = STEPS;
-        self.acks = acks;
+        self.acks = count;
         Ok(())
     }
 
@@ -255,11 +258,11 @@ impl Book {
     /// Does one durable write.
     fn write(&mut self, per_ledger: u64, write: PlannedWrite)
         requires room { 0 < self.old.room.steps }
-        requires acks { need_of write ≤ self.old.room.acks }
+        requires acks { AckFits self.old.room.acks write }
         requires fits { WriteFits self.old.broker write }
         ensures broker { self.new.broker ≡ written per_ledger self.old.broker write }
         ensures shape { SameShape self.old.broker self.new.broker }
-        ensures room { self.new.room ≡ record { steps = self.old.room.steps - 1; acks = 0 } }
+        ensures room { self.new.room ≡ record { steps = self.old.room.steps - 1; acks = used_up self.old.room.acks } }
     {
         self.write_one(per_ledger, write.into_write());
     }
@@ -267,12 +270,12 @@ impl Book {
     #[tactic(auto, using(crate::proofs::Accepting::topic_append, crate::proofs::Ledgers::sum_grown))]
     fn write_one(&mut self, per_ledger: u64, write: BookWrite)
         requires room { 0 < self.old.room.steps }
-        requires acks { need_of (machine_write write) ≤ self.old.room.acks }
+        requires acks { AckFits self.old.room.acks (machine_write write) }
         requires fits { WriteFits self.old.broker (machine_write write) }
         requires ready { IsReady write }
         ensures broker { self.new.broker ≡ written per_ledger self.old.broker (machine_write write) }
         ensures shape { SameShape self.old.broker self.new.broker }
-        ensures room { self.new.room ≡ record { steps = self.old.room.steps - 1; acks = 0 } }
+        ensures room { self.new.room ≡ record { steps = self.old.room.steps - 1; acks = used_up self.old.room.acks } }
     {
         let len = self.entries.len() as u64;
         self.room -= 1;

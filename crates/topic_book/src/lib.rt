@@ -5,6 +5,7 @@
 //! Entries are messages; the types of entries and packets say so.
 #![tactic(auto)]
 
+pub mod ack_room;
 pub mod acknowledging;
 pub mod action;
 pub mod backlog;

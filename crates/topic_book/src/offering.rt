@@ -4,8 +4,9 @@ ghost use Rattle.geo_base.specs.Broker.{session_at};
 ghost use Rattle.geo_base.specs.Dispatcher.{least_due};
 ghost use Rattle.geo_base.specs.Message.{is_message};
 ghost use Rattle.geo_base.specs.Offering.{number_of, offer, offer_at, offer_entry, source_of};
-ghost use Rattle.topic_book.specs.Fits.{HasRoom, PlanFits, room_for};
+ghost use Rattle.topic_book.specs.Fits.{HasRoom, PlanFits, steps_room};
 
+use crate::ack_room::AckRoom;
 use crate::book::Book;
 use crate::prepared::Prepared;
 use crate::site::Site;
@@ -34,7 +35,7 @@ impl Book {
         ensures room { IfOk result (λ p. HasRoom self.new.room p) }
         ensures kept { self.new.broker ≡ self.old.broker }
     {
-        self.reserve(0)?;
+        self.reserve(AckRoom::none(alloc))?;
         match self.subs().named(sub.as_bytes()) {
             None => Ok(Prepared::idle(alloc)),
             Some(found) => self.offer_at(alloc, site, found),
@@ -44,7 +45,7 @@ impl Book {
     fn offer_at(&self, alloc: Global, site: &Site, sub: &Sub) -> Result<Prepared, Memory>
         ensures plan { IfOk result (λ p. p ≡ offer_at site.now self.now.broker sub.now.sub (least_due sub.now.sub (length self.now.broker.entries))) }
         ensures fits { IfOk result (λ p. PlanFits site.now.per_ledger self.now.broker p) }
-        ensures few { IfOk result (λ p. HasRoom (room_for 0) p) }
+        ensures few { IfOk result (λ p. HasRoom steps_room p) }
     {
         let Some(index) = sub.least_due(self.entries().len() as u64) else {
             return Ok(Prepared::idle(alloc));
@@ -69,7 +70,7 @@ impl Book {
         requires message { is_message entry.now ≡ true }
         ensures plan { IfOk result (λ p. p ≡ offer_entry site.now self.now.broker sub.now.sub index (Some entry.now)) }
         ensures fits { IfOk result (λ p. PlanFits site.now.per_ledger self.now.broker p) }
-        ensures few { IfOk result (λ p. HasRoom (room_for 0) p) }
+        ensures few { IfOk result (λ p. HasRoom steps_room p) }
     {
         let consumer = sub.consumer();
         if consumer.permits == 0 {

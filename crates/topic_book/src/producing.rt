@@ -3,7 +3,7 @@ ghost use Rattle.std.specs.Prelude.{◌≡◌, ◌<◌, ◌++◌, ◌∷◌, [],
 ghost use Rattle.std.specs.List.{list_any};
 ghost use Rattle.std.specs.Str.{bytes_eq};
 ghost use Rattle.geo_base.specs.Producing.{attaches, is_taken, may_attach, serve_producer, uses_name, without_producer};
-ghost use Rattle.topic_book.specs.Fits.{HasRoom, PlanFits, room_for};
+ghost use Rattle.topic_book.specs.Fits.{HasRoom, PlanFits, steps_room};
 ghost use Rattle.topic_book.specs.Refusing.{refusal};
 
 use crate::book::Book;
@@ -42,7 +42,7 @@ impl Book {
         requires client { client < length self.now.broker.sessions }
         ensures plan { IfOk result (λ p. p ≡ serve_producer site.now self.now.broker client session.now topic.now id request name.now) }
         ensures fits { IfOk result (λ p. PlanFits site.now.per_ledger self.now.broker p) }
-        ensures few { IfOk result (λ p. HasRoom (room_for 0) p) }
+        ensures few { IfOk result (λ p. HasRoom steps_room p) }
     {
         let Some(name) = name else {
             return refusing(alloc, client, session, request, UNKNOWN_ERROR);

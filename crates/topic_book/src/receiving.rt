@@ -5,9 +5,10 @@ ghost use Rattle.geo_base.specs.Forwarding.{closes, take_command, take_frame, ta
 ghost use Rattle.geo_base.specs.Receiver.{is_from};
 ghost use Rattle.geo_base.specs.declared.event.Fate.TheVariants as fate;
 ghost use Rattle.geo_base.specs.Built.{is_forward_frame};
-ghost use Rattle.topic_book.specs.Fits.{HasRoom, PlanFits, room_for};
+ghost use Rattle.topic_book.specs.Fits.{HasRoom, PlanFits, steps_room};
 ghost use Rattle.geo_base.specs.Message.{is_message};
 
+use crate::ack_room::AckRoom;
 use crate::book::Book;
 use crate::packet::ForwardPacket;
 use crate::prepared::Prepared;
@@ -36,7 +37,7 @@ impl Book {
         ensures room { IfOk result (λ p. HasRoom self.new.room p) }
         ensures kept { self.new.broker ≡ self.old.broker }
     {
-        self.reserve(0)?;
+        self.reserve(AckRoom::none(alloc))?;
         match input {
             None => Ok(Prepared::idle(alloc)),
             Some(input) => self.take_frame(alloc, site, source, input.packet()),
@@ -54,7 +55,7 @@ impl Book {
         requires carried { is_forward_frame packet.now.frame ≡ true }
         ensures plan { IfOk result (λ p. p ≡ take_frame site.now self.now.broker source packet.now packet.now.frame) }
         ensures fits { IfOk result (λ p. PlanFits site.now.per_ledger self.now.broker p) }
-        ensures few { IfOk result (λ p. HasRoom (room_for 0) p) }
+        ensures few { IfOk result (λ p. HasRoom steps_room p) }
     {
         match &packet.frame {
             Frame::Unreadable => closing(alloc, source),
@@ -91,7 +92,7 @@ impl Book {
         requires carried { is_forward_frame packet.now.frame ≡ true }
         ensures plan { IfOk result (λ p. p ≡ take_in site.now self.now.broker source packet.now) }
         ensures fits { IfOk result (λ p. PlanFits site.now.per_ledger self.now.broker p) }
-        ensures few { IfOk result (λ p. HasRoom (room_for 0) p) }
+        ensures few { IfOk result (λ p. HasRoom steps_room p) }
     {
         if self.receiver(source) != Some(packet.session) {
             return Ok(Prepared::quiet(alloc));
@@ -111,7 +112,7 @@ impl Book {
         requires carried { is_forward_frame frame.now ≡ true }
         ensures plan { IfOk result (λ p. p ≡ take_command site.now self.now.broker source session frame.now) }
         ensures fits { IfOk result (λ p. PlanFits site.now.per_ledger self.now.broker p) }
-        ensures few { IfOk result (λ p. HasRoom (room_for 0) p) }
+        ensures few { IfOk result (λ p. HasRoom steps_room p) }
     {
         match frame {
             Frame::Send {
@@ -140,7 +141,7 @@ impl Book {
         requires message { is_message entry.now ≡ true }
         ensures plan { IfOk result (λ p. p ≡ take_send site.now self.now.broker source session seq from.now entry.now) }
         ensures fits { IfOk result (λ p. PlanFits site.now.per_ledger self.now.broker p) }
-        ensures few { IfOk result (λ p. HasRoom (room_for 0) p) }
+        ensures few { IfOk result (λ p. HasRoom steps_room p) }
     {
         if !is_from(source, from) {
             return closing(alloc, source);

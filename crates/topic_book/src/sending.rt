@@ -7,9 +7,10 @@ ghost use Rattle.geo_base.specs.Forwarding.{receipt, receipt_command, reset};
 ghost use Rattle.geo_base.specs.Reading.{forwards, read, read_at, read_entry};
 ghost use Rattle.geo_base.specs.Updating.{handled};
 ghost use Rattle.geo_base.specs.declared.event.Fate.TheVariants as fate;
-ghost use Rattle.topic_book.specs.Fits.{HasRoom, PlanFits, room_for};
+ghost use Rattle.topic_book.specs.Fits.{HasRoom, PlanFits, steps_room};
 ghost use Rattle.geo_base.specs.Message.{is_message};
 
+use crate::ack_room::AckRoom;
 use crate::book::Book;
 use crate::prepared::Prepared;
 use crate::sender::Sender;
@@ -41,7 +42,7 @@ impl Book {
         ensures room { IfOk result (λ p. HasRoom self.new.room p) }
         ensures kept { self.new.broker ≡ self.old.broker }
     {
-        self.reserve(0)?;
+        self.reserve(AckRoom::none(alloc))?;
         if !site.is_remote(remote) {
             return Ok(Prepared::idle(alloc));
         }
@@ -74,7 +75,7 @@ impl Book {
         ensures room { IfOk result (λ p. HasRoom self.new.room p) }
         ensures kept { self.new.broker ≡ self.old.broker }
     {
-        self.reserve(0)?;
+        self.reserve(AckRoom::none(alloc))?;
         if !site.is_remote(remote) {
             return Ok(Prepared::idle(alloc));
         }
@@ -93,7 +94,7 @@ impl Book {
         requires next { (sender_at self.now.broker remote).next + 1 < 2 ^ 64 }
         ensures plan { IfOk result (λ p. p ≡ read_at site.now self.now.broker remote index) }
         ensures fits { IfOk result (λ p. PlanFits site.now.per_ledger self.now.broker p) }
-        ensures few { IfOk result (λ p. HasRoom (room_for 0) p) }
+        ensures few { IfOk result (λ p. HasRoom steps_room p) }
     {
         let Some(index) = index else {
             return Ok(Prepared::idle(alloc));
@@ -119,7 +120,7 @@ impl Book {
         requires message { is_message entry.now ≡ true }
         ensures plan { IfOk result (λ p. p ≡ read_entry site.now self.now.broker remote index (Some entry.now)) }
         ensures fits { IfOk result (λ p. PlanFits site.now.per_ledger self.now.broker p) }
-        ensures few { IfOk result (λ p. HasRoom (room_for 0) p) }
+        ensures few { IfOk result (λ p. HasRoom steps_room p) }
     {
         if is_sent(site.own(), remote, entry) {
             self.forward(alloc, site, remote, index, entry)
@@ -168,7 +169,7 @@ impl Book {
         ensures room { IfOk result (λ p. HasRoom self.new.room p) }
         ensures kept { self.new.broker ≡ self.old.broker }
     {
-        self.reserve(0)?;
+        self.reserve(AckRoom::none(alloc))?;
         let Some(packet) = input else {
             return Ok(Prepared::idle(alloc));
         };
@@ -209,7 +210,7 @@ fn receipt_command(
     frame: &Frame,
 ) -> Result<Prepared, Memory>
     ensures plan { IfOk result (λ p. p ≡ receipt_command remote sender.now.sender frame.now) }
-    ensures few { IfOk result (λ p. HasRoom (room_for 0) p) }
+    ensures few { IfOk result (λ p. HasRoom steps_room p) }
 {
     let mut plan = Prepared::quiet(alloc);
     match frame {

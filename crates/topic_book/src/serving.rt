@@ -9,13 +9,15 @@ ghost use Rattle.geo_base.specs.Producing.{is_sound, name_with, serve_send, stor
 ghost use Rattle.geo_base.specs.Serving.{serve, serve_command, serve_frame, serve_in};
 ghost use Rattle.geo_base.specs.declared.frame.Frame.TheVariants as frame;
 ghost use Rattle.geo_base.specs.Built.{is_client_frame};
-ghost use Rattle.topic_book.specs.Fits.{HasRoom, PlanFits, acks_for, room_for};
+ghost use Rattle.topic_book.specs.Fits.{HasRoom, PlanFits, acks_for, acks_in, room_for, steps_room};
 ghost use Rattle.geo_base.specs.Message.{is_message};
 
+use crate::ack_room::AckRoom;
 use crate::book::Book;
 use crate::packet::ClientPacket;
 use crate::prepared::Prepared;
 use crate::site::Site;
+use crate::subscription::Sub;
 use geo_base::bytes::Text;
 use geo_base::change::Change;
 use geo_base::entry::Entry;
@@ -49,8 +51,22 @@ impl Book {
         let Some(input) = input else {
             return Ok(Prepared::idle(alloc));
         };
-        self.reserve(acks_for(&input.packet().frame))?;
+        let acks = self.acks_for(alloc, client, &input.packet().frame)?;
+        self.reserve(acks)?;
         self.serve_frame(alloc, site, client, input.packet())
+    }
+
+    /// The room that a command needs in a cursor: none but that of the subscription that an ACK is of.
+    fn acks_for(&self, alloc: Global, client: u32, command: &Frame) -> Result<AckRoom, Memory>
+        ensures { IfOk result (λ r. r ≡ acks_for self.now.broker client command.now) }
+    {
+        match command {
+            Frame::Ack { id, positions, .. } => match self.subs().consumed_by(client, *id) {
+                Some(sub) => acks_in(alloc, sub, positions.len()),
+                None => Ok(AckRoom::none(alloc)),
+            },
+            _ => Ok(AckRoom::none(alloc)),
+        }
     }
 
     fn serve_frame(
@@ -64,7 +80,7 @@ impl Book {
         requires carried { is_client_frame packet.now.frame ≡ true }
         ensures plan { IfOk result (λ p. p ≡ serve_frame site.now self.now.broker client packet.now packet.now.frame) }
         ensures fits { IfOk result (λ p. PlanFits site.now.per_ledger self.now.broker p) }
-        ensures few { IfOk result (λ p. HasRoom (room_for (acks_for packet.now.frame)) p) }
+        ensures few { IfOk result (λ p. HasRoom (room_for (acks_for self.now.broker client packet.now.frame)) p) }
     {
         match &packet.frame {
             Frame::Connect => {
@@ -97,7 +113,7 @@ impl Book {
         requires opened { packet.now.frame ≢ frame.Connect }
         ensures plan { IfOk result (λ p. p ≡ serve_in site.now self.now.broker client packet.now (session_at self.now.broker client)) }
         ensures fits { IfOk result (λ p. PlanFits site.now.per_ledger self.now.broker p) }
-        ensures few { IfOk result (λ p. HasRoom (room_for (acks_for packet.now.frame)) p) }
+        ensures few { IfOk result (λ p. HasRoom (room_for (acks_for self.now.broker client packet.now.frame)) p) }
     {
         match self.session(client) {
             Some(session) if session.number == packet.session => {
@@ -121,7 +137,7 @@ impl Book {
         requires opened { command.now ≢ frame.Connect }
         ensures plan { IfOk result (λ p. p ≡ serve_command site.now self.now.broker client session.now command.now) }
         ensures fits { IfOk result (λ p. PlanFits site.now.per_ledger self.now.broker p) }
-        ensures few { IfOk result (λ p. HasRoom (room_for (acks_for command.now)) p) }
+        ensures few { IfOk result (λ p. HasRoom (room_for (acks_for self.now.broker client command.now)) p) }
     {
         match command {
             Frame::Producer {
@@ -171,7 +187,7 @@ impl Book {
         requires message { is_message entry.now ≡ true }
         ensures plan { IfOk result (λ p. p ≡ serve_send site.now self.now.broker client session.now id seq source.now entry.now (name_with id session.now.producers)) }
         ensures fits { IfOk result (λ p. PlanFits site.now.per_ledger self.now.broker p) }
-        ensures few { IfOk result (λ p. HasRoom (room_for 0) p) }
+        ensures few { IfOk result (λ p. HasRoom steps_room p) }
     {
         match name_with(id, session.producers.as_slice()) {
             Some(name) if is_sound(name, seq, source, entry) => {
@@ -195,7 +211,7 @@ impl Book {
         requires message { is_message entry.now ≡ true }
         ensures plan { IfOk result (λ p. p ≡ stores site.now self.now.broker client session.now id seq (with_origin site.now.own entry.now)) }
         ensures fits { IfOk result (λ p. PlanFits site.now.per_ledger self.now.broker p) }
-        ensures few { IfOk result (λ p. HasRoom (room_for 0) p) }
+        ensures few { IfOk result (λ p. HasRoom steps_room p) }
     {
         let mut plan = Prepared::quiet(alloc);
         let position = self.store(alloc, site, site.own(), entry, &mut plan)?;
@@ -209,14 +225,14 @@ impl Book {
     }
 }
 
-/// How many acknowledged indexes a command needs room for in a cursor.
-fn acks_for(command: &Frame) -> usize
-    ensures { result ≡ acks_for command.now }
+/// The room that an ACK of so many positions needs in its subscription's cursor.
+fn acks_in(alloc: Global, sub: &Sub, positions: usize) -> Result<AckRoom, Memory>
+    ensures { IfOk result (λ r. r ≡ acks_in sub.now.sub positions) }
 {
-    match command {
-        Frame::Ack { positions, .. } => positions.len().max(1),
-        _ => 0,
-    }
+    Ok(AckRoom {
+        sub: sub.name().copy(alloc)?,
+        count: positions.max(1),
+    })
 }
 
 /// An answer that changes nothing.

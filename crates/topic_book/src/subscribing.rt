@@ -6,7 +6,7 @@ ghost use Rattle.geo_base.specs.Name.{is_name};
 ghost use Rattle.geo_base.specs.Subscribing.{consumed_by, has_room, joins, serve_flow, serve_subscribe, subscribes};
 ghost use Rattle.geo_base.specs.declared.frame.SubKind.TheVariants as sub_kind;
 ghost use Rattle.geo_base.specs.declared.write.Write.TheVariants as write;
-ghost use Rattle.topic_book.specs.Fits.{HasRoom, PlanFits, room_for};
+ghost use Rattle.topic_book.specs.Fits.{HasRoom, PlanFits, steps_room};
 
 use crate::book::{Book, STEPS};
 use crate::prepared::Prepared;
@@ -46,7 +46,7 @@ impl Book {
     ) -> Result<Prepared, Memory>
         ensures plan { IfOk result (λ p. p ≡ serve_subscribe site.now self.now.broker client session.now topic.now sub.now sub_kind.Exclusive id request earliest false) }
         ensures fits { IfOk result (λ p. PlanFits site.now.per_ledger self.now.broker p) }
-        ensures few { IfOk result (λ p. HasRoom (room_for 0) p) }
+        ensures few { IfOk result (λ p. HasRoom steps_room p) }
     {
         if !self.admits(site, topic, sub) {
             return refusing(alloc, client, session, request, UNKNOWN_ERROR);
@@ -84,7 +84,7 @@ impl Book {
     ) -> Result<Prepared, Memory>
         ensures plan { IfOk result (λ p. p ≡ subscribes client session.now sub.now sub_kind.Exclusive id request earliest false (sub_named self.now.broker.subs sub.now)) }
         ensures fits { (per : ℕ) → IfOk result (λ p. PlanFits per self.now.broker p) }
-        ensures few { IfOk result (λ p. HasRoom (room_for 0) p) }
+        ensures few { IfOk result (λ p. HasRoom steps_room p) }
     {
         match self.subs().named(sub.as_bytes()) {
             None => creating(alloc, client, session, sub, id, request, earliest),
@@ -105,7 +105,7 @@ impl Book {
     ) -> Result<Prepared, Memory>
         ensures plan { IfOk result (λ p. p ≡ serve_flow client permits (consumed_by self.now.broker.subs client id)) }
         ensures fits { (per : ℕ) → IfOk result (λ p. PlanFits per self.now.broker p) }
-        ensures few { IfOk result (λ p. HasRoom (room_for 0) p) }
+        ensures few { IfOk result (λ p. HasRoom steps_room p) }
     {
         let mut plan = Prepared::quiet(alloc);
         if let Some(found) = self.subs().consumed_by(client, id) {

@@ -1,5 +1,5 @@
 //! The subscriptions of a topic, in order of creation.
-ghost use Rattle.std.specs.Prelude.{◌≡◌, ◌<◌, ◌≤◌, ◌+◌, ◌++◌, ◌∷◌, ◌^◌, [], false, length, map, slice_get, Some, vec_len, vec_capacity, OnOk, if◌then◌else◌};
+ghost use Rattle.std.specs.Prelude.{◌≡◌, ◌<◌, ◌≤◌, ◌+◌, ◌++◌, ◌∷◌, ◌^◌, [], false, true, length, map, slice_get, Some, vec_len, vec_capacity, OnOk, if◌then◌else◌};
 ghost use Rattle.std.specs.List.{list_any};
 ghost use Rattle.std.specs.Option.{option_copied, option_map, IfSome};
 ghost use Rattle.std.specs.Str.{bytes_eq};
@@ -8,20 +8,22 @@ ghost use Rattle.geo_base.specs.Cursor.{below};
 ghost use Rattle.geo_base.specs.Subscribing.{consumed_by};
 ghost use Rattle.geo_base.specs.Subscription.{Subscription, is_attached, new_subscription};
 ghost use Rattle.geo_base.specs.declared.frame.SubKind.TheVariants as sub_kind;
+ghost use Rattle.topic_book.specs.Room.{acks_at, no_acks, used_up};
 ghost use Rattle.topic_book.specs.SubRoom.{AllKeepRoom, AllSubsFit, AllSubsHaveRoom, IsFresh, IsPlain, SubBooks, SubStepFits, selected, sub_of, sub_stepped, subs_of};
 
+use crate::ack_room::AckRoom;
 use crate::subscription::{Sub, SubStep};
 use geo_base::memory::Memory;
 use std::alloc::Global;
 use std::marker::Model;
 
 /// The subscriptions, found by a search, since there are at most 32 of them; how many more steps have room at each and how many
-/// more subscriptions have room; and how many acknowledged indexes find room in each cursor before the next step.
+/// more subscriptions have room; and how many acknowledged indexes find room in one cursor before the next step.
 #[derive(Debug, Drop)]
 pub struct SubTable {
     subs: Vec<Sub>,
     room: usize,
-    acks: usize,
+    acks: AckRoom,
 }
 
 impl Model for SubTable {
@@ -38,12 +40,12 @@ impl Model for SubTable {
 impl SubTable {
     /// No subscription; takes no memory.
     pub fn new(alloc: Global) -> SubTable
-        ensures { result ≡ record { subs = []; room = 0; acks = 0 } }
+        ensures { result ≡ record { subs = []; room = 0; acks = no_acks } }
     {
         SubTable {
             subs: Vec::new(alloc),
             room: 0,
-            acks: 0,
+            acks: AckRoom::none(alloc),
         }
     }
 
@@ -84,8 +86,8 @@ impl SubTable {
         is_attached(self.subs.as_slice(), client)
     }
 
-    /// Makes room for so many more steps, and for so many acknowledged indexes in each cursor before the first one.
-    pub fn reserve(&mut self, room: usize, acks: usize) -> Result<(), Memory>
+    /// Makes room for so many more steps, and for the acknowledged indexes of one subscription before the first step.
+    pub fn reserve(&mut self, room: usize, acks: AckRoom) -> Result<(), Memory>
         requires { room < 2 ^ 32 }
         ensures same { self.new.subs ≡ self.old.subs }
         ensures room { OnOk result (self.new.room ≡ room) }
@@ -93,9 +95,9 @@ impl SubTable {
         ensures few { self.new.room ≤ room }
     {
         self.room = 0;
-        self.acks = 0;
+        self.acks.count = 0;
         self.subs.reserve(room)?;
-        reserve_each(self.subs.as_mut_slice(), room, acks)?;
+        reserve_each(self.subs.as_mut_slice(), room, &acks)?;
         self.room = room;
         self.acks = acks;
         Ok(())
@@ -108,36 +110,39 @@ impl SubTable {
         requires roomy { self.old.room ≤ sub.room + 1 }
         ensures subs { self.new.subs ≡ self.old.subs ++ new_subscription sub.sub.name sub_kind.Exclusive false (if latest then below len else []) ∷ [] }
         ensures room { self.new.room + 1 ≡ self.old.room }
+        ensures acks { self.new.acks ≡ used_up self.old.acks }
     {
         self.room -= 1;
-        self.acks = 0;
+        self.acks.count = 0;
         self.subs.push_reserved(created(sub, latest, len));
     }
 
     /// Does one step of the subscription of a name, in a topic of so many entries.
-    #[tactic(auto, using(crate::proofs::SubTables::all_fit, crate::proofs::SubTables::room_left))]
+    #[tactic(auto, using(crate::proofs::SubTables::named_fit, crate::proofs::SubTables::room_left))]
     pub fn step(&mut self, name: &[u8], step: SubStep, len: u64)
         requires room { 0 < self.old.room }
-        requires fits { SubStepFits step len self.old.acks }
+        requires fits { SubStepFits step len (acks_at self.old.acks name.now) }
         ensures subs { self.new.subs ≡ map (λ (s : Subscription). if bytes_eq s.name name.now then sub_stepped step.entry s else s) self.old.subs }
         ensures room { self.new.room + 1 ≡ self.old.room }
+        ensures acks { self.new.acks ≡ used_up self.old.acks }
     {
         step_each(self.subs.as_mut_slice(), Some(name), step, len);
         self.room -= 1;
-        self.acks = 0;
+        self.acks.count = 0;
     }
 
     /// Does one step of each subscription, in a topic of so many entries.
     #[tactic(auto, using(crate::proofs::SubTables::all_fit, crate::proofs::SubTables::room_left))]
     pub fn step_all(&mut self, step: SubStep, len: u64)
         requires room { 0 < self.old.room }
-        requires fits { SubStepFits step len self.old.acks }
+        requires fits { SubStepFits step len 0 }
         ensures subs { self.new.subs ≡ map (sub_stepped step.entry) self.old.subs }
         ensures room { self.new.room + 1 ≡ self.old.room }
+        ensures acks { self.new.acks ≡ used_up self.old.acks }
     {
         step_each(self.subs.as_mut_slice(), None, step, len);
         self.room -= 1;
-        self.acks = 0;
+        self.acks.count = 0;
     }
 }
 
@@ -192,13 +197,14 @@ fn is_attached(subs: &[Sub], client: u32) -> bool
 }
 
 /// Makes room in each subscription.
-fn reserve_each(subs: &mut [Sub], room: usize, acks: usize) -> Result<(), Memory>
+fn reserve_each(subs: &mut [Sub], room: usize, acks: &AckRoom) -> Result<(), Memory>
     requires { room < 2 ^ 32 }
     ensures same { subs_of subs.new ≡ subs_of subs.old }
-    ensures ok { OnOk result (AllSubsHaveRoom room acks subs.new) }
+    ensures ok { OnOk result (AllSubsHaveRoom room acks.now subs.new) }
 {
     for sub in subs {
-        sub.reserve(room, acks)?;
+        let count = acks.at(sub.name().as_bytes());
+        sub.reserve(room, count)?;
     }
     Ok(())
 }
@@ -216,7 +222,7 @@ fn is_selected(name: Option<&[u8]>, sub: &Sub) -> bool
 /// Does a step at a subscription, if it is selected.
 fn step_one(sub: &mut Sub, name: Option<&[u8]>, step: SubStep, len: u64)
     requires room { 0 < sub.old.room }
-    requires fits { SubStepFits step len sub.old.acks }
+    requires fits { selected (option_copied name) sub.old.sub ≡ true → SubStepFits step len sub.old.acks }
     ensures sub { sub.new.sub ≡ (if selected (option_copied name.entry) sub.old.sub then sub_stepped step.entry sub.old.sub else sub.old.sub) }
     ensures room { sub.old.room ≤ sub.new.room + 1 }
 {
@@ -227,7 +233,7 @@ fn step_one(sub: &mut Sub, name: Option<&[u8]>, step: SubStep, len: u64)
 
 /// Does a step of each subscription that is selected.
 fn step_each(subs: &mut [Sub], name: Option<&[u8]>, step: SubStep, len: u64)
-    requires { AllSubsFit step len subs.old }
+    requires { AllSubsFit (option_copied name) step len subs.old }
     ensures subs { subs_of subs.new ≡ map (λ (s : Subscription). if selected (option_copied name.entry) s then sub_stepped step.entry s else s) (subs_of subs.old) }
     ensures room { AllKeepRoom subs.old subs.new }
 {

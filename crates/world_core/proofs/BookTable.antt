@@ -5,7 +5,7 @@ use Rattle.std.proofs.lemmas.List.{map-set, get_or-map, length-map}
 use Rattle.std.proofs.Math.Seq.{map-set_same}
 use Rattle.geo_base.specs.Broker.{Broker}
 use Rattle.world_core.specs.Books.{brokers_of, room_at, rooms_of}
-use Rattle.topic_book.specs.Room.{BrokerBook}
+use Rattle.topic_book.specs.Room.{BrokerBook, no_room}
 
 pub set_broker : (bs : List BrokerBook) (i : ℕ) (b : BrokerBook) → brokers_of (slice_set bs i b) ≡ slice_set (brokers_of bs) i b.broker
 set_broker bs i b = map-set (λ (b : BrokerBook). b.broker) bs i b
@@ -17,7 +17,7 @@ pub same_brokers : (bs : List BrokerBook) (i : ℕ) (b d : BrokerBook) → b.bro
 same_brokers bs i b d h = map-set_same (λ (b : BrokerBook). b.broker) bs i b d h
 
 pub room_is : (bs : List BrokerBook) (i : ℕ) (d : BrokerBook) → i < length bs → room_at (rooms_of bs) i ≡ (slice_index_or bs i d).room
-room_is bs i d h = get_or-map (λ (b : BrokerBook). b.room) bs i d (record { steps = 0; acks = 0 }) h
+room_is bs i d h = get_or-map (λ (b : BrokerBook). b.room) bs i d no_room h
 
 pub room_set : (bs : List BrokerBook) (i : ℕ) (b : BrokerBook) → i < length bs → room_at (rooms_of (slice_set bs i b)) i ≡ b.room
 room_set [] i b h = absurd (omega arith)
