@@ -1,10 +1,9 @@
 -- What follows from an answer and from what went out of it.
 use Rattle.std.proofs.lemmas.Bool.{lt-ltb}
 use Rattle.std.proofs.lemmas.Bool.Decides.{nat_tests}
-use Rattle.std.proofs.Common.{◌≡◌, ℕ, ◌≤◌, arith, Bool, true, false, List, [], ◌∷◌, ◌++◌, refl, sym, ap, subst, ◌∙◌, inl, inr}
+use Rattle.std.proofs.Common.{◌≡◌, ℕ, ◌≤◌, arith, Bool, true, false, List, [], refl, sym, ap, subst, ◌∙◌, inl, inr}
 use Rattle.std.proofs.lemmas.List.{append-nil}
 use Rattle.std.specs.Prelude.{Option, Some, None, IfOk, IfSome, Result, Ok, Err, IsOkAnd, if◌then◌else◌, length, nat_lt, take, ⊤}
-use Rattle.geo_base.specs.declared.event.Event.{Event}
 use Rattle.geo_base.specs.declared.memory.Memory.{Memory}
 use Rattle.geo_base.specs.Run.{no_limits}
 use Rattle.geo_io.specs.Faults.{Rose}
@@ -20,7 +19,7 @@ use Rattle.geo_top.specs.declared.top.command.Command.TheVariants as command
 use Rattle.geo_top.specs.declared.top.status.Status.{Status}
 use Rattle.geo_top.specs.declared.top.status.Status.TheVariants as status
 use Rattle.geo_top.specs.Outputs.{IsAlwaysOnce, IsCaused, IsFounded, IsLine, UnlessReadFault, WentOut, WritesLine, answer_for, answer_to, answer_to_run, passed_limit, refused, report_of}
-use Rattle.geo_top.specs.Statuses.{IsDue, refusal_line}
+use Rattle.geo_top.specs.Statuses.{IsDue}
 use Rattle.geo_top.proofs.Limits.{IsOnlyLimit, only_limit}
 
 -- once and in order, always
@@ -134,7 +133,7 @@ due c b n (Some input) a f =
 
 -- what went out
 whole : (c : Option Command) (b n : ℕ) (left : Option (List ℕ)) (s : Status) (bytes : List ℕ) (d : Answer) (P : Type 0) (old new : Option (List ℕ))
-    → IsCaused c b n left s → IsLine s bytes → (P → bytes ≡ d.bytes) → UnlessReadFault s P → Gains old new bytes → WentOut d s old new
+    → IsCaused c b n left s → IsLine s bytes → (P → bytes ≡ d.bytes) → UnlessReadFault s P → Gains old new bytes → WentOut d b n s old new
 whole c b n left status.Ok bytes d P old new cause line f u g = subst (λ (b : List ℕ). Gains old new b) (f u) g
 whole c b n left status.Usage bytes d P old new cause line f u g = subst (λ (b : List ℕ). Gains old new b) (f u) g
 whole c b n left (status.BadScript l r) bytes d P old new cause line f u g = subst (λ (b : List ℕ). Gains old new b) (f u) g
@@ -144,36 +143,37 @@ whole c b n left (status.TooLarge limit) bytes d P old new cause line f u g = su
 whole c b n left status.OutOfMemory bytes d P old new cause line f u g = absurd cause
 
 pub whole_out : (c : Option Command) (b n : ℕ) (left old new : Option (List ℕ)) (a : Answer) → IsFounded c b n left a → Gains old new a.bytes
-    → IfSome left (λ input. WentOut (answer_for c input) a.status old new)
+    → IfSome left (λ input. WentOut (answer_for c input) b n a.status old new)
 whole_out c b n None old new a f g = tt
 whole_out c b n (Some input) old new a f g =
     whole c b n (Some input) a.status a.bytes (answer_for c input) (a ≡ answer_for c input) old new f.cause f.line
     (λ (is : a ≡ answer_for c input). ap (λ (a : Answer). a.bytes) is) f.due g
 
-part : (s : Status) (bytes : List ℕ) (k : ℕ) (d : Answer) (P : Type 0) (old new : Option (List ℕ))
-    → IsLine s bytes → (P → bytes ≡ d.bytes) → UnlessReadFault s P → Gains old new (take k bytes) → WentOut d status.WriteFault old new
-part status.Ok bytes k d P old new line f u g = (k, inl (subst (λ (b : List ℕ). Gains old new (take k b)) (f u) g))
-part status.Usage bytes k d P old new line f u g = (k, inl (subst (λ (b : List ℕ). Gains old new (take k b)) (f u) g))
-part (status.BadScript l r) bytes k d P old new line f u g = (k, inl (subst (λ (b : List ℕ). Gains old new (take k b)) (f u) g))
-part status.ReadFault bytes k d P old new line f u g = (k, inr (subst (λ (b : List ℕ). Gains old new (take k b)) line g))
-part status.WriteFault bytes k d P old new line f u g = (k, inl (subst (λ (b : List ℕ). Gains old new (take k b)) (f u) g))
-part (status.TooLarge limit) bytes k d P old new line f u g = (k, inl (subst (λ (b : List ℕ). Gains old new (take k b)) (f u) g))
-part status.OutOfMemory bytes k d P old new line f u g = (k, inl (subst (λ (b : List ℕ). Gains old new (take k b)) (f u) g))
+part : (c : Option Command) (b n : ℕ) (left : Option (List ℕ)) (s : Status) (bytes : List ℕ) (k : ℕ) (d : Answer) (P : Type 0) (old new : Option (List ℕ))
+    → IsCaused c b n left s → IsLine s bytes → (P → bytes ≡ d.bytes) → UnlessReadFault s P → Gains old new (take k bytes) → WentOut d b n status.WriteFault old new
+part c b n left status.Ok bytes k d P old new cause line f u g = inl (k, subst (λ (b : List ℕ). Gains old new (take k b)) (f u) g)
+part c b n left status.Usage bytes k d P old new cause line f u g = inl (k, subst (λ (b : List ℕ). Gains old new (take k b)) (f u) g)
+part c b n left (status.BadScript l r) bytes k d P old new cause line f u g = inl (k, subst (λ (b : List ℕ). Gains old new (take k b)) (f u) g)
+part c b n left status.ReadFault bytes k d P old new cause line f u g = inr (cause.1, (k, subst (λ (b : List ℕ). Gains old new (take k b)) line g))
+part c b n left status.WriteFault bytes k d P old new cause line f u g = absurd cause
+part c b n left (status.TooLarge limit) bytes k d P old new cause line f u g = inl (k, subst (λ (b : List ℕ). Gains old new (take k b)) (f u) g)
+part c b n left status.OutOfMemory bytes k d P old new cause line f u g = absurd cause
 
 pub part_out : (c : Option Command) (b n : ℕ) (left old new : Option (List ℕ)) (a : Answer) (k : ℕ) → IsFounded c b n left a → Gains old new (take k a.bytes)
-    → IfSome left (λ input. WentOut (answer_for c input) status.WriteFault old new)
+    → IfSome left (λ input. WentOut (answer_for c input) b n status.WriteFault old new)
 part_out c b n None old new a k f g = tt
 part_out c b n (Some input) old new a k f g =
-    part a.status a.bytes k (answer_for c input) (a ≡ answer_for c input) old new f.line (λ (is : a ≡ answer_for c input). ap (λ (a : Answer). a.bytes) is) f.due g
+    part c b n (Some input) a.status a.bytes k (answer_for c input) (a ≡ answer_for c input) old new f.cause f.line
+    (λ (is : a ≡ answer_for c input). ap (λ (a : Answer). a.bytes) is) f.due g
 
 -- nothing, where memory was wanting
 pub nothing_gained : (old : Option (List ℕ)) → Gains old old []
 nothing_gained None = tt
 nothing_gained (Some xs) = sym (append-nil xs)
 
-pub nothing_out : (c : Option Command) (left old : Option (List ℕ)) → IfSome left (λ input. WentOut (answer_for c input) status.OutOfMemory old old)
-nothing_out c None old = tt
-nothing_out c (Some input) old = nothing_gained old
+pub nothing_out : (c : Option Command) (b n : ℕ) (left old : Option (List ℕ)) → IfSome left (λ input. WentOut (answer_for c input) b n status.OutOfMemory old old)
+nothing_out c b n None old = tt
+nothing_out c b n (Some input) old = nothing_gained old
 
 pub free_due : (c : Option Command) (left : Option (List ℕ)) → IfSome left (λ input. IsDue (answer_for c input).status status.OutOfMemory)
 free_due c None = tt

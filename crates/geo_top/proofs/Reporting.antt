@@ -9,7 +9,7 @@ use Rattle.script.specs.Script.{Script}
 use Rattle.world_core.specs.Machines.{uncounted}
 use Rattle.geo_top.specs.declared.top.answer.Answer.{Answer}
 use Rattle.geo_top.specs.declared.top.status.Status.TheVariants as status
-use Rattle.geo_top.specs.Outputs.{answer_to_run, passed_limit, refused, report_of}
+use Rattle.geo_top.specs.Outputs.{answer_to_run, passed_limit, refused}
 
 same_clusters : (s : Setup) (w : World) (t : ℕ) (topic : List ℕ) (x : ℕ) (ns : List (List ℕ)) → cluster_lines s (uncounted w) t topic x ns ≡ cluster_lines s w t topic x ns
 same_clusters s w t topic x [] = refl

@@ -45,13 +45,18 @@ abbrev pub answer_for : Option Command → List ℕ → Answer
 answer_for None input = refused status.Usage
 answer_for (Some command.Run) input = if nat_lt 67108864 (length input) then refused (status.TooLarge 1) else answer_to (script_of input)
 
--- what went out: the whole of an answer, nothing for want of memory, and where the sink failed a beginning
-abbrev pub WentOut : Answer → Status → Option (List ℕ) → Option (List ℕ) → Type 0
-WentOut due status.ReadFault old new = Gains old new (refusal_line status.ReadFault)
-WentOut due status.OutOfMemory old new = Gains old new []
-WentOut due status.WriteFault old new =
-    (n : ℕ) × (Gains old new (take n due.bytes) ⊎ Gains old new (take n (refusal_line status.ReadFault)))
-WentOut due s old new = Gains old new due.bytes
+-- a beginning of these bytes went out
+abbrev pub PartWentOut : List ℕ → Option (List ℕ) → Option (List ℕ) → Type 0
+PartWentOut bytes old new = (n : ℕ) × Gains old new (take n bytes)
+
+-- What went out: the whole of an answer, nothing for want of memory, and where the sink failed a beginning: of the line of a read
+-- fault only where the source failed too, by its count of faults before and now.
+abbrev pub WentOut : Answer → ℕ → ℕ → Status → Option (List ℕ) → Option (List ℕ) → Type 0
+WentOut due before now status.ReadFault old new = Gains old new (refusal_line status.ReadFault)
+WentOut due before now status.OutOfMemory old new = Gains old new []
+WentOut due before now status.WriteFault old new =
+    PartWentOut due.bytes old new ⊎ (Rose before now × PartWentOut (refusal_line status.ReadFault) old new)
+WentOut due before now s old new = Gains old new due.bytes
 
 -- a refusal writes its line
 abbrev pub WritesLine : Status → Option (List ℕ) → Option (List ℕ) → Type 0

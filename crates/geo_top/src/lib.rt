@@ -1,7 +1,7 @@
-//! The program: a script's clusters, clients and links, its run, and the report.
+//! The program: from the words of a command line and the bytes of a script to the bytes of a report.
 //!
-//! [`geo_alone`] is the program as one call. Brokers, clients, links and the world are its private parts: each event is prepared
-//! at its node, its packets go out whole or not at all, and then it is committed.
+//! [`geo_alone`] is the program as one call: it reads the script from a source, has `world_core` do its run, makes the whole
+//! report in memory, and writes it to a sink.
 #![tactic(auto)]
 
 #[cfg(test)]

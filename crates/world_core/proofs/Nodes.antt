@@ -1,5 +1,5 @@
 -- The numbers of brokers fit.
-use Rattle.std.proofs.Common.{ℕ, ◌*◌, ◌^◌, ◌<◌, ◌≤◌, arith}
+use Rattle.std.proofs.Common.{ℕ, ◌*◌, ◌^◌, ◌<◌, ◌≤◌}
 use Rattle.std.proofs.Math.Nat.{mul-le-mul_left}
 
 pub node_fits : (t n : ℕ) → t < 2 ^ 32 → n ≤ 8 → t * n ≤ t * 8

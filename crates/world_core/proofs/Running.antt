@@ -1,14 +1,14 @@
 -- A run of events alone is one event after another, and the sum of frame sizes is no part of what happens.
 use Rattle.std.proofs.Common.{◌≡◌, ℕ, zero, suc, ◌+◌, ◌-◌, ◌^◌, ◌<◌, ◌≤◌, Bool, true, false, List, [], ◌∷◌, ◌++◌, length, take, drop, refl, sym, ◌∙◌, ap, subst, arith, length-append, append_assoc}
 use Rattle.std.proofs.lemmas.List.{drop_more, take-append-drop, take_more}
-use Rattle.std.specs.Prelude.{Option, Some, None, All, if◌then◌else◌, is_some, nat_lt, slice_index_or, ⊤}
+use Rattle.std.specs.Prelude.{Option, Some, None, All, if◌then◌else◌, is_some, nat_lt, slice_index_or}
 use Rattle.std.proofs.lemmas.Bool.Decides.{nat_tests}
 use Rattle.geo_base.specs.declared.event.Event.{Event}
 use Rattle.geo_base.specs.declared.event.Event.TheVariants as event
 use Rattle.geo_base.specs.declared.event.Step.{Step}
 use Rattle.geo_base.specs.declared.event.Step.TheVariants as step
 use Rattle.geo_base.specs.Client.{Acted}
-use Rattle.geo_base.specs.Happening.{broker_does, client_does, does_planned, happens, idles}
+use Rattle.geo_base.specs.Happening.{broker_does, client_does, does_planned, happens}
 use Rattle.geo_base.specs.Planned.{Planned, planned}
 use Rattle.geo_base.specs.Run.{Limits, Ran, ends_or, event_limit, goes_on, no_limits, run, run_from, run_under, steps}
 use Rattle.geo_base.specs.Setup.{Setup}

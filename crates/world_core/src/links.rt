@@ -4,6 +4,7 @@
 //! sent in one event goes out whole or not at all, so that want of memory leaves the links as they were.
 ghost use Rattle.std.specs.Prelude.{◌≡◌, ◌≤◌, ℕ, true, length, IfOk, OnOk, OnErr};
 ghost use Rattle.std.specs.Option.{option_copied, option_map};
+ghost use Rattle.std.specs.Vec.Iter.{into_iter_items};
 ghost use Rattle.geo_base.specs.Happening.{stamp_of as packet_stamp};
 ghost use Rattle.geo_base.specs.Link.{next_packet};
 ghost use Rattle.geo_base.specs.World.{Back, Forward, ToBroker, ToClient, delivered, from_broker, from_client, link_at, node as node_number, packet_at, table, taken_from};
@@ -23,6 +24,7 @@ use geo_base::memory::Memory;
 use geo_base::packet::{Out, Packet, Peer, Stamp};
 use std::alloc::Global;
 use std::marker::Model;
+use std::vec::IntoIter;
 use topic_book::packet::{ClientPacket, ForwardPacket, Outgoing};
 
 /// The link that an event takes a packet from: one between brokers by the number of the sending broker and the other cluster,
@@ -143,26 +145,41 @@ impl Links {
     }
 
     /// Sends what a broker sends in an event, whole or not at all.
-    #[tactic(auto, using(crate::proofs::Undoing::undone))]
     pub fn deliver_from_broker(
         &mut self,
         setup: &Declarations,
         topic: u32,
         cluster: u32,
         stamp: Stamp,
-        mut sent: Vec<Outgoing>,
+        sent: Vec<Outgoing>,
     ) -> Result<(), Memory>
         requires { length setup.now.clusters ≤ CLUSTERS }
         ensures ok { OnOk result (self.new ≡ delivered (from_broker setup.now topic cluster) stamp sent.items self.old) }
         ensures err { OnErr result (self.new ≡ self.old) }
     {
-        if sent.is_empty() {
+        self.deliver_rest_from_broker(setup, topic, cluster, stamp, sent.into_iter())
+    }
+
+    #[tactic(auto, using(crate::proofs::Undoing::undone))]
+    fn deliver_rest_from_broker(
+        &mut self,
+        setup: &Declarations,
+        topic: u32,
+        cluster: u32,
+        stamp: Stamp,
+        mut sent: IntoIter<Outgoing, Global>,
+    ) -> Result<(), Memory>
+        requires { length setup.now.clusters ≤ CLUSTERS }
+        ensures ok { OnOk result (self.new ≡ delivered (from_broker setup.now topic cluster) stamp (into_iter_items sent) self.old) }
+        ensures err { OnErr result (self.new ≡ self.old) }
+    {
+        let Some(first) = sent.next() else {
             return Ok(());
-        }
-        let out = sent.remove(0).into_out();
+        };
+        let out = first.into_out();
         let to = out.to;
         self.send_from_broker(setup, topic, cluster, stamp, out)?;
-        match self.deliver_from_broker(setup, topic, cluster, stamp, sent) {
+        match self.deliver_rest_from_broker(setup, topic, cluster, stamp, sent) {
             Ok(()) => Ok(()),
             Err(memory) => {
                 self.unsend_from_broker(setup, topic, cluster, to);
@@ -222,23 +239,35 @@ impl Links {
     }
 
     /// Sends what a client sends in an event, whole or not at all.
-    #[tactic(auto, using(crate::proofs::Undoing::undone))]
     pub fn deliver_from_client(
         &mut self,
         client: u32,
         stamp: Stamp,
-        mut sent: Vec<ClientOut>,
+        sent: Vec<ClientOut>,
     ) -> Result<(), Memory>
         ensures ok { OnOk result (self.new ≡ delivered (from_client client) stamp sent.items self.old) }
         ensures err { OnErr result (self.new ≡ self.old) }
     {
-        if sent.is_empty() {
+        self.deliver_rest_from_client(client, stamp, sent.into_iter())
+    }
+
+    #[tactic(auto, using(crate::proofs::Undoing::undone))]
+    fn deliver_rest_from_client(
+        &mut self,
+        client: u32,
+        stamp: Stamp,
+        mut sent: IntoIter<ClientOut, Global>,
+    ) -> Result<(), Memory>
+        ensures ok { OnOk result (self.new ≡ delivered (from_client client) stamp (into_iter_items sent) self.old) }
+        ensures err { OnErr result (self.new ≡ self.old) }
+    {
+        let Some(first) = sent.next() else {
             return Ok(());
-        }
-        let out = sent.remove(0).into_out();
+        };
+        let out = first.into_out();
         let to = out.to;
         self.send_from_client(client, stamp, out)?;
-        match self.deliver_from_client(client, stamp, sent) {
+        match self.deliver_rest_from_client(client, stamp, sent) {
             Ok(()) => Ok(()),
             Err(memory) => {
                 self.unsend_from_client(client, to);

@@ -52,7 +52,7 @@ pub fn geo_alone<S: Source, K: Sink>(
 
     // What goes out.
     ensures out { IfSome (S.left source.old) (λ input.
-        WentOut (answer_for (command_of words.now) input) result (K.held sink.old) (K.held sink.new)) }
+        WentOut (answer_for (command_of words.now) input) (S.faults source.old) (S.faults source.new) result (K.held sink.old) (K.held sink.new)) }
     ensures line { WritesLine result (K.held sink.old) (K.held sink.new) }
 {
     let Ok(answer) = answer_to_words(alloc, words, source) else {

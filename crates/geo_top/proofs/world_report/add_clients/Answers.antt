@@ -1,4 +1,4 @@
-use Rattle.std.proofs.Common.{◌≡◌, ◌<◌, length, ◌++◌, ap, arith}
+use Rattle.std.proofs.Common.{◌<◌, length, ◌++◌, ap, arith}
 use Rattle.std.proofs.lemmas.List.{get_or_read}
 use Rattle.geo_base.specs.Client.{new_client}
 use Rattle.geo_base.specs.Report.{client_lines, with_line_feeds}

@@ -1,4 +1,4 @@
-use Rattle.std.proofs.Common.{◌≡◌, ◌<◌, length, ◌++◌, ◌∙◌, arith}
+use Rattle.std.proofs.Common.{◌++◌}
 use Rattle.std.specs.Prelude.{string_bytes}
 use Rattle.geo_base.specs.Report.{cluster_lines, with_line_feeds}
 use Rattle.report.proofs.AddedLines.{drop_read}

@@ -1,4 +1,4 @@
-use Rattle.std.proofs.Common.{◌≡◌, ◌<◌, length, ◌++◌, ◌∙◌, arith}
+use Rattle.std.proofs.Common.{◌++◌}
 use Rattle.geo_base.specs.Report.{topic_lines, with_line_feeds}
 use Rattle.report.proofs.AddedLines.{drop_read}
 use Rattle.geo_top.proofs.Lines.{topic_added}

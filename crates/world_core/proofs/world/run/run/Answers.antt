@@ -1,8 +1,8 @@
-use Rattle.std.proofs.Common.{◌<◌, ◌≤◌, length, arith, subst}
-use Rattle.std.specs.Prelude.{List, All, slice_index_or}
+use Rattle.std.proofs.Common.{arith, subst}
+use Rattle.std.specs.Prelude.{List}
 use Rattle.geo_base.specs.declared.event.Step.{Step}
 use Rattle.world_core.specs.Machines.{IsRun}
-use Rattle.world_core.proofs.Running.{run_ends, run_goes_on, run_passes, run_within, take_whole, world_of}
+use Rattle.world_core.proofs.Running.{run_ends, run_goes_on, run_passes, take_whole, world_of}
 use Rattle.world_core.proofs.world.run.run.Goals as goal
 
 pub loop-step-preserved : goal.loop-step-preserved
