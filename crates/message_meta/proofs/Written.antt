@@ -1,5 +1,5 @@
 -- The canonical fields of metadata mean it.
-use Rattle.std.proofs.Common.{◌≡◌, ℕ, List, [], ◌∷◌, ◌++◌, Option, Some, None, map, refl, sym, ap, ◌∙◌, arith}
+use Rattle.std.proofs.Common.{◌≡◌, ℕ, List, [], ◌++◌, Option, Some, None, map, refl, ap, ◌∙◌, arith}
 use Rattle.std.specs.Prelude.{IsUtf8, IfSome, option_to_list}
 use Rattle.std.specs.Option.{option_map}
 use Rattle.std.specs.List.{AllByRecursion, last_or}
@@ -10,7 +10,7 @@ use Rattle.pb_fields.specs.declared.field.Value.TheVariants as value
 use Rattle.pb_fields.specs.declared.message.Row.{Row}
 use Rattle.pb_fields.specs.Canonical.{text, optional}
 use Rattle.pb_fields.specs.Field.{varint_field, bytes_field}
-use Rattle.pb_fields.specs.Message.{row_of, Fits, IsMessage, IsUnknown, values, last_value, unknown}
+use Rattle.pb_fields.specs.Message.{row_of, Fits, values, unknown}
 use Rattle.pb_fields.proofs.Parts.{AllByRecursion-append, AllByRecursion-map, AllByRecursion-optional, fits_row, fits_unknown, values-append, values-optional, values-optional_other, values-map, values-map_other, values-unknown, last_or-option, unknown-append, unknown-optional, unknown-map, unknown-same}
 use Rattle.pb_fields.proofs.Written.{text-is}
 use Rattle.message_meta.specs.declared.table.TheConstants.{ROWS}

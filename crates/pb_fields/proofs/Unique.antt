@@ -16,7 +16,7 @@ use Rattle.pb_fields.specs.declared.fault.PbFault.{PbFault}
 use Rattle.pb_fields.specs.declared.fault.PbFault.TheVariants as pb
 use Rattle.pb_fields.specs.Field.{wire_number, wire_type}
 use Rattle.pb_fields.specs.Varint.{IsGroups, last, more, TakesVarint}
-use Rattle.pb_fields.specs.Text.{IsValue, IsFieldText, TakesValue, TakesField, IsText, end, next}
+use Rattle.pb_fields.specs.Text.{IsValue, IsFieldText, TakesField, IsText, end, next}
 use Rattle.pb_fields.specs.Text as text
 use Rattle.pb_fields.specs.Faults.{AllGoOn, BrokenVarint, ends, too_large, BrokenValue, BrokenBehind, BrokenField, HasFault, IsFaultOf, fault_at, Answers}
 use Rattle.pb_fields.specs.Faults as broken

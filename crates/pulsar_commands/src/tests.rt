@@ -239,8 +239,8 @@ const WRITTEN: [&[u8]; 18] = [
     &[0x08, 0x13, 0x9a, 0x01, 0x00],
 ];
 
-/// The commands of connections, producers and their messages.
-fn of_producers(alloc: Global) -> Result<Sequence<Command>, Memory> {
+/// The commands that open a connection, a subscription and a producer.
+fn of_openings(alloc: Global) -> Result<Sequence<Command>, Memory> {
     let mut commands = Sequence::new(alloc);
     commands.push(Command::Connect {
         client_version: Text::from_str(alloc, "geo-client")?,
@@ -266,6 +266,12 @@ fn of_producers(alloc: Global) -> Result<Sequence<Command>, Memory> {
         request_id: 300,
         producer_name: Some(Text::from_str(alloc, "p")?),
     })?;
+    Ok(commands)
+}
+
+/// The commands of messages that are sent.
+fn of_producers(alloc: Global) -> Result<Sequence<Command>, Memory> {
+    let mut commands = Sequence::new(alloc);
     commands.push(Command::Send {
         producer_id: 1,
         sequence_id: 0,
@@ -353,6 +359,7 @@ fn of_requests(alloc: Global) -> Result<Sequence<Command>, Memory> {
 fn commands_are_written(rt: HostRuntime) -> Result<(), Fail> {
     let alloc = rt.alloc();
     let lists = [
+        of_openings(alloc)?,
         of_producers(alloc)?,
         of_consumers(alloc)?,
         of_requests(alloc)?,

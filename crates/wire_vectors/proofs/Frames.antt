@@ -1,5 +1,5 @@
 -- What a reader that took in one piece says of it.
-use Rattle.std.proofs.Common.{◌≡◌, ℕ, List, [], ◌∷◌, ◌++◌, Option, Some, None, Result, Ok, Err, inl, inr, refl, sym, ap, subst, ◌∙◌}
+use Rattle.std.proofs.Common.{◌≡◌, ℕ, List, [], ◌∷◌, Option, Some, None, Result, Ok, Err, inl, inr, refl, sym, ap, subst, ◌∙◌}
 use Rattle.std.specs.Prelude.{IfOk}
 use Rattle.pb_fields.specs.declared.memory.Memory.{Memory}
 use Rattle.pulsar_frames.specs.declared.fault.FrameFault.{FrameFault}
@@ -7,7 +7,7 @@ use Rattle.pulsar_frames.specs.declared.fault.FrameFault.TheVariants as fault
 use Rattle.pulsar_frames.specs.declared.frame.Frame.{Frame}
 use Rattle.pulsar_frames.specs.Layout.{IsUnfinished}
 use Rattle.pulsar_frames.specs.Frames.{TakesFrame, HasFault}
-use Rattle.pulsar_frames.specs.Streams.{AreFrames, end, next, Ends, unfinished, refused, IsStream, Reading, fresh, Feeds, reads, refuses, Answered, answer, Takes}
+use Rattle.pulsar_frames.specs.Streams.{AreFrames, end, next, Ends, unfinished, refused, Reading, fresh, Feeds, reads, refuses, Answered, answer, Takes}
 use Rattle.wire_vectors.specs.declared.answer.Answer.{Answer}
 use Rattle.wire_vectors.specs.declared.answer.Answer.TheVariants as answers
 use Rattle.wire_vectors.specs.Answers.{IsFrameAnswer, IsNoFrame, IsWritten}

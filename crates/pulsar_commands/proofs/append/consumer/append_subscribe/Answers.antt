@@ -1,5 +1,5 @@
 use Rattle.pulsar_commands.proofs.Writing.{writes_last, writes_more}
-use Rattle.pulsar_commands.proofs.append.append_subscribe.Goals as goal
+use Rattle.pulsar_commands.proofs.append.consumer.append_subscribe.Goals as goal
 
 pub returns : goal.returns
 returns c =

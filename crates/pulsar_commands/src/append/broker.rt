@@ -1,0 +1,124 @@
+//! What a broker sends to producers and consumers: receipts, messages and answers.
+
+ghost use Rattle.std.specs.Prelude.{OnOk};
+ghost use Rattle.pulsar_commands.specs.declared.command.Command.TheVariants as command;
+ghost use Rattle.pulsar_commands.specs.Parts.{parts, kind_of};
+ghost use Rattle.pulsar_commands.specs.Senders.{IsOfBroker};
+ghost use Rattle.pulsar_commands.specs.Canonical.{Writes};
+
+use crate::command::Command;
+use crate::ids::{append_id, append_optional_id};
+use crate::parts::{append_number, append_text};
+use geo_base::{Position, Text};
+use pb_fields::{ByteList, Memory};
+use std::alloc::Global;
+
+/// Appends the fields of a command of a broker.
+pub(super) fn append_of_broker(
+    alloc: Global,
+    out: &mut ByteList,
+    command: &Command,
+) -> Result<(), Memory>
+    requires { IsOfBroker (kind_of command.now) }
+    ensures { OnOk result (Writes out.old (parts command.now) out.new) }
+{
+    match command {
+        Command::SendReceipt {
+            producer_id,
+            sequence_id,
+            message_id,
+        } => append_send_receipt(alloc, out, *producer_id, *sequence_id, *message_id),
+        Command::SendError {
+            producer_id,
+            sequence_id,
+            error,
+            message,
+        } => append_send_error(out, *producer_id, *sequence_id, *error, message),
+        Command::Message {
+            consumer_id,
+            message_id,
+        } => append_message(alloc, out, *consumer_id, *message_id),
+        Command::Success { request_id } => append_success(out, *request_id),
+        Command::Error {
+            request_id,
+            error,
+            message,
+        } => append_error(out, *request_id, *error, message),
+        Command::ProducerSuccess {
+            request_id,
+            producer_name,
+        } => append_producer_success(out, *request_id, producer_name),
+        _ => unreachable!(),
+    }
+}
+
+fn append_send_receipt(
+    alloc: Global,
+    out: &mut ByteList,
+    producer_id: u64,
+    sequence_id: u64,
+    message_id: Option<Position>,
+) -> Result<(), Memory>
+    ensures { OnOk result (Writes out.old (parts (command.SendReceipt producer_id sequence_id message_id)) out.new) }
+{
+    append_number(out, 1, producer_id)?;
+    append_number(out, 2, sequence_id)?;
+    append_optional_id(alloc, out, 3, message_id)
+}
+
+fn append_send_error(
+    out: &mut ByteList,
+    producer_id: u64,
+    sequence_id: u64,
+    error: u64,
+    message: &Text,
+) -> Result<(), Memory>
+    ensures { OnOk result (Writes out.old (parts (command.SendError producer_id sequence_id error message.now)) out.new) }
+{
+    append_number(out, 1, producer_id)?;
+    append_number(out, 2, sequence_id)?;
+    append_number(out, 3, error)?;
+    append_text(out, 4, message)
+}
+
+fn append_message(
+    alloc: Global,
+    out: &mut ByteList,
+    consumer_id: u64,
+    message_id: Position,
+) -> Result<(), Memory>
+    ensures { OnOk result (Writes out.old (parts (command.Message consumer_id message_id)) out.new) }
+{
+    append_number(out, 1, consumer_id)?;
+    append_id(alloc, out, 2, message_id)
+}
+
+fn append_success(out: &mut ByteList, request_id: u64) -> Result<(), Memory>
+    ensures { OnOk result (Writes out.old (parts (command.Success request_id)) out.new) }
+{
+    append_number(out, 1, request_id)
+}
+
+fn append_error(
+    out: &mut ByteList,
+    request_id: u64,
+    error: u64,
+    message: &Text,
+) -> Result<(), Memory>
+    ensures { OnOk result (Writes out.old (parts (command.Error request_id error message.now)) out.new) }
+{
+    append_number(out, 1, request_id)?;
+    append_number(out, 2, error)?;
+    append_text(out, 3, message)
+}
+
+fn append_producer_success(
+    out: &mut ByteList,
+    request_id: u64,
+    producer_name: &Text,
+) -> Result<(), Memory>
+    ensures { OnOk result (Writes out.old (parts (command.ProducerSuccess request_id producer_name.now)) out.new) }
+{
+    append_number(out, 1, request_id)?;
+    append_text(out, 2, producer_name)
+}

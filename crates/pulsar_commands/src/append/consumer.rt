@@ -1,0 +1,149 @@
+//! What a consumer sends: SUBSCRIBE, ACK, FLOW, UNSUBSCRIBE and CLOSE_CONSUMER.
+
+ghost use Rattle.std.specs.Prelude.{◌≡◌, OnOk};
+ghost use Rattle.pulsar_commands.specs.declared.command.Command.TheVariants as command;
+ghost use Rattle.pulsar_commands.specs.Parts.{parts, kind_of, sub_number, ack_number};
+ghost use Rattle.pulsar_commands.specs.Senders.{IsOfConsumer};
+ghost use Rattle.pulsar_commands.specs.Canonical.{Writes};
+
+use crate::command::{Command, PositionList};
+use crate::ids::append_ids;
+use crate::parts::{append_flag, append_number, append_optional_text, append_text};
+use geo_base::{AckKind, SubKind, Text};
+use pb_fields::{ByteList, Memory};
+use std::alloc::Global;
+
+/// Appends the fields of a command of a consumer.
+pub(super) fn append_of_consumer(
+    alloc: Global,
+    out: &mut ByteList,
+    command: &Command,
+) -> Result<(), Memory>
+    requires { IsOfConsumer (kind_of command.now) }
+    ensures { OnOk result (Writes out.old (parts command.now) out.new) }
+{
+    match command {
+        Command::Subscribe {
+            topic,
+            subscription,
+            sub_type,
+            consumer_id,
+            request_id,
+            consumer_name,
+            initial_position,
+            replicate_subscription_state,
+        } => append_subscribe(
+            out,
+            topic,
+            subscription,
+            *sub_type,
+            *consumer_id,
+            *request_id,
+            consumer_name,
+            *initial_position,
+            *replicate_subscription_state,
+        ),
+        Command::Ack {
+            consumer_id,
+            ack_type,
+            message_id,
+        } => append_ack(alloc, out, *consumer_id, *ack_type, message_id),
+        Command::Flow {
+            consumer_id,
+            message_permits,
+        } => append_flow(out, *consumer_id, *message_permits),
+        Command::Unsubscribe {
+            consumer_id,
+            request_id,
+        } => append_unsubscribe(out, *consumer_id, *request_id),
+        Command::CloseConsumer {
+            consumer_id,
+            request_id,
+        } => append_close_consumer(out, *consumer_id, *request_id),
+        _ => unreachable!(),
+    }
+}
+
+fn append_subscribe(
+    out: &mut ByteList,
+    topic: &Text,
+    subscription: &Text,
+    sub_type: SubKind,
+    consumer_id: u64,
+    request_id: u64,
+    consumer_name: &Option<Text>,
+    initial_position: bool,
+    replicate_subscription_state: bool,
+) -> Result<(), Memory>
+    ensures { OnOk result (Writes out.old (parts (command.Subscribe topic.now subscription.now sub_type consumer_id request_id consumer_name.now initial_position replicate_subscription_state)) out.new) }
+{
+    append_text(out, 1, topic)?;
+    append_text(out, 2, subscription)?;
+    append_number(out, 3, sub_type_number(sub_type))?;
+    append_number(out, 4, consumer_id)?;
+    append_number(out, 5, request_id)?;
+    append_optional_text(out, 6, consumer_name)?;
+    append_flag(out, 13, initial_position)?;
+    append_flag(out, 14, replicate_subscription_state)
+}
+
+fn append_ack(
+    alloc: Global,
+    out: &mut ByteList,
+    consumer_id: u64,
+    ack_type: AckKind,
+    message_id: &PositionList,
+) -> Result<(), Memory>
+    ensures { OnOk result (Writes out.old (parts (command.Ack consumer_id ack_type message_id.now)) out.new) }
+{
+    append_number(out, 1, consumer_id)?;
+    append_number(out, 2, ack_type_number(ack_type))?;
+    append_ids(alloc, out, 3, message_id)
+}
+
+fn append_flow(out: &mut ByteList, consumer_id: u64, message_permits: u64) -> Result<(), Memory>
+    ensures { OnOk result (Writes out.old (parts (command.Flow consumer_id message_permits)) out.new) }
+{
+    append_number(out, 1, consumer_id)?;
+    append_number(out, 2, message_permits)
+}
+
+fn append_unsubscribe(out: &mut ByteList, consumer_id: u64, request_id: u64) -> Result<(), Memory>
+    ensures { OnOk result (Writes out.old (parts (command.Unsubscribe consumer_id request_id)) out.new) }
+{
+    append_number(out, 1, consumer_id)?;
+    append_number(out, 2, request_id)
+}
+
+fn append_close_consumer(
+    out: &mut ByteList,
+    consumer_id: u64,
+    request_id: u64,
+) -> Result<(), Memory>
+    ensures { OnOk result (Writes out.old (parts (command.CloseConsumer consumer_id request_id)) out.new) }
+{
+    append_number(out, 1, consumer_id)?;
+    append_number(out, 2, request_id)
+}
+
+/// The number of a value of subType.
+fn sub_type_number(kind: SubKind) -> u64
+    ensures { result ≡ sub_number kind }
+{
+    match kind {
+        SubKind::Exclusive => 0,
+        SubKind::Shared => 1,
+        SubKind::Failover => 2,
+        SubKind::KeyShared => 3,
+    }
+}
+
+/// The number of a value of ack_type.
+fn ack_type_number(kind: AckKind) -> u64
+    ensures { result ≡ ack_number kind }
+{
+    match kind {
+        AckKind::Individual => 0,
+        AckKind::Cumulative => 1,
+    }
+}
