@@ -21,10 +21,18 @@ fn main(rt: HostRuntime) -> ExitCode {
     ExitCode::from(status.number())
 }
 
-/// The words behind the program's name.
+/// The words behind the program's name. None where an argument is no UTF-8 text: no command has such a word, so the answer is
+/// that of words that are no command.
 fn words<R: Env + AllocGlobal>(rt: &R) -> io::Result<Vec<Word>> {
     let mut words = Vec::new(rt.alloc());
-    for word in env::args(rt)?.skip(1) {
+    let arguments = match env::args(rt) {
+        Ok(arguments) => arguments,
+        Err(fault) => match fault.kind() {
+            io::ErrorKind::InvalidData => return Ok(words),
+            _ => return Err(fault),
+        },
+    };
+    for word in arguments.skip(1) {
         words.push(Text::from_string(word))?;
     }
     Ok(words)
