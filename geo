@@ -1,14 +1,32 @@
 #!/usr/bin/env bash
 # Runs the program on standard input, as in: ./geo run < examples/one_message.geo
 #
-# The toolchain builds only what it has proved, which takes minutes. So until tools/build has made the program (.built/geo), or
-# where a source is newer than it, a call runs the unproved source by the toolchain's own means, in about a minute.
+# Where tools/build has made the program (.built/geo) and no source is newer, that is what runs. Else the source is compiled and
+# run without its proof, by the toolchain's `rt try`, which keeps nothing from one call to the next.
+#
+# The status is the program's own (docs/REPORT.md), or
+#   69  there is no build of this source, and no toolchain
+#   70  the toolchain failed; what it said is on standard error
 set -eu
 top=$(cd "$(dirname "$0")" && pwd)
 program=$top/.built/geo
 if [ -x "$program" ] && [ -z "$(find "$top"/crates/*/src "$top/crates.txt" -newer "$program" -print -quit)" ]; then
     exec "$program" "$@"
 fi
-echo "geo: running before the proof; tools/build proves the program and makes later calls quick" >&2
-cd "$top/crates/geo_cli"
-exec rt try --steps 2000000000 --seconds 600 -- "$@" 2>/dev/null
+if ! command -v rt >/dev/null; then
+    echo "geo: there is no build of this source, and no toolchain: rt, the command of the Rattle kit, is not in the path" >&2
+    exit 69
+fi
+echo "geo: there is no build of this source, so each call compiles it, unproved, in about a minute;" \
+    "tools/build makes one, and later calls are then quick" >&2
+said=$(mktemp)
+trap 'rm -f "$said"' EXIT
+status=0
+(cd "$top/crates/geo_cli" && exec rt try --seconds 600 -- "$@") 2>"$said" || status=$?
+# the toolchain's last line says whether the program ended by itself
+if tail -n 1 "$said" | grep -q '^run=ended '; then
+    exit "$status"
+fi
+cat "$said" >&2
+echo "geo: the toolchain did not run the program; what it said is above" >&2
+exit 70
