@@ -5,7 +5,9 @@ use crate::bytes::Text;
 use crate::entry::{Content, Entry, Ident, Metadata};
 use crate::marker::{ClusterPosition, Marker, Place};
 use crate::memory::Memory;
+use crate::position::Position;
 use crate::sequence::Sequence;
+use crate::snapshot::Cut;
 use std::alloc::Global;
 
 /// A copy of a text that may be absent.
@@ -149,5 +151,54 @@ impl Entry {
             meta: self.meta.copy(alloc)?,
             payload: self.payload.copy(alloc)?,
         })
+    }
+}
+
+impl Sequence<Option<Position>> {
+    /// A copy.
+    pub fn copy(&self, alloc: Global) -> Result<Sequence<Option<Position>>, Memory>
+        ensures { IfOk result (λ c. c ≡ self.now) }
+    {
+        match self.as_slice().to_vec(alloc) {
+            Ok(positions) => Ok(Sequence::from_vec(positions)),
+            Err(_) => Err(Memory),
+        }
+    }
+}
+
+impl Cut {
+    /// A copy.
+    pub fn copy(&self, alloc: Global) -> Result<Cut, Memory>
+        ensures { IfOk result (λ c. c ≡ self.now) }
+    {
+        Ok(Cut {
+            local: self.local,
+            remote: self.remote.copy(alloc)?,
+        })
+    }
+}
+
+#[cfg(test)]
+mod tests {
+    use super::*;
+    use std::test::Fail;
+
+    #[test]
+    fn a_cut_is_copied(rt: HostRuntime) -> Result<(), Fail> {
+        let here = Position {
+            ledger: 0,
+            entry: 7,
+        };
+        let mut remote: Sequence<Option<Position>> = Sequence::new(rt.alloc());
+        remote.push(None)?;
+        remote.push(Some(here))?;
+        let copy = Cut {
+            local: here,
+            remote,
+        }
+        .copy(rt.alloc())?;
+        assert_eq!(rt; copy.local, here);
+        assert_eq!(rt; copy.remote.as_slice(), [None, Some(here)].as_slice());
+        Ok(())
     }
 }

@@ -1,5 +1,5 @@
 //! A list that owns its items.
-ghost use Rattle.std.specs.Prelude.{◌≡◌, [], ◌∷◌, ◌++◌, length, OnOk, OnErr};
+ghost use Rattle.std.specs.Prelude.{◌≡◌, ◌<◌, [], ◌∷◌, ◌++◌, length, slice_set, OnOk, OnErr};
 
 use crate::memory::Memory;
 use std::alloc::Global;
@@ -62,6 +62,14 @@ impl<T: Drop> Sequence<T> {
             Err(_) => Err(Memory),
         }
     }
+
+    /// Another item at a place; takes no memory.
+    pub fn set(&mut self, place: usize, item: T)
+        requires { place < length self.old }
+        ensures { self.new ≡ slice_set self.old place item }
+    {
+        self.items[place] = item;
+    }
 }
 
 #[cfg(test)]
@@ -76,6 +84,8 @@ mod tests {
         numbers.push(1)?;
         assert_eq!(rt; numbers.as_slice(), [3, 1].as_slice());
         assert_eq!(rt; numbers.len(), 2);
+        numbers.set(1, 4);
+        assert_eq!(rt; numbers.as_slice(), [3, 4].as_slice());
         Ok(())
     }
 }
