@@ -44,3 +44,9 @@ pub mod Laws
 pub mod Message
 pub mod Built
 pub mod Worlds
+pub mod Nodes
+pub mod NodeState
+pub mod History
+pub mod Merge
+pub mod Agreement
+pub mod Difference
