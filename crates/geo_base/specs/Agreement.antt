@@ -13,15 +13,15 @@ use Rattle.geo_base.specs.World.{LinkName}
 abbrev pub IsBeginning : List Packet → List Packet → Type 0
 IsBeginning ps qs = (rest : List Packet) × (qs ≡ ps ++ rest)
 
--- a frame without the origin of its entry. The bytes of an entry do not say it: they have replicated_from, or else the cluster that the
--- frame came from stored the entry first (Api, MessageMetadata)
+-- a frame without the origin of its entry. The bytes of an entry do not say it: they have replicated_from, or else the
+-- cluster that the frame came from stored the entry first (Api, MessageMetadata)
 abbrev pub without_origin : Frame → Frame
 without_origin (frame.Send id seq source e) = frame.Send id seq source (with_origin 0 e)
 without_origin (frame.Message id position source e) = frame.Message id position source (with_origin 0 e)
 without_origin f = f
 
--- two packets that no event at any state tells apart. Equal packets are alike; so are two of which the bytes are equal, though their
--- values differ in what bytes do not say
+-- two packets that no event at any state tells apart. Equal packets are alike; so are two of which the bytes are equal,
+-- though their values differ in what bytes do not say
 pub record IsAlike (s : Setup) (p q : Packet) : Type 0 where
   pub stamp : p.stamp ≡ q.stamp
   pub acts : (st : NodeState) (e : Event) → acts s st e (Some p) ≡ acts s st e (Some q)
@@ -46,8 +46,8 @@ recorded_sent s hs k = sent_in s k (history_of hs (sender_of s k))
 abbrev pub recorded_taken : Setup → List (List RecordedEvent) → LinkName → List Packet
 recorded_taken s hs k = taken_in s k (opening_state s (taker_of s k)) (history_of hs (taker_of s k))
 
--- histories of all nodes: each replays from its node's opening state, and on every link what was taken is, but for what no event sees, a
--- beginning of what was sent
+-- histories of all nodes: each replays from its node's opening state, and on every link what was taken is, but for what no
+-- event sees, a beginning of what was sent
 pub record AreHistories (s : Setup) (hs : List (List RecordedEvent)) : Type 0 where
   pub nodes : length hs ≡ node_count s
   pub replay : (n : ℕ) → Replays s n (opening_state s n) 0 (history_of hs n)

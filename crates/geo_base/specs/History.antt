@@ -1,5 +1,6 @@
--- The history of a node: the events that happened at it, in order, each with the packet that it took, the packets that it sent, and its
--- stamp. It says nothing of other nodes, and its replay asks for none: so a node can keep and check its own (own).
+-- The history of a node: the events that happened at it, in order, each with the packet that it took, the packets that it
+-- sent, and its stamp. It says nothing of other nodes, and its replay asks for none: so a node can keep and check its own
+-- (own).
 use Rattle.std.specs.Prelude.{◌≡◌, ℕ, Bool, true, false, if◌then◌else◌, List, [], ◌∷◌, ◌++◌, map, Option, Some, None}
 use Rattle.geo_base.specs.Types.{Event, Out, Packet, Peer}
 use Rattle.geo_base.specs.Happening.{next_stamp}
@@ -29,8 +30,8 @@ is_input s n None None = true
 is_input s n (Some q) (Some p) = is_peer s n q
 is_input s n q p = false
 
--- a recorded event happens at node n, whose state is st and whose last stamp is clock: it is an event of that node and of the setup, it is
--- enabled there with the packet that it took, its stamp is the next one, and it sent just what it sends
+-- a recorded event happens at node n, whose state is st and whose last stamp is clock: it is an event of that node and of the
+-- setup, it is enabled there with the packet that it took, its stamp is the next one, and it sent just what it sends
 pub record HappensAt (s : Setup) (n : ℕ) (st : NodeState) (clock : ℕ) (d : RecordedEvent) : Type 0 where
   pub here : node_number s (node_of s d.event) ≡ n
   pub in_range : is_event s d.event ≡ true

@@ -13,8 +13,8 @@ pub record Merged : Type 0 where
   pub node : ℕ
   pub recorded : RecordedEvent
 
--- by stamp first: an event's stamp is greater than that of the packet that it took, and so than that of the event that sent it. Events
--- of equal stamps are of different nodes and exchange nothing, so any order of them would do; it is by node (own)
+-- by stamp first: an event's stamp is greater than that of the packet that it took, and so than that of the event that sent
+-- it. Events of equal stamps are of different nodes and exchange nothing, so any order of them would do; it is by node (own)
 abbrev pub comes_before : Merged → Merged → Bool
 comes_before a b = nat_lt a.recorded.stamp b.recorded.stamp || ((a.recorded.stamp == b.recorded.stamp) && nat_lt a.node b.node)
 

@@ -1,5 +1,5 @@
--- The state of a node, and what an event does to it: a function of that state and of the packet that the event takes. No other node's
--- state is looked at, so a node can do its events without a world.
+-- The state of a node, and what an event does to it: a function of that state and of the packet that the event takes. No
+-- other node's state is looked at, so a node can do its events without a world.
 use Rattle.std.specs.Prelude.{ℕ, ◌-◌, nat_lt, Bool, if◌then◌else◌, List, length, Option, Some, None, slice_index}
 use Rattle.geo_base.specs.Types.{Event, Out, Packet, Peer}
 use Rattle.geo_base.specs.Types.event
@@ -35,8 +35,8 @@ abbrev pub current : NodeState → Option Peer
 current (BrokerState b) = None
 current (ClientState k) = Some (peer.Broker k.cluster)
 
--- the peer whose next packet an event takes, if it takes one. That of a get is the client's current broker and not the declared
--- one, since a client moves
+-- the peer whose next packet an event takes, if it takes one. That of a get is the client's current broker and not the
+-- declared one, since a client moves
 abbrev pub takes_from : NodeState → Event → Option Peer
 takes_from st (event.Get c) = current st
 takes_from st (event.Serve x c) = Some (peer.Client c)

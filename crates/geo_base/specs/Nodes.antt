@@ -1,5 +1,5 @@
--- The nodes of a setup, their peers, and the links between them. What a node of Pulsar's is in one process here is one topic at one
--- cluster, that is one broker, or one client (own).
+-- The nodes of a setup, their peers, and the links between them. A node is what runs by itself: one topic at one cluster, that
+-- is its broker, or one client (own: a broker of Pulsar serves many topics, but they share nothing that replication asks for).
 use Rattle.std.specs.Prelude.{ℕ, ◌+◌, ◌*◌, ◌/◌, nat_lt, ◌==◌, Bool, false, not, ◌&&◌, length}
 use Rattle.geo_base.specs.Types.{Event, Peer}
 use Rattle.geo_base.specs.Types.event
@@ -51,9 +51,9 @@ node_of s (event.Restart t x) = BrokerNode t x
 abbrev pub is_event : Setup → Event → Bool
 is_event s e = in_range s e && is_node s (node_of s e)
 
--- the peers of a node, which are those that it shares links with: a broker's are the same topic's brokers at the other clusters, as
--- the targets that it replicates to (Forward) and as the sources that replicate to it (Back), and its topic's clients; a client's
--- are the brokers of its topic
+-- the peers of a node, which are those that it shares links with: a broker's are the same topic's brokers at the other
+-- clusters, as the targets that it replicates to (Forward) and as the sources that replicate to it (Back), and its topic's
+-- clients; a client's are the brokers of its topic
 abbrev pub is_peer : Setup → Node → Peer → Bool
 is_peer s (BrokerNode t x) (peer.Forward y) = nat_lt y (length s.clusters) && not (y == x)
 is_peer s (BrokerNode t x) (peer.Back y) = nat_lt y (length s.clusters) && not (y == x)

@@ -9,8 +9,8 @@ pub record BytePacket : Type 0 where
   pub stamp : ℕ
   pub frame : List ℕ
 
--- it stands for a packet of the machine: the same session and stamp, and the bytes stand for the frame, whichever cluster that says stored
--- its entry first; names are those of the clusters, by their numbers
+-- it stands for a packet of the machine: the same session and stamp, and the bytes stand for the frame, whichever cluster
+-- that says stored its entry first; names are those of the clusters, by their numbers
 pub record StandsForPacket (names : List (List ℕ)) (b : BytePacket) (p : Packet) : Type 0 where
   pub session : p.session ≡ b.session
   pub stamp : p.stamp ≡ b.stamp

@@ -1,5 +1,5 @@
--- A packet like that which a recorded event took does the same: so the event is one of the world also where the world's packet is only
--- alike, and what is said of the packets of two lists in a row is said of both.
+-- A packet like that which a recorded event took does the same: so the event is one of the world also where the world's
+-- packet is only alike, and what is said of the packets of two lists in a row is said of both.
 use Rattle.std.proofs.Common.{◌≡◌, ℕ, suc, ◌+◌, ◌<◌, max, Bool, true, false, List, [], ◌∷◌, ◌++◌, length, map, refl, sym, ap, ◌∙◌, ◌==◌, arith}
 use Rattle.std.specs.Prelude.{Option, Some, None, if◌then◌else◌}
 use Rattle.world_laws.proofs.Types.{Event, Packet, Peer}

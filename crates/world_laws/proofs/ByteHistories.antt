@@ -1,4 +1,5 @@
--- Histories of bytes that agree stand for histories of the law of the merge, where packets that the same bytes stand for are alike.
+-- Histories of bytes that agree stand for histories of the law of the merge, where packets that the same bytes stand for are
+-- alike.
 use Rattle.std.proofs.Common.{ℕ, Bool, true, false, List, [], ◌∷◌, ◌++◌, refl, sym, ap, subst}
 use Rattle.std.specs.Prelude.{Option, Some, None, if◌then◌else◌}
 use Rattle.world_laws.proofs.Types.{Event, Packet, Peer}

@@ -1,5 +1,5 @@
--- A client sends to its current cluster alone, and a new one is current from the packets on that move it. So the peer that a get
--- takes from can be read off a history: it is the last that the client sent to.
+-- A client sends to its current cluster alone, and a new one is current from the packets on that move it. So the peer that a
+-- get takes from can be read off a history: it is the last that the client sent to.
 use Rattle.std.proofs.Common.{◌≡◌, ℕ, ◌==◌, Bool, true, false, List, [], ◌∷◌, ◌++◌, length, map, refl, sym, ap, ◌∙◌, nat_lt}
 use Rattle.std.specs.List.{list_any}
 use Rattle.std.specs.Prelude.{Option, Some, None, ◌&&◌, slice_get, is_some}

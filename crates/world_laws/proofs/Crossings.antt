@@ -1,5 +1,5 @@
--- What is still to be taken from a link is a beginning of what waits on it and of what is still to be sent: so the next packet to
--- be taken is the next on the link, if nothing that is still to be sent is older.
+-- What is still to be taken from a link is a beginning of what waits on it and of what is still to be sent: so the next
+-- packet to be taken is the next on the link, if nothing that is still to be sent is older.
 use Rattle.std.proofs.Common.{◌≡◌, ℕ, ◌+◌, ◌<◌, ◌≤◌, Bool, true, false, List, [], ◌∷◌, ◌++◌, length, map, refl, sym, ap, subst, ◌∙◌, arith}
 use Rattle.std.specs.Prelude.{Option, Some, None, if◌then◌else◌, ◌&&◌, slice_get}
 use Rattle.std.proofs.lemmas.Bool.{eqb-true, false≢true, ltb-true, lt-ltb}

@@ -75,7 +75,8 @@ nodes : nodes_in (merge_of histories) ≡ 1 ∷ 2 ∷ 0 ∷ 0 ∷ 0 ∷ 2 ∷ 1 
 unfolding setup happened happens planned broker_does client_does steps reset take_packet receipt serve reconnect get go
 nodes = refl
 
--- the run over the merge, whose last two events stand the other way round than they happened, has the links that were recorded
+-- the run over the merge, whose last two events stand the other way round than they happened, has the links that were
+-- recorded
 taken_b : (link_at (run setup (steps_of (merge_of histories))).links (Back 1 0)).taken ≡ 1
 unfolding setup happened happens planned broker_does client_does steps reset take_packet receipt serve reconnect get go
 taken_b = refl

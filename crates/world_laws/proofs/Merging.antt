@@ -1,6 +1,6 @@
--- The world that does the events of a merged list: at every point of it each node still has to do what the rest of its history says,
--- from the state and the clock that the world gives it, and what is still to be taken from a link is a beginning of what waits
--- on it and of what is still to be sent.
+-- The world that does the events of a merged list: at every point of it each node still has to do what the rest of its
+-- history says, from the state and the clock that the world gives it, and what is still to be taken from a link is a
+-- beginning of what waits on it and of what is still to be sent.
 use Rattle.std.proofs.Common.{◌≡◌, ℕ, ◌+◌, ◌<◌, ◌≤◌, Bool, true, false, List, [], ◌∷◌, ◌++◌, length, refl, sym, ap, subst, ◌∙◌, ◌==◌, arith, nat_lt}
 use Rattle.std.specs.Prelude.{Option, Some, None, if◌then◌else◌, ◌&&◌, ◌||◌}
 use Rattle.std.proofs.lemmas.Bool.{eqb-true, eq-eqb, false≢true, ltb-true}

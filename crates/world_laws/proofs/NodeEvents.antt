@@ -1,5 +1,5 @@
--- An event is one of its node: it reads that node's state and the next packet of one link, and it changes that node, takes that
--- packet, and sends.
+-- An event is one of its node: it reads that node's state and the next packet of one link, and it changes that node, takes
+-- that packet, and sends.
 use Rattle.std.proofs.Common.{◌≡◌, ℕ, zero, suc, ◌+◌, ◌-◌, ◌<◌, Bool, true, false, List, [], ◌∷◌, ◌++◌, length, map, refl, sym, ap, subst, ◌∙◌, ◌==◌, arith, nat_lt}
 use Rattle.std.specs.Prelude.{Option, Some, None, if◌then◌else◌, slice_get, slice_index, slice_set}
 use Rattle.std.proofs.lemmas.Bool.{false≢true, ltb-true, lt-ltb}
@@ -107,8 +107,8 @@ pub record Fits (s : Setup) (w : World) : Type 0 where
   pub client_clocks : length w.client_clocks ≡ length s.clients
   pub links : (k : LinkName) → has_link s k ≡ true → HasLink w.links k
 
--- what an entry of a node's history does to the world: the node becomes st, its clock the entry's stamp, and each link carries
--- what the entry sent on it, and one packet less to be taken where the entry took it
+-- what an entry of a node's history does to the world: the node becomes st, its clock the entry's stamp, and each link
+-- carries what the entry sent on it, and one packet less to be taken where the entry took it
 pub record DoneBy (s : Setup) (w : World) (n : ℕ) (st : NodeState) (d : RecordedEvent) (at : Node) (from : Option Peer) (w' : World) : Type 0 where
   pub fits : Fits s w'
   pub states : (m : ℕ) → state_at s w' m ≡ (if n == m then st else state_at s w m)

@@ -1,5 +1,5 @@
--- No event looks at the origin of an entry in a packet: serve and take set their own, get that of the frame's source or of the link, and
--- nothing else looks at an entry.
+-- No event looks at the origin of an entry in a packet: serve and take set their own, get that of the frame's source or of
+-- the link, and nothing else looks at an entry.
 use Rattle.std.proofs.Common.{◌≡◌, ℕ, List, [], refl, sym, ap, ◌∙◌, ◌==◌}
 use Rattle.std.specs.Prelude.{Option, Some, None, if◌then◌else◌}
 use Rattle.world_laws.proofs.Types.{Entry, Event, Fate, Frame, Packet, Place, Position, Session}

@@ -12,8 +12,9 @@ use Rattle.geo_base.specs.World.{LinkName, World, link_at}
 abbrev pub merged_world : Setup → List (List RecordedEvent) → World
 merged_world s hs = run s (steps_of (merge_of hs))
 
--- a world is as recorded in the histories h, by node: each node has the state and the last stamp to which its history replays, and each
--- link has just the packets that its sender's history sent on it, of which so many were taken as its taker's history took
+-- a world is as recorded in the histories h, by node: each node has the state and the last stamp to which its history
+-- replays, and each link has just the packets that its sender's history sent on it, of which so many were taken as its
+-- taker's history took
 pub record IsAsRecorded (s : Setup) (h : ℕ → List RecordedEvent) (w : World) : Type 0 where
   pub states : (n : ℕ) → state_at s w n ≡ replayed s (opening_state s n) (h n)
   pub clocks : (n : ℕ) → clock_at s w n ≡ last_stamp 0 (h n)

@@ -9,13 +9,14 @@ ghost use Rattle.geo_base.specs.Scripted.{IsScripted};
 ghost use Rattle.geo_base.specs.Setup.{Setup};
 ghost use Rattle.world_laws.specs.Recorded.{IsAsRecorded, merged_world};
 
-/// What the nodes of a script recorded, each for itself, is one run of the machine. Given are histories of all nodes, each of which replays
-/// from its node's opening state; of each link, the packets taken from it are a beginning of those sent on it, or at least no
-/// event tells them apart (`exact`: the very same packets are a special case of that). Their merge has all their events and no others,
-/// each node's in their order, ordered by stamp and node, and it is the only such list. The machine's run over it, without limits, leaves each
-/// node in the state and with the last stamp to which its history replays, and on each link the packets that its sender
-/// recorded, as many of them taken as its taker recorded. So it is at every moment of that run too, for what the nodes recorded up to
-/// there. No event of the run is idle, and it has as many events as were recorded.
+/// What the nodes of a script recorded, each for itself, is one run of the machine. Given are histories of all nodes, each of
+/// which replays from its node's opening state; of each link, the packets taken from it are a beginning of those sent on it,
+/// or at least no event tells them apart (`exact`: the very same packets are a special case of that). Their merge has all
+/// their events and no others, each node's in their order, ordered by stamp and node, and it is the only such list. The
+/// machine's run over it, without limits, leaves each node in the state and with the last stamp to which its history replays,
+/// and on each link the packets that its sender recorded, as many of them taken as its taker recorded. So it is at every
+/// moment of that run too, for what the nodes recorded up to there. No event of the run is idle, and it has as many events as
+/// were recorded.
 pub fn law_merge()
     ensures exact { (s : Setup) (hs : List (List RecordedEvent)) → AreExactHistories s hs → AreHistories s hs }
     ensures order { (s : Setup) (hs : List (List RecordedEvent)) → AreHistories s hs → IsMerge hs (merge_of hs) }
@@ -27,8 +28,8 @@ pub fn law_merge()
         → ((merged_world s hs).idle ≡ 0) × ((merged_world s hs).events ≡ length (merge_of hs)) }
 {}
 
-/// Two packets of one session and one stamp whose frames differ at most in the origin of their entry are alike: no event at any state tells
-/// them apart. Bytes do not say that origin, so two packets that the same bytes stand for are alike.
+/// Two packets of one session and one stamp whose frames differ at most in the origin of their entry are alike: no event at
+/// any state tells them apart. Bytes do not say that origin, so two packets that the same bytes stand for are alike.
 pub fn law_alike()
     ensures { (s : Setup) (p q : Packet) → p.session ≡ q.session → p.stamp ≡ q.stamp → without_origin p.frame ≡ without_origin q.frame → IsAlike s p q }
 {}
