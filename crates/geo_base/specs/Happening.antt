@@ -3,7 +3,7 @@ use Rattle.std.specs.Prelude.{ℕ, ◌+◌, max, if◌then◌else◌, List, map,
 use Rattle.geo_base.specs.Types.{Event, Packet}
 use Rattle.geo_base.specs.Types.event
 use Rattle.geo_base.specs.Broker.{Broker}
-use Rattle.geo_base.specs.Client.{Acted, reconnect, unconnected}
+use Rattle.geo_base.specs.Client.{Acted, Client, reconnect, stays, unconnected}
 use Rattle.geo_base.specs.FrameSizes.{sent_bytes}
 use Rattle.geo_base.specs.Getting.{get}
 use Rattle.geo_base.specs.Going.{go}
@@ -44,6 +44,13 @@ broker_does s w p =
       frame_bytes = w.frame_bytes + sent_bytes s.clusters p.plan.sent;
     }
 
+-- what an event does at its client, which is k, with the packet that it takes; an event of a broker does nothing there
+abbrev pub client_acted : Setup → Client → Event → Option Packet → Acted
+client_acted s k (event.Go c) p = go s (declared_at s c) k
+client_acted s k (event.Reconnect c) p = reconnect s (declared_at s c) k
+client_acted s k (event.Get c) p = get (declared_at s c) k p
+client_acted s k e p = stays k
+
 -- an event of a client
 unfoldable pub client_does : Setup → World → ℕ → Option LinkName → Acted → World
 client_does s w c takes a =
@@ -68,11 +75,11 @@ does_planned s w (Some p) = broker_does s w p
 
 -- an event: idle where it is not enabled
 unfoldable pub happens : Setup → World → Event → World
-happens s w (event.Go c) = client_does s w c None (go s (declared_at s c) (client_at s w c))
-happens s w (event.Reconnect c) = client_does s w c None (reconnect s (declared_at s c) (client_at s w c))
+happens s w (event.Go c) = client_does s w c None (client_acted s (client_at s w c) (event.Go c) None)
+happens s w (event.Reconnect c) = client_does s w c None (client_acted s (client_at s w c) (event.Reconnect c) None)
 happens s w (event.Get c) =
     let k = ToClient c (client_at s w c).cluster in
-    client_does s w c (Some k) (get (declared_at s c) (client_at s w c) (next_packet (link_at w.links k)))
+    client_does s w c (Some k) (client_acted s (client_at s w c) (event.Get c) (next_packet (link_at w.links k)))
 happens s w e = does_planned s w (planned s w e)
 
 -- a stop behind the first k durable writes of an event: its packet is taken, nothing is sent, the node starts again. It is

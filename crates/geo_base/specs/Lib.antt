@@ -36,6 +36,7 @@ pub mod Planned
 pub mod Happening
 pub mod Run
 pub mod Report
+pub mod Moments
 pub mod Settled
 pub mod Safe
 pub mod Cuts
@@ -44,3 +45,9 @@ pub mod Laws
 pub mod Message
 pub mod Built
 pub mod Worlds
+pub mod Nodes
+pub mod NodeState
+pub mod History
+pub mod Merge
+pub mod Agreement
+pub mod Difference

@@ -2,12 +2,12 @@
 use Rattle.std.specs.Prelude.{ℕ, nat_lt, Bool, true, ◌&&◌, if◌then◌else◌, length, Option, Some, None}
 use Rattle.geo_base.specs.Types.{Event, Packet}
 use Rattle.geo_base.specs.Types.event
-use Rattle.geo_base.specs.Broker.{Broker, Site}
+use Rattle.geo_base.specs.Broker.{Broker}
 use Rattle.geo_base.specs.Forwarding.{receipt, reset, take_packet}
 use Rattle.geo_base.specs.Link.{next_packet}
 use Rattle.geo_base.specs.Markers.{snap}
 use Rattle.geo_base.specs.Offering.{offer}
-use Rattle.geo_base.specs.Plan.{Plan}
+use Rattle.geo_base.specs.Plan.{Plan, idle_plan}
 use Rattle.geo_base.specs.Reading.{read}
 use Rattle.geo_base.specs.Seeking.{restart, seek}
 use Rattle.geo_base.specs.Serving.{drop_client, serve}
@@ -20,25 +20,41 @@ pub record Planned : Type 0 where
   pub takes : Option LinkName
   pub plan : Plan
 
-abbrev pub plan_at : Setup → World → ℕ → ℕ → (Site → Broker → Plan) → Planned
-plan_at s w t x f = record { topic = t; cluster = x; takes = None; plan = f (site s t x) (topic_at s w t x) }
+-- the plan of an event at its broker, whose state is b, with the packet that it takes; an event of a client has none
+abbrev pub broker_plan : Setup → Broker → Event → Option Packet → Plan
+broker_plan s b (event.Serve x c) p = serve (site s (declared_at s c).topic x) b c p
+broker_plan s b (event.Drop x c) p = drop_client b c
+broker_plan s b (event.Reset t x y) p = reset (site s t x) b y
+broker_plan s b (event.Read t x y) p = read (site s t x) b y
+broker_plan s b (event.Take t x y f) p = take_packet (site s t y) b x f p
+broker_plan s b (event.Receipt t x y f) p = receipt (site s t x) b y f p
+broker_plan s b (event.Snap t x) p = snap (site s t x) b
+broker_plan s b (event.Offer t x n) p = offer (site s t x) b (sub_name s t n)
+broker_plan s b (event.Seek t x n to) p = seek (site s t x) b (sub_name s t n) to
+broker_plan s b (event.Restart t x) p = restart
+broker_plan s b (event.Go c) p = idle_plan
+broker_plan s b (event.Get c) p = idle_plan
+broker_plan s b (event.Reconnect c) p = idle_plan
 
-abbrev pub plan_taking : Setup → World → ℕ → ℕ → LinkName → (Site → Broker → Option Packet → Plan) → Planned
-plan_taking s w t x k f =
-    record { topic = t; cluster = x; takes = Some k; plan = f (site s t x) (topic_at s w t x) (next_packet (link_at w.links k)) }
+abbrev pub plan_at : Setup → World → ℕ → ℕ → Event → Planned
+plan_at s w t x e = record { topic = t; cluster = x; takes = None; plan = broker_plan s (topic_at s w t x) e None }
+
+abbrev pub plan_taking : Setup → World → ℕ → ℕ → LinkName → Event → Planned
+plan_taking s w t x k e =
+    record { topic = t; cluster = x; takes = Some k; plan = broker_plan s (topic_at s w t x) e (next_packet (link_at w.links k)) }
 
 -- of an event of a broker; a client's has none
 abbrev pub planned_in : Setup → World → Event → Option Planned
-planned_in s w (event.Serve x c) = Some (plan_taking s w (declared_at s c).topic x (ToBroker c x) (λ h b p. serve h b c p))
-planned_in s w (event.Drop x c) = Some (plan_at s w (declared_at s c).topic x (λ h b. drop_client b c))
-planned_in s w (event.Reset t x y) = Some (plan_at s w t x (λ h b. reset h b y))
-planned_in s w (event.Read t x y) = Some (plan_at s w t x (λ h b. read h b y))
-planned_in s w (event.Take t x y f) = Some (plan_taking s w t y (Forward (node s t x) y) (λ h b p. take_packet h b x f p))
-planned_in s w (event.Receipt t x y f) = Some (plan_taking s w t x (Back (node s t x) y) (λ h b p. receipt h b y f p))
-planned_in s w (event.Snap t x) = Some (plan_at s w t x (λ h b. snap h b))
-planned_in s w (event.Offer t x n) = Some (plan_at s w t x (λ h b. offer h b (sub_name s t n)))
-planned_in s w (event.Seek t x n to) = Some (plan_at s w t x (λ h b. seek h b (sub_name s t n) to))
-planned_in s w (event.Restart t x) = Some (plan_at s w t x (λ h b. restart))
+planned_in s w (event.Serve x c) = Some (plan_taking s w (declared_at s c).topic x (ToBroker c x) (event.Serve x c))
+planned_in s w (event.Drop x c) = Some (plan_at s w (declared_at s c).topic x (event.Drop x c))
+planned_in s w (event.Reset t x y) = Some (plan_at s w t x (event.Reset t x y))
+planned_in s w (event.Read t x y) = Some (plan_at s w t x (event.Read t x y))
+planned_in s w (event.Take t x y f) = Some (plan_taking s w t y (Forward (node s t x) y) (event.Take t x y f))
+planned_in s w (event.Receipt t x y f) = Some (plan_taking s w t x (Back (node s t x) y) (event.Receipt t x y f))
+planned_in s w (event.Snap t x) = Some (plan_at s w t x (event.Snap t x))
+planned_in s w (event.Offer t x n) = Some (plan_at s w t x (event.Offer t x n))
+planned_in s w (event.Seek t x n to) = Some (plan_at s w t x (event.Seek t x n to))
+planned_in s w (event.Restart t x) = Some (plan_at s w t x (event.Restart t x))
 planned_in s w (event.Go c) = None
 planned_in s w (event.Get c) = None
 planned_in s w (event.Reconnect c) = None

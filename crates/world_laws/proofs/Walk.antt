@@ -1,5 +1,5 @@
 -- Following a definition through its branches: a fact of a choice from that of both of its sides, and the parts of a test.
-use Rattle.std.proofs.Common.{◌≡◌, Bool, true, false, refl}
+use Rattle.std.proofs.Common.{◌≡◌, Bool, true, false, refl, sym}
 use Rattle.std.proofs.lemmas.Bool.{false≢true}
 use Rattle.std.specs.Prelude.{if◌then◌else◌, ◌&&◌}
 
@@ -16,6 +16,15 @@ on_test P false x y p q = q refl
 pub on_elim : {X : Type 0} (P : X → Type 0) (b : Bool) (x y : X) → P x → P y → P (elim b as (λ b. X) [ true ↦ x | false ↦ y ])
 on_elim P true x y p q = p
 on_elim P false x y p q = q
+
+-- a choice of which the test is known
+pub on_true : {X : Type 0} (b : Bool) (x y : X) → b ≡ true → (if b then x else y) ≡ x
+on_true true x y h = refl
+on_true false x y h = absurd (false≢true h)
+
+pub on_false : {X : Type 0} (b : Bool) (x y : X) → b ≡ false → (if b then x else y) ≡ y
+on_false true x y h = absurd (false≢true (sym h))
+on_false false x y h = refl
 
 pub left : (a b : Bool) → (a && b) ≡ true → a ≡ true
 left true b h = refl

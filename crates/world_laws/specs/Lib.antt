@@ -1,3 +1,3 @@
-pub mod Moments
-pub mod Replicated
 pub mod Within
+pub mod Recorded
+pub mod ByteHistories

@@ -4,8 +4,10 @@
 //! the definitions; nothing is done in its body, and its proof stands in `proofs/`.
 #![tactic(auto)]
 
+pub mod histories;
 pub mod replication;
 pub mod topics;
 
+pub use histories::{law_alike, law_merge};
 pub use replication::{law_prefix, law_receipt};
 pub use topics::law_once;

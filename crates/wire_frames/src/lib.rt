@@ -1,0 +1,18 @@
+//! Frames as values of the written machine, read from the bytes that links carry, and written as them.
+//!
+//! The codec crates say what bytes mean in the words of the protocol. Here their frames become the machine's: names of
+//! clusters become numbers, target lists become masks, payloads of markers become markers; and back. Any bytes say one
+//! value; a value is written as its one canonical text.
+#![tactic(auto)]
+
+mod command;
+mod content;
+mod entry;
+mod laws;
+mod place;
+mod read;
+mod write;
+
+pub use laws::{canonical_value, one_value, text_sizes};
+pub use read::read_value;
+pub use write::write_value;

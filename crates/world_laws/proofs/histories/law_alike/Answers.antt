@@ -1,0 +1,5 @@
+use Rattle.world_laws.proofs.Origins.{alike_without_origin}
+use Rattle.world_laws.proofs.histories.law_alike.Goals as goal
+
+pub returns : goal.returns
+returns c = alike_without_origin
