@@ -28,5 +28,5 @@ if tail -n 1 "$said" | grep -q '^run=ended '; then
     exit "$status"
 fi
 cat "$said" >&2
-echo "geo: the toolchain did not run the program; what it said is above" >&2
+echo "geo: the toolchain gave no answer of the program; what it said is above" >&2
 exit 70
