@@ -30,8 +30,6 @@ use Rattle.geo_base.specs.Topic.{index_of}
 use Rattle.geo_base.specs.Updating.{positions_for}
 use Rattle.geo_base.specs.World.{World, topic_at}
 
--- WHEN A LAW HOLDS
-
 -- always, in the runs of a setup: at the end of each, also of one that a limit ends, between any two events, also of settling,
 -- and after each single durable write
 pub record Always (s : Setup) (Holds : World → SettledSoFar → Type 0) : Type 0 where
@@ -61,12 +59,12 @@ IsShort w = w.events < 2 ^ 62
 abbrev pub ArePair : Setup → ℕ → ℕ → Type 0
 ArePair s x y = (x < length s.clusters) × (y < length s.clusters) × (x ≢ y)
 
--- ONCE: of two entries of one origin and producer in a topic the earlier has the smaller sequence id
+-- once: of two entries of one origin and producer in a topic the earlier has the smaller sequence id
 
 abbrev pub LawOnce : Type 0
 LawOnce = (s : Setup) → Always s (λ w settled. AllOnce w)
 
--- PREFIX: what y has of origin x is a beginning of what x has of origin x for y
+-- prefix: what y has of origin x is a beginning of what x has of origin x for y
 
 -- the entries that cluster x stored first
 abbrev pub of_origin : ℕ → List Entry → List Entry
@@ -83,7 +81,7 @@ IsPrefix s w = (t x y : ℕ) → ArePair s x y
 abbrev pub LawPrefix : Type 0
 LawPrefix = (s : Setup) → Always s (λ w settled. IsPrefix s w)
 
--- RECEIPT: what x's cursor for y has acknowledged of these stands at y
+-- receipt: what x's cursor for y has acknowledged of these stands at y
 
 abbrev pub IsReceived : Setup → World → Type 0
 IsReceived s w = (t x y i : ℕ) (e : Entry) → ArePair s x y
@@ -93,7 +91,7 @@ IsReceived s w = (t x y i : ℕ) (e : Entry) → ArePair s x y
 abbrev pub LawReceipt : Type 0
 LawReceipt = (s : Setup) → Always s (λ w settled. IsReceived s w)
 
--- POSITION: a response of y names the entry before it, and answers a request of the cluster that it goes to
+-- position: a response of y names the entry before it, and answers a request of the cluster that it goes to
 
 -- a marker of origin y stands at index i
 pub record MarkerAt (b : Broker) (i y : ℕ) (m : Marker) : Type 0 where
@@ -119,7 +117,7 @@ NamesPosition s w = (t y j : ℕ) (id : List ℕ) (answer : ClusterPosition) →
 abbrev pub LawPosition : Type 0
 LawPosition = (s : Setup) → Always s (λ w settled. NamesPosition s w)
 
--- SECOND ROUND: where a builder at x is in round two, and c has answered it at index j, each entry of c that stands at y at or
+-- second round: where a builder at x is in round two, and c has answered it at index j, each entry of c that stands at y at or
 -- below the position that the builder keeps for y stands at c below j
 
 abbrev pub ComesAfter : Setup → World → Type 0
@@ -133,7 +131,7 @@ ComesAfter s w = (t x c y j i l : ℕ) (u : Builder) (f : Entry) (answer : Clust
 abbrev pub LawSecondRound : Type 0
 LawSecondRound = (s : Setup) → IsScripted s → Always s (λ w settled. IsShort w → ComesAfter s w)
 
--- CUT: each snapshot marker in x's topic is of origin x and is a cut of x, and so is each snapshot in a cache there
+-- cut: each snapshot marker in x's topic is of origin x and is a cut of x, and so is each snapshot in a cache there
 
 abbrev pub MarkersCut : Setup → World → Type 0
 MarkersCut s w = (t x i : ℕ) (e : Entry) (id : List ℕ) (local : Position) (remote : List ClusterPosition) → x < length s.clusters
@@ -149,7 +147,7 @@ CachesCut s w = (t x k : ℕ) (v : Subscription) (c : CachedSnapshot) → x < le
 abbrev pub LawCut : Type 0
 LawCut = (s : Setup) → IsScripted s → Always s (λ w settled. IsShort w → MarkersCut s w × CachesCut s w)
 
--- UPDATE: an update of a for subscription n names, for each other cluster y, one stored position, and each message that stands at
+-- update: an update of a for subscription n names, for each other cluster y, one stored position, and each message that stands at
 -- y at or below it and is meant for a is settled on n
 
 abbrev pub NamesSettled : Setup → World → SettledSoFar → Type 0
@@ -161,7 +159,7 @@ NamesSettled s w settled = (t z i a y : ℕ) (n : List ℕ) (remote : List Clust
 abbrev pub LawUpdate : Type 0
 LawUpdate = (s : Setup) → IsScripted s → Always s (λ w settled. IsShort w → NamesSettled s w settled)
 
--- SAFE: (a) only what is settled is acknowledged, (b) each message stands once and in order, (c) nothing due is forgotten. The
+-- safe: (a) only what is settled is acknowledged, (b) each message stands once and in order, (c) nothing due is forgotten. The
 -- last is of memory too, and an event changes memory only behind its writes
 
 pub record LawSafe : Type 0 where
@@ -169,7 +167,7 @@ pub record LawSafe : Type 0 where
   pub once : (s : Setup) → Always s (λ w settled. AllOnce w)
   pub kept : (s : Setup) → BetweenEvents s NothingForgotten
 
--- OFFERS: with a consumer and permits enough, twice as many offers as there are entries, and ten more, bring every message out,
+-- offers: with a consumer and permits enough, twice as many offers as there are entries, and ten more, bring every message out,
 -- if nothing else happens at that broker meanwhile
 
 -- what is planned is of another broker, or of none
@@ -212,7 +210,7 @@ IsServed s w = (t x n : ℕ) (v : Subscription) (end : World) → t < length s.t
 abbrev pub LawOffers : Type 0
 LawOffers = (s : Setup) → BetweenEvents s (IsServed s)
 
--- BUDGET: settling ends within its rounds, in a world where nothing is left to do, each round before does an event that is not
+-- budget: settling ends within its rounds, in a world where nothing is left to do, each round before does an event that is not
 -- idle, and then all has come over
 
 abbrev pub begun : World → Ran

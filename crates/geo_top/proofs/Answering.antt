@@ -5,14 +5,14 @@ use Rattle.std.proofs.Common.{◌≡◌, ℕ, ◌≤◌, arith, Bool, true, fals
 use Rattle.std.proofs.lemmas.List.{append-nil}
 use Rattle.std.specs.Prelude.{Option, Some, None, IfOk, IfSome, Result, Ok, Err, IsOkAnd, if◌then◌else◌, length, nat_lt, take, ⊤}
 use Rattle.geo_base.specs.declared.memory.Memory.{Memory}
-use Rattle.geo_base.specs.Run.{no_limits}
+use Rattle.geo_base.specs.Safe.{AllOnce}
 use Rattle.geo_io.specs.Faults.{Rose}
 use Rattle.geo_io.specs.Sink.{Gains}
 use Rattle.geo_io.specs.Source.{LongerThan}
 use Rattle.script.specs.Rules.{script_of}
 use Rattle.script.specs.Script.{Fault, Script}
-use Rattle.world_laws.specs.Moments.{NotBegun}
-use Rattle.world_laws.proofs.Once.{once_at, once_in_run}
+use Rattle.world_laws.proofs.Once.{once_always}
+use Rattle.world_laws.proofs.Runs.{always_in}
 use Rattle.geo_top.specs.declared.top.answer.Answer.{Answer}
 use Rattle.geo_top.specs.declared.top.command.Command.{Command}
 use Rattle.geo_top.specs.declared.top.command.Command.TheVariants as command
@@ -24,10 +24,7 @@ use Rattle.geo_top.proofs.Limits.{IsOnlyLimit, only_limit}
 
 -- once and in order, always
 pub always_once : (n : Script) → IsAlwaysOnce n
-always_once n = record {
-  between = λ k z. once_in_run n.setup (take k n.steps) z;
-  within = λ k j z e at. once_at no_limits n.setup (record { steps = take k n.steps; settling = NotBegun; event = e; writes = j }) z;
-}
+always_once n = always_in n.setup n.steps (λ w settled. AllOnce w) (once_always n.setup)
 
 -- an answer to a script that is Ok, or names a line
 ok_run : (m : Script) (a : Answer) (o : Option ℕ) → a ≡ answer_to_run m o → a.status ≡ status.Ok → a.bytes ≡ report_of m

@@ -1,18 +1,14 @@
 -- What the program is to write.
-use Rattle.std.specs.Prelude.{◌≡◌, ◌⊎◌, ℕ, nat_lt, ⊤, if◌then◌else◌, List, [], length, take, Option, Some, None, IfSome, IsOkAnd, Result, Ok, Err, slice_get}
-use Rattle.geo_base.specs.declared.event.Event.{Event}
-use Rattle.geo_base.specs.declared.event.Step.TheVariants as step
-use Rattle.geo_base.specs.Planned.{planned}
+use Rattle.std.specs.Prelude.{◌≡◌, ◌⊎◌, ℕ, nat_lt, ⊤, if◌then◌else◌, List, [], length, take, Option, Some, None, IfSome, IsOkAnd, Result, Ok, Err}
+use Rattle.geo_base.specs.Laws.{AlwaysIn}
 use Rattle.geo_base.specs.Report.{report}
 use Rattle.geo_base.specs.Run.{event_limit, run, run_under}
-use Rattle.geo_base.specs.Safe.{IsOnce}
-use Rattle.geo_base.specs.World.{World, broker_at}
+use Rattle.geo_base.specs.Safe.{AllOnce}
 use Rattle.geo_io.specs.Faults.{Rose}
 use Rattle.geo_io.specs.Sink.{Gains}
 use Rattle.geo_io.specs.Source.{LongerThan}
 use Rattle.script.specs.Rules.{script_of}
 use Rattle.script.specs.Script.{Fault, Script}
-use Rattle.world_laws.specs.Moments.{partly_written}
 use Rattle.geo_top.specs.declared.top.answer.Answer.{Answer}
 use Rattle.geo_top.specs.declared.top.command.Command.{Command}
 use Rattle.geo_top.specs.declared.top.command.Command.TheVariants as command
@@ -64,12 +60,10 @@ WritesLine status.Ok old new = ⊤
 WritesLine status.WriteFault old new = ⊤
 WritesLine s old new = Gains old new (refusal_line s)
 
--- Once and in order at every moment of the run of a script: in the topic of every broker, when a beginning of the steps is done,
--- and when a beginning of the durable writes of the next event is done too.
-pub record IsAlwaysOnce (n : Script) : Type 0 where
-  pub between : (k z : ℕ) → IsOnce (broker_at (run n.setup (take k n.steps)) z)
-  pub within : (k j z : ℕ) (e : Event) → slice_get n.steps k ≡ Some (step.Plain e)
-      → let w : World = run n.setup (take k n.steps) in IsOnce (broker_at (partly_written n.setup w j (planned n.setup w e)) z)
+-- once and in order in the topic of every broker, always in the run of a script, also inside settling and after each single
+-- durable write
+abbrev pub IsAlwaysOnce : Script → Type 0
+IsAlwaysOnce n = AlwaysIn n.setup n.steps (λ w settled. AllOnce w)
 
 -- A limit that a run of the program passes: 1, more bytes than are read; 2, more events than are done.
 abbrev pub IsPassed : Option (List ℕ) → ℕ → Type 0

@@ -9,7 +9,7 @@ use Rattle.geo_base.specs.Happening.{stamp_of}
 use Rattle.geo_base.specs.Scripted.{IsScripted, is_declared}
 use Rattle.geo_base.specs.Setup.{Setup, declared_at, nobody}
 use Rattle.geo_base.specs.World.{LinkName, Links, World, client_at, node, packet_at, topic_at}
-use Rattle.world_laws.specs.Within.{BrokerPlaces}
+use Rattle.geo_base.specs.Worlds.{BrokerPlaces}
 use Rattle.world_laws.proofs.Bounds.{packet_within}
 use Rattle.world_laws.proofs.Walk.{left, right}
 use Rattle.client_core.specs.Counted.{CanCount}

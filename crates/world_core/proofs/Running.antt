@@ -13,11 +13,11 @@ use Rattle.geo_base.specs.Planned.{Planned, planned}
 use Rattle.geo_base.specs.Run.{Limits, Ran, ends_or, event_limit, goes_on, no_limits, run, run_from, run_under, steps}
 use Rattle.geo_base.specs.Setup.{Setup}
 use Rattle.geo_base.specs.World.{LinkName, World, opening_world}
-use Rattle.world_laws.specs.Within.{WorldPlaces, WorldWithin}
+use Rattle.geo_base.specs.Worlds.{IsWorldOf}
+use Rattle.world_laws.specs.Within.{WorldWithin}
 use Rattle.world_laws.proofs.Bounds.{event_within, opening_within, within_more}
 use Rattle.world_laws.proofs.Places.{event_places, opening_places}
 use Rattle.script.specs.Scenario.{IsStep}
-use Rattle.geo_base.specs.Worlds.{IsWorldOf}
 use Rattle.world_core.specs.Machines.{IsRun, IsStepOf, PassesLimit, WorldFits, WouldPass, done_steps, ran, uncounted}
 use Rattle.world_core.specs.declared.world.run.RunFault.{RunFault}
 use Rattle.world_core.specs.declared.world.run.RunFault.TheVariants as run_fault
@@ -154,7 +154,7 @@ uncounted_within s n w h = record {
   stamps = h.stamps;
 }
 
-uncounted_places : (s : Setup) (w : World) → WorldPlaces s w → WorldPlaces s (uncounted w)
+uncounted_places : (s : Setup) (w : World) → IsWorldOf s w → IsWorldOf s (uncounted w)
 uncounted_places s w h =
     record { brokers = h.brokers; clients = h.clients; broker_clocks = h.broker_clocks; client_clocks = h.client_clocks; each = h.each }
 
@@ -210,9 +210,6 @@ take_whole [] zero h = refl
 take_whole [] (suc i) h = refl
 take_whole (e ∷ es) zero h = absurd (omega arith)
 take_whole (e ∷ es) (suc i) h = ap (λ (fs : List Step). e ∷ fs) (take_whole es i (omega arith))
-
-pub world_of : (s : Setup) (w : World) → WorldPlaces s w → IsWorldOf s w
-world_of s w p = record { brokers = p.brokers; clients = p.clients }
 
 -- a run that came to its end passed no limit
 pub run_within : (s : Setup) (es : List Step) (w : World) → IsRun s es w → (run_under event_limit s es).ended ≡ None

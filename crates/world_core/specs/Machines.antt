@@ -5,11 +5,12 @@ use Rattle.geo_base.specs.declared.event.Step.TheVariants as step
 use Rattle.geo_base.specs.Happening.{happens}
 use Rattle.geo_base.specs.Run.{Ran, event_limit, run_under}
 use Rattle.geo_base.specs.Setup.{Setup}
+use Rattle.geo_base.specs.Worlds.{IsWorldOf}
 use Rattle.geo_base.specs.World.{LinkName, World, opening_world, taken_from}
 use Rattle.world_core.specs.declared.world.run.RunFault.{RunFault}
 use Rattle.world_core.specs.declared.world.run.RunFault.TheVariants as run_fault
 use Rattle.topic_book.specs.Room.{Room}
-use Rattle.world_laws.specs.Within.{WorldPlaces, WorldWithin}
+use Rattle.world_laws.specs.Within.{WorldWithin}
 
 -- with the room of each broker
 pub record Machine : Type 0 where
@@ -31,7 +32,7 @@ client_took w c takes stamp = record w {
 -- its places are those of the setup, and its numbers may all rise by one
 pub record WorldFits (s : Setup) (w : World) : Type 0 where
   pub within : WorldWithin s (2 ^ 63 - 1) w
-  pub places : WorldPlaces s w
+  pub places : IsWorldOf s w
 
 -- one event after another; other steps are not built yet
 abbrev pub done_steps : Setup → World → List Step → World
@@ -48,7 +49,7 @@ pub record IsRun (s : Setup) (es : List Step) (w : World) : Type 0 where
   pub world : w ≡ uncounted (done_steps s (opening_world s) es)
   pub limited : run_under event_limit s es ≡ ran (done_steps s (opening_world s) es)
   pub within : WorldWithin s (length es) w
-  pub places : WorldPlaces s w
+  pub places : IsWorldOf s w
 
 -- what a step of a schedule makes of a world, within the limit on events; other steps are not built yet
 abbrev pub IsStepOf : Setup → World → World → Step → Type 0
