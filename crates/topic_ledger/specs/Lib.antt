@@ -1,0 +1,4 @@
+pub mod Firsts
+pub mod Ledger
+pub mod Messages
+pub mod Store

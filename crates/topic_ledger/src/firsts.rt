@@ -1,0 +1,100 @@
+//! Positions from the first index of each ledger.
+ghost use Rattle.std.specs.Prelude.{◌≡◌, ◌<◌, ◌≤◌, ◌+◌, ◌^◌, [], ◌∷◌, ◌++◌, length, slice_index, vec_len, vec_capacity};
+ghost use Rattle.geo_base.specs.Topic.{grown, index_of, next_position, position_of};
+ghost use Rattle.topic_ledger.specs.Firsts.{lengths_of, AreFirsts, IsLedgerOf, NeverFall};
+
+use crate::entry_of::entry_of;
+use geo_base::position::Position;
+
+/// Where the next entry of a topic of `len` entries goes.
+#[tactic(auto, using(crate::proofs::Found::first_within, crate::proofs::Found::next_here, crate::proofs::Found::next_opens))]
+pub(crate) fn next_position(per_ledger: u64, firsts: &[u64], len: u64) -> Position
+    requires { AreFirsts firsts.now len }
+    ensures { result ≡ next_position per_ledger (lengths_of firsts.now len) }
+{
+    let last = firsts.len() - 1;
+    let entry = len - firsts[last];
+    if entry < per_ledger {
+        Position {
+            ledger: last as u64,
+            entry,
+        }
+    } else {
+        Position {
+            ledger: firsts.len() as u64,
+            entry: 0,
+        }
+    }
+}
+
+/// Opens the next ledger where the last one is full, before entry number `len` is appended.
+#[tactic(auto, using(crate::proofs::Found::first_within, crate::proofs::Found::grown_here, crate::proofs::Found::grown_opens, crate::proofs::FirstIndexes::rising_more, crate::proofs::FirstIndexes::firsts_push))]
+pub(crate) fn grow(per_ledger: u64, firsts: &mut Vec<u64>, len: u64)
+    requires firsts { AreFirsts firsts.old.items len }
+    requires room { vec_len firsts.old < vec_capacity firsts.old }
+    ensures lengths { lengths_of firsts.new.items (len + 1) ≡ grown per_ledger (lengths_of firsts.old.items len) }
+    ensures firsts { AreFirsts firsts.new.items (len + 1) }
+    ensures len { vec_len firsts.new ≤ vec_len firsts.old + 1 }
+    ensures capacity { vec_capacity firsts.old ≤ vec_capacity firsts.new }
+{
+    let last = firsts.len() - 1;
+    if len - firsts[last] >= per_ledger {
+        firsts.push_reserved(len); // the entry is its first
+    }
+}
+
+/// Opens the next ledger of a topic of `len` entries.
+#[tactic(auto, using(crate::proofs::Found::opened_lengths, crate::proofs::FirstIndexes::firsts_push))]
+pub(crate) fn open(firsts: &mut Vec<u64>, len: u64)
+    requires firsts { AreFirsts firsts.old.items len }
+    requires room { vec_len firsts.old < vec_capacity firsts.old }
+    ensures lengths { lengths_of firsts.new.items len ≡ lengths_of firsts.old.items len ++ 0 ∷ [] }
+    ensures firsts { AreFirsts firsts.new.items len }
+    ensures len { vec_len firsts.new ≡ vec_len firsts.old + 1 }
+    ensures capacity { vec_capacity firsts.old ≤ vec_capacity firsts.new }
+{
+    firsts.push_reserved(len); // also where the last one is empty
+}
+
+/// The position of the entry at an index.
+#[tactic(auto, using(crate::proofs::Found::position_found, crate::proofs::Found::no_position))]
+pub(crate) fn position_of(firsts: &[u64], len: u64, index: u64) -> Option<Position>
+    requires { AreFirsts firsts.now len }
+    ensures { result ≡ position_of (lengths_of firsts.now len) index }
+{
+    if index >= len {
+        return None;
+    }
+    let ledger = ledger_of(firsts, index);
+    Some(Position {
+        ledger: ledger as u64,
+        entry: index - firsts[ledger],
+    })
+}
+
+/// The ledger that an index stands in, by binary search; an empty ledger has no index.
+fn ledger_of(firsts: &[u64], index: u64) -> usize
+    requires opened { 0 < length firsts.now }
+    requires begun { slice_index firsts.now 0 ≡ 0 }
+    requires rise { NeverFall firsts.now }
+    ensures { IsLedgerOf firsts.now index result }
+{
+    firsts.partition_point(|first| *first <= index) - 1
+}
+
+/// The index that a position counts to.
+#[tactic(auto, using(crate::proofs::Found::next_above, crate::proofs::Found::first_within, crate::proofs::Found::index_before_next, crate::proofs::Found::index_in_last, crate::proofs::Found::no_index))]
+pub(crate) fn index_of(firsts: &[u64], len: u64, position: &Position) -> Option<u64>
+    requires { AreFirsts firsts.now len }
+    ensures { result ≡ index_of (lengths_of firsts.now len) position.now }
+{
+    if position.ledger >= firsts.len() as u64 {
+        return None;
+    }
+    let ledger = position.ledger as usize;
+    let first = firsts[ledger];
+    if ledger + 1 < firsts.len() {
+        return entry_of(first, firsts[ledger + 1] - first, position.entry);
+    }
+    entry_of(first, len - first, position.entry)
+}
