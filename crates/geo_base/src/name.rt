@@ -182,6 +182,13 @@ impl ProducerName {
         })
     }
 
+    /// A text that came as a producer's name; takes no memory.
+    pub fn from_text(text: Text) -> ProducerName
+        ensures { result ≡ text }
+    {
+        ProducerName { text }
+    }
+
     /// The name's text.
     pub fn as_str(&self) -> &str
         ensures { result.now ≡ self.now }

@@ -1,12 +1,15 @@
 //! Writing metadata.
 
-ghost use Rattle.std.specs.Prelude.{◌≡◌, ◌++◌, map, IsUtf8, IfOk, OnOk, IfSome};
+ghost use Rattle.std.specs.Prelude.{◌≡◌, [], ◌++◌, map, IsUtf8, IfOk, OnOk, IfSome};
 ghost use Rattle.std.specs.List.{AllByRecursion};
+ghost use Rattle.std.specs.Option.{option_copied};
 ghost use Rattle.pb_fields.specs.Field.{IsFieldNumber, IsField, varint_field, bytes_field};
 ghost use Rattle.pb_fields.specs.Canonical.{field_text, text, optional};
 ghost use Rattle.message_meta.specs.Metadata.{IsMetaText};
 ghost use Rattle.message_meta.specs.Canonical.{IsMetadata, required_fields, optional_fields, canonical_fields};
+ghost use Rattle.message_meta.specs.Known.{IsKnown, joined, known_fields};
 
+use crate::known::KnownMeta;
 use crate::meta::{Meta, TextList};
 use crate::table::{
     MARKER_TYPE, PARTITION_KEY, PRODUCER_NAME, PUBLISH_TIME, REPLICATE_TO, REPLICATED_FROM,
@@ -31,45 +34,73 @@ impl Meta {
     }
 }
 
+#[tactic(auto, using(crate::proofs::Joined::same_text, crate::proofs::Joined::same_metadata))]
 fn append_meta(out: &mut ByteList, meta: &Meta) -> Result<(), pb_fields::Memory>
     ensures ok { OnOk result (out.new ≡ out.old ++ text (canonical_fields meta.now)) }
     ensures fits { OnOk result (IsMetadata meta.now) }
 {
-    append_required(out, meta)?;
-    append_optional(out, meta)?;
+    append_known(out, meta.known())?;
     write_fields(out, &meta.rest)
 }
 
-fn append_required(out: &mut ByteList, meta: &Meta) -> Result<(), pb_fields::Memory>
-    ensures ok { OnOk result (out.new ≡ out.old ++ text (required_fields meta.now)) }
-    ensures fields { OnOk result (AllByRecursion IsField (required_fields meta.now)) }
-    ensures producer { OnOk result (IsUtf8 meta.now.producer) }
+/// Appends the fields that the table names.
+pub(crate) fn append_known(
+    out: &mut ByteList,
+    known: KnownMeta<'_>,
+) -> Result<(), pb_fields::Memory>
+    ensures ok { OnOk result (out.new ≡ out.old ++ text (known_fields known.entry)) }
+    ensures fits { OnOk result (IsKnown known.entry) }
 {
-    append_text(out, PRODUCER_NAME, &meta.producer)?;
-    write_varint(out, SEQUENCE_ID, meta.seq)?;
-    write_varint(out, PUBLISH_TIME, meta.publish_time)
+    append_required(out, known)?;
+    append_optional(out, known)
 }
 
-fn append_optional(out: &mut ByteList, meta: &Meta) -> Result<(), pb_fields::Memory>
-    ensures ok { OnOk result (out.new ≡ out.old ++ text (optional_fields meta.now)) }
-    ensures fields { OnOk result (AllByRecursion IsField (optional_fields meta.now)) }
-    ensures replicated_from { OnOk result (IfSome meta.now.replicated_from IsUtf8) }
-    ensures key { OnOk result (IfSome meta.now.key IsUtf8) }
-    ensures replicate_to { OnOk result (AllByRecursion IsUtf8 meta.now.replicate_to) }
+fn append_required(out: &mut ByteList, known: KnownMeta<'_>) -> Result<(), pb_fields::Memory>
+    ensures ok { OnOk result (out.new ≡ out.old ++ text (required_fields (joined known.entry []))) }
+    ensures fields { OnOk result (AllByRecursion IsField (required_fields (joined known.entry []))) }
+    ensures producer { OnOk result (IsUtf8 known.entry.producer.now) }
 {
-    append_optional_text(out, REPLICATED_FROM, &meta.replicated_from)?;
-    append_optional_text(out, PARTITION_KEY, &meta.key)?;
-    append_texts(out, REPLICATE_TO, &meta.replicate_to)?;
-    write_optional_varint(out, MARKER_TYPE, meta.marker)
+    append_text(out, PRODUCER_NAME, known.producer)?;
+    write_varint(out, SEQUENCE_ID, known.seq)?;
+    write_varint(out, PUBLISH_TIME, known.publish_time)
 }
 
-fn append_text(out: &mut ByteList, number: u32, content: &Text) -> Result<(), pb_fields::Memory>
+fn append_optional(out: &mut ByteList, known: KnownMeta<'_>) -> Result<(), pb_fields::Memory>
+    ensures ok { OnOk result (out.new ≡ out.old ++ text (optional_fields (joined known.entry []))) }
+    ensures fields { OnOk result (AllByRecursion IsField (optional_fields (joined known.entry []))) }
+    ensures replicated_from { OnOk result (IfSome (option_copied known.entry.replicated_from) IsUtf8) }
+    ensures key { OnOk result (IfSome known.entry.key.now IsUtf8) }
+    ensures replicate_to { OnOk result (AllByRecursion IsUtf8 known.entry.replicate_to.now) }
+{
+    append_optional_str(out, REPLICATED_FROM, known.replicated_from)?;
+    append_optional_text(out, PARTITION_KEY, known.key)?;
+    append_texts(out, REPLICATE_TO, known.replicate_to)?;
+    write_optional_varint(out, MARKER_TYPE, known.marker)
+}
+
+fn append_text(out: &mut ByteList, number: u32, content: &str) -> Result<(), pb_fields::Memory>
     requires { IsFieldNumber number }
     ensures ok { OnOk result (out.new ≡ out.old ++ field_text (bytes_field number content.now)) }
     ensures field { OnOk result (IsField (bytes_field number content.now)) }
     ensures utf8 { OnOk result (IsUtf8 content.now) }
 {
-    write_bytes(out, number, content.as_str().as_bytes())
+    write_bytes(out, number, content.as_bytes())
+}
+
+fn append_optional_str(
+    out: &mut ByteList,
+    number: u32,
+    content: Option<&str>,
+) -> Result<(), pb_fields::Memory>
+    requires { IsFieldNumber number }
+    ensures ok { OnOk result (out.new ≡ out.old ++ text (optional (bytes_field number) (option_copied content.entry))) }
+    ensures fields { OnOk result (AllByRecursion IsField (optional (bytes_field number) (option_copied content.entry))) }
+    ensures utf8 { OnOk result (IfSome (option_copied content.entry) IsUtf8) }
+{
+    match content {
+        None => Ok(()),
+        Some(content) => append_text(out, number, content),
+    }
 }
 
 fn append_optional_text(
@@ -84,7 +115,7 @@ fn append_optional_text(
 {
     match content {
         None => Ok(()),
-        Some(content) => append_text(out, number, content),
+        Some(content) => append_text(out, number, content.as_str()),
     }
 }
 
@@ -99,7 +130,7 @@ fn append_texts(
     ensures utf8 { OnOk result (AllByRecursion IsUtf8 contents.now) }
 {
     for content in contents.as_slice() {
-        append_text(out, number, content)?;
+        append_text(out, number, content.as_str())?;
     }
     Ok(())
 }

@@ -13,6 +13,9 @@ use geo_base::Memory;
 use pb_fields::{ByteList, write_bytes, write_varint};
 use std::alloc::Global;
 
+/// Bytes that most commands fit in, so that their text is written in one piece of memory (own).
+const COMMON_BYTES: usize = 64;
+
 impl Command {
     /// The canonical text: every field that there is a value for, by ascending numbers, each varint as short as can be.
     pub fn write(&self, alloc: Global) -> Result<ByteList, Memory>
@@ -30,10 +33,10 @@ fn written(alloc: Global, command: &Command) -> Result<ByteList, pb_fields::Memo
     ensures canonical { IfOk result (λ bytes. bytes ≡ command_text command.now) }
     ensures writable { IfOk result (λ bytes. IsWritable command.now) }
 {
-    let mut body = ByteList::new(alloc);
+    let mut body = ByteList::from_vec(Vec::with_capacity(alloc, COMMON_BYTES)?);
     append_body(alloc, &mut body, command)?;
     let number = command.kind().number();
-    let mut out = ByteList::new(alloc);
+    let mut out = ByteList::from_vec(Vec::with_capacity(alloc, COMMON_BYTES)?);
     write_varint(&mut out, TYPE, u64::from(number))?;
     write_bytes(&mut out, number, body.as_slice())?;
     Ok(out)

@@ -8,3 +8,5 @@ pub mod Reading
 pub mod Fed
 pub mod Sizes
 pub mod Complete
+pub mod Whole
+pub mod Carrying

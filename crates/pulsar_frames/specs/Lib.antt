@@ -3,3 +3,4 @@ pub mod Viewed
 pub mod Frames
 pub mod Streams
 pub mod Canonical
+pub mod Carrying

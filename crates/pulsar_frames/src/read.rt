@@ -3,7 +3,8 @@
 ghost use Rattle.std.specs.Prelude.{◌≡◌, ◌≤◌, length, drop, MatchOption, IfOk, IfErr};
 ghost use Rattle.pulsar_frames.specs.Layout.{IsUnfinished};
 ghost use Rattle.pulsar_frames.specs.Viewed.{layout, body_layout};
-ghost use Rattle.pulsar_frames.specs.Frames.{carries, MeansBody, MeansFrame, TakesFrame, WrongFrame, HasFault, IsFaultOrMemory, WrongBody};
+ghost use Rattle.pulsar_frames.specs.declared.frame.Frame.{Frame};
+ghost use Rattle.pulsar_frames.specs.Frames.{carries, IsFrameText, MeansBody, MeansFrame, TakesFrame, WrongFrame, HasFault, IsFaultOrMemory, WrongBody};
 ghost use Rattle.message_meta.specs.Metadata.{IsMetaText};
 ghost use Rattle.std.specs.List.{AllByRecursion};
 ghost use Rattle.pulsar_frames.specs.Canonical.{IsComplete};
@@ -62,6 +63,28 @@ fn frame_at(alloc: Global, bytes: &[u8]) -> Result<Option<(Frame, &[u8])>, Frame
         Some((parts, rest)) => match frame_of(alloc, parts) {
             Ok(frame) => Ok(Some((frame, rest))),
             Err(why) => Err(why),
+        },
+    }
+}
+
+/// The frame that the bytes are a text of; None exactly where they are a text of none. They are read once, and nothing is
+/// kept of them beside the frame.
+#[tactic(auto, using(crate::proofs::Whole::whole))]
+pub fn read_frame(alloc: Global, bytes: &[u8]) -> Result<Option<Frame>, Memory>
+    ensures { IfOk result (λ o. MatchOption o ((f : Frame) → IsFrameText bytes.now f → ⊥) (IsFrameText bytes.now)) }
+{
+    match frame_at(alloc, bytes) {
+        Ok(Some((frame, rest))) => {
+            if rest.is_empty() {
+                Ok(Some(frame))
+            } else {
+                Ok(None)
+            }
+        }
+        Ok(None) => Ok(None),
+        Err(why) => match why {
+            FrameFault::Memory => Err(Memory),
+            _ => Ok(None),
         },
     }
 }

@@ -1,6 +1,6 @@
 //! A reader of a stream of frames that comes in any pieces.
 
-ghost use Rattle.std.specs.Prelude.{◌≡◌, ◌≤◌, [], length, drop, Some, None, Err, MatchOption, OnOk, OnErr, IfSome};
+ghost use Rattle.std.specs.Prelude.{◌≡◌, [], length, Some, None, Err, MatchOption, OnOk, OnErr, IfSome};
 ghost use Rattle.pulsar_frames.specs.declared.fault.FrameFault.{FrameFault};
 ghost use Rattle.pulsar_frames.specs.Canonical.{IsComplete};
 ghost use Rattle.pulsar_frames.specs.Streams.{Reading, fresh, Feeds, Answered, CameTo, answer, Takes};
@@ -9,17 +9,19 @@ use crate::fault::FrameFault;
 use crate::frame::Frame;
 use crate::queue::Queue;
 use crate::read::{Parsed, parse};
+use bytes::BytesMut;
 use geo_base::Memory;
 use std::alloc::Global;
 use std::marker::Model;
 
 /// What a stream of frames has come to, however it is cut into pieces. It keeps the frames that were read and not yet
-/// taken, and the bytes after the last whole frame. No frame is parsed twice.
+/// taken, and the bytes after the last whole frame, in a buffer that is filled at its end and cut at its front. No byte of
+/// a frame is read again once its sizes are known, until the frame is whole; no frame is parsed twice.
 #[derive(Debug, Drop)]
 pub struct FrameReader {
     alloc: Global,
     waiting: Queue<Frame>,
-    rest: Vec<u8>,
+    rest: BytesMut,
     fault: Option<FrameFault>,
 }
 
@@ -43,7 +45,7 @@ impl FrameReader {
         FrameReader {
             alloc,
             waiting: Queue::new(alloc),
-            rest: Vec::new(alloc),
+            rest: BytesMut::new(alloc),
             fault: None,
         }
     }
@@ -89,7 +91,7 @@ impl FrameReader {
             fault,
         } = parsed;
         self.waiting.append(frames)?;
-        cut_front(&mut self.rest, used);
+        self.rest.advance(used);
         self.fault = fault;
         Ok(())
     }
@@ -121,17 +123,4 @@ impl FrameReader {
     {
         self.rest.len()
     }
-}
-
-/// Drops bytes at the front; takes no memory.
-fn cut_front(bytes: &mut Vec<u8>, used: usize)
-    requires { used ≤ length bytes.old.items }
-    ensures { bytes.new.items ≡ drop used bytes.old.items }
-{
-    if used == 0 {
-        return;
-    }
-    let kept = bytes.len() - used;
-    bytes.copy_within(used.., 0);
-    bytes.truncate(kept);
 }

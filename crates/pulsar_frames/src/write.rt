@@ -1,6 +1,6 @@
 //! Writing frames.
 
-ghost use Rattle.std.specs.Prelude.{◌≡◌, ◌+◌, ◌<◌, ◌≤◌, ◌^◌, ◌++◌, length, IfOk, IfErr, OnOk, IfSome, Err};
+ghost use Rattle.std.specs.Prelude.{◌≡◌, ◌+◌, ◌<◌, ◌≤◌, ◌^◌, ◌++◌, length, IfOk, IfErr, OnOk, IfSome, Err, true};
 ghost use Rattle.geo_base.specs.declared.limits.TheConstants.{FRAME_BYTES};
 ghost use Rattle.pb_fields.specs.Faults.{Answers};
 ghost use Rattle.pb_fields.specs.Canonical.{text};
@@ -8,7 +8,10 @@ ghost use Rattle.message_meta.specs.Canonical.{canonical_fields};
 ghost use Rattle.message_meta.specs.Metadata.{IsMetaText};
 ghost use Rattle.pulsar_frames.specs.Layout.{size, sized, content_text, layout_text, Fits};
 ghost use Rattle.pulsar_frames.specs.Viewed.{layout};
-ghost use Rattle.pulsar_frames.specs.Frames.{IsFrameText};
+ghost use Rattle.message_meta.specs.Known.{IsRest};
+ghost use Rattle.pulsar_commands.specs.Parts.{kind_of};
+ghost use Rattle.pulsar_frames.specs.Frames.{IsFrameText, carries};
+ghost use Rattle.pulsar_frames.specs.Carrying.{IsCarryingText, IsCarryingFault};
 ghost use Rattle.pulsar_frames.specs.Canonical.{frame_text, frame_size, IsComplete, IsTooLarge, with_body};
 
 use crate::fault::FrameFault;
@@ -16,6 +19,8 @@ use crate::frame::{Body, Frame};
 use crate::layout::{BodyParts, FrameParts};
 use geo_base::limits::FRAME_BYTES;
 use geo_base::{Blob, Memory};
+use message_meta::KnownMeta;
+use pulsar_commands::Command;
 use std::alloc::Global;
 
 /// The canonical text of a frame whose message is there exactly where its command carries one: the canonical texts of
@@ -62,6 +67,37 @@ fn write_message<'a>(alloc: Global, command: &'a [u8], body: &'a Body) -> Result
     )
 }
 
+/// The canonical text of a frame of a command that carries a message, which is written from where its parts stand: the
+/// known fields of its metadata, `rest`, the canonical text of the others, and its payload. No part is copied but into
+/// the frame.
+#[tactic(auto, using(crate::proofs::Carrying::carrying_is, crate::proofs::Carrying::carrying_fault))]
+pub fn write_carrying(
+    alloc: Global,
+    command: &Command,
+    known: KnownMeta<'_>,
+    rest: &[u8],
+    payload: &[u8],
+) -> Result<Blob, FrameFault>
+    requires carries { carries (kind_of command.now) ≡ true }
+    requires rest { IsRest rest.now }
+    ensures text { IfOk result (IsCarryingText command.now known.entry rest.now payload.now) }
+    // A frame is refused for its size alone.
+    ensures fault { IfErr result (IsCarryingFault command.now known.entry rest.now payload.now) }
+{
+    let command = command.write(alloc)?;
+    let meta = known.write_with(alloc, rest)?;
+    write_parts(
+        alloc,
+        FrameParts {
+            command: command.as_slice(),
+            body: Some(BodyParts {
+                meta: meta.as_slice(),
+                payload,
+            }),
+        },
+    )
+}
+
 /// The text of parts, each behind its size.
 fn write_parts(alloc: Global, parts: FrameParts<'_>) -> Result<Blob, FrameFault>
     ensures ok { IfOk result (λ bytes. bytes ≡ layout_text (layout parts.entry)) }
@@ -102,7 +138,10 @@ fn join(alloc: Global, total: u64, parts: FrameParts<'_>) -> Result<Blob, Memory
     requires fits { total ≤ FRAME_BYTES }
     ensures { IfOk result (λ bytes. bytes ≡ layout_text (layout parts.entry)) }
 {
-    let mut out = Blob::new(alloc);
+    let Ok(room) = Vec::with_capacity(alloc, 4 + total as usize) else {
+        return Err(Memory);
+    };
+    let mut out = Blob::from_vec(room);
     append_size(&mut out, total)?;
     append_sized(&mut out, parts.command)?;
     match parts.body {
