@@ -29,6 +29,10 @@ abbrev pub goes_to : ℕ → Targets → Bool
 goes_to y targets.All = true
 goes_to y (targets.Only bits) = (bits / (2 ^ y)) % 2 == 1
 
+-- of origin x, and goes to y
+abbrev pub is_outbound : ℕ → ℕ → Entry → Bool
+is_outbound x y e = (e.ident.origin == x) && goes_to y e.to
+
 -- what a cluster could have had: its own entries, and those that go to it (own: it makes selective replication safe)
 abbrev pub meant_for : ℕ → Entry → Bool
 meant_for a e = (e.ident.origin == a) || goes_to a e.to

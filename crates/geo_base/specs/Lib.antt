@@ -36,6 +36,7 @@ pub mod Planned
 pub mod Happening
 pub mod Run
 pub mod Report
+pub mod Moments
 pub mod Settled
 pub mod Safe
 pub mod Cuts

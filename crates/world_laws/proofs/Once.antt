@@ -3,26 +3,26 @@ use Rattle.std.proofs.Common.{◌≡◌, ℕ, zero, suc, ◌*◌, ◌<◌, true,
 use Rattle.std.specs.Prelude.{Option, Some, None, ◌&&◌, ◌||◌, not, nat_lt, slice_get, take}
 use Rattle.std.proofs.lemmas.Option.{none-some, same_Some}
 use Rattle.std.proofs.lemmas.Bool.Decides.{nat_tests}
-use Rattle.world_laws.proofs.Types.{Entry, Ident, Step, Write}
+use Rattle.world_laws.proofs.Types.{Entry, Ident, Write}
 use Rattle.world_laws.proofs.Types.write
 use Rattle.geo_base.specs.Broker.{Broker, new_broker, no_broker}
 use Rattle.geo_base.specs.Client.{Acted}
 use Rattle.geo_base.specs.Entry.{same_stream}
 use Rattle.geo_base.specs.Happening.{broker_does, broker_halts, client_does, stops}
+use Rattle.geo_base.specs.Laws.{LawOnce}
+use Rattle.geo_base.specs.Moments.{partly_written}
 use Rattle.geo_base.specs.Plan.{Plan, all_written, done, halted}
 use Rattle.geo_base.specs.Planned.{Planned}
-use Rattle.geo_base.specs.Run.{Limits, no_limits, run, run_under}
-use Rattle.geo_base.specs.Safe.{IsOnce}
+use Rattle.geo_base.specs.Safe.{AllOnce, IsOnce}
 use Rattle.geo_base.specs.Seeking.{restart}
 use Rattle.geo_base.specs.Setup.{Setup}
 use Rattle.geo_base.specs.Topic.{accepts}
 use Rattle.geo_base.specs.World.{LinkName, ToClient, World, broker_at, node, opening_world}
-use Rattle.world_laws.specs.Moments.{Moment, partly_written, world_at}
 use Rattle.world_laws.proofs.Appends.{after_writes, done_entries, fresh, fresh_halt, fresh_take, halted_entries, written_entries}
 use Rattle.world_laws.proofs.Frames.{at_copies, at_map, at_set}
 use Rattle.world_laws.proofs.Fresh.{Fresh, restart_fresh, shape_fresh}
 use Rattle.world_laws.proofs.Members.{get_push}
-use Rattle.world_laws.proofs.Runs.{IsKept, at_moment, in_run}
+use Rattle.world_laws.proofs.Runs.{IsKept, always}
 use Rattle.world_laws.proofs.Shapes.{Shape}
 use Rattle.world_laws.proofs.Walk.{left, on_if, right}
 
@@ -74,10 +74,6 @@ halted_once per b k p h once =
 written_once : (per : ℕ) (b : Broker) (k : ℕ) (p : Plan) → Fresh b p → IsOnce b → IsOnce (all_written per b (take k p.writes))
 written_once per b k p h once = subst OnceIn (sym (written_entries per b (take k p.writes))) (after_once b.entries (take k p.writes) (fresh_take b.entries k p.writes h) once)
 
--- at every node
-abbrev pub AllOnce : World → Type 0
-AllOnce w = (n : ℕ) → IsOnce (broker_at w n)
-
 empty_once : IsOnce no_broker
 empty_once i j e f lt at at' same = absurd (none-some e at)
 
@@ -124,14 +120,6 @@ once_kept s = record {
   stop = stops_once s;
 }
 
--- at the end of every run, under whatever limits
-pub once_under : (l : Limits) (s : Setup) (es : List Step) (n : ℕ) → IsOnce (broker_at (run_under l s es).world n)
-once_under l s es = in_run l s AllOnce (once_kept s) es
-
--- without limits
-pub once_in_run : (s : Setup) (es : List Step) (n : ℕ) → IsOnce (broker_at (run s es) n)
-once_in_run s es = once_under no_limits s es
-
--- and at every moment
-pub once_at : (l : Limits) (s : Setup) (m : Moment) (n : ℕ) → IsOnce (broker_at (world_at l s m) n)
-once_at l s m = at_moment l s AllOnce AllOnce (once_kept s) (λ w once. once) (λ w k p shape once. writes_once s w k p shape once) m
+-- at every moment
+pub once_always : LawOnce
+once_always s = always s AllOnce AllOnce (once_kept s) (λ w once. once) (writes_once s)

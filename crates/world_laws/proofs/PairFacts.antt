@@ -8,17 +8,18 @@ use Rattle.std.proofs.lemmas.Option.{none-some, slice_get_within}
 use Rattle.world_laws.proofs.Types.{Entry, Packet, Pending}
 use Rattle.world_laws.proofs.Types.sender_state
 use Rattle.geo_base.specs.Cursor.{has}
+use Rattle.geo_base.specs.Entry.{is_outbound}
 use Rattle.geo_base.specs.Sender.{Sender}
 use Rattle.world_laws.proofs.Members.{Stands, get_left, get_within}
 use Rattle.world_laws.proofs.Packets.{Carries, IsOpener, IsReceipt, IsSend, Receives, WasSent, WasSentBefore, before_left, last_receipt, last_send, send_left}
-use Rattle.world_laws.proofs.Prefixes.{Begins, is_out, near_grows}
+use Rattle.world_laws.proofs.Prefixes.{Begins, near_grows}
 
 -- where a SEND's entry stands at x, and that all before it which is for y is in the cursor or was sent before in its session
 pub record IsPlaced (x y : ℕ) (near : List Entry) (cursor : List ℕ) (sent : List Packet) (q m : ℕ) (e : Entry) : Type 0 where
   pub index : ℕ
   pub at : slice_get near index ≡ Some e
-  pub out : is_out x y e ≡ true
-  pub before : (j : ℕ) (f : Entry) → j < index → slice_get near j ≡ Some f → is_out x y f ≡ true → (has cursor j ≡ true) ⊎ WasSentBefore sent q m f
+  pub out : is_outbound x y e ≡ true
+  pub before : (j : ℕ) (f : Entry) → j < index → slice_get near j ≡ Some f → is_outbound x y f ≡ true → (has cursor j ≡ true) ⊎ WasSentBefore sent q m f
 
 -- the SEND that a receipt answers, whose entry stands at y
 pub record IsAnswered (far : List Entry) (sent : List Packet) (m k : ℕ) : Type 0 where
@@ -31,7 +32,7 @@ pub record IsAnswered (far : List Entry) (sent : List Packet) (m k : ℕ) : Type
 -- answers
 pub record Carried (x y : ℕ) (near : List Entry) (cursor : List ℕ) (far : List Entry) (sent back : List Packet) : Type 0 where
   pub begins : Begins x y near far
-  pub received : (i : ℕ) (e : Entry) → has cursor i ≡ true → slice_get near i ≡ Some e → is_out x y e ≡ true → Stands far e
+  pub received : (i : ℕ) (e : Entry) → has cursor i ≡ true → slice_get near i ≡ Some e → is_outbound x y e ≡ true → Stands far e
   pub within : (i : ℕ) → has cursor i ≡ true → i < length near
   pub sends : (q m k : ℕ) (e : Entry) → IsSend sent q m k e → IsPlaced x y near cursor sent q m e
   pub receipts : (a m k : ℕ) → IsReceipt back a m k → IsAnswered far sent m k
@@ -50,7 +51,7 @@ pub record InSession (x y : ℕ) (near : List Entry) (sent : List Packet) (s : S
   pub numbered : (s.state ≡ sender_state.Closed → ⊥) → (q k : ℕ) (e : Entry) → IsSend sent q s.session k e → k < s.next
   pub unique : (q r m k : ℕ) (e f : Entry) → IsSend sent q m k e → IsSend sent r m k f → e ≡ f
   pub opened : (q r m k : ℕ) (e : Entry) → IsOpener sent q m → IsSend sent r m k e → q < r
-  pub read : (j : ℕ) (f : Entry) → j < s.read_index → slice_get near j ≡ Some f → is_out x y f ≡ true → (has s.cursor j ≡ true) ⊎ WasSent sent s.session f
+  pub read : (j : ℕ) (f : Entry) → j < s.read_index → slice_get near j ≡ Some f → is_outbound x y f ≡ true → (has s.cursor j ≡ true) ⊎ WasSent sent s.session f
   pub read_within : s.read_index ≤ length near
   pub pending : (a : ℕ) (d : Pending) → slice_get s.pending a ≡ Some d → IsPending near sent s.session d
 
@@ -87,7 +88,7 @@ grows_begins x y near near' far g b = let P : List Entry → Type 0 = λ l. Begi
 -- an index that the cursor may gain: it is stored, and where its entry is for y it stands there
 pub record MayAck (x y : ℕ) (near far : List Entry) (i : ℕ) : Type 0 where
   pub within : i < length near
-  pub stands : (e : Entry) → slice_get near i ≡ Some e → is_out x y e ≡ true → Stands far e
+  pub stands : (e : Entry) → slice_get near i ≡ Some e → is_outbound x y e ≡ true → Stands far e
 
 -- what the writes of an event at x do: the topic grows, and the cursor gains what it may
 pub record Grew (x y : ℕ) (near far : List Entry) (cursor : List ℕ) (near' : List Entry) (cursor' : List ℕ) : Type 0 where

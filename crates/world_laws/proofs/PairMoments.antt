@@ -13,10 +13,10 @@ use Rattle.geo_base.specs.Planned.{Planned}
 use Rattle.geo_base.specs.Sender.{Sender}
 use Rattle.geo_base.specs.Setup.{Setup}
 use Rattle.geo_base.specs.World.{Back, Forward, World, link_at, node, topic_at}
-use Rattle.world_laws.specs.Moments.{partly_written}
+use Rattle.geo_base.specs.Moments.{partly_written}
 use Rattle.world_laws.proofs.Appends.{after_writes, written_entries}
 use Rattle.world_laws.proofs.Effects.{all_written_sender, each_take, sender_after}
-use Rattle.world_laws.proofs.Once.{AllOnce}
+use Rattle.geo_base.specs.Safe.{AllOnce}
 use Rattle.world_laws.proofs.PairEvents.{source_role, target_extends, target_role}
 use Rattle.world_laws.proofs.PairFacts.{Carried, carried_far, carried_grew}
 use Rattle.world_laws.proofs.PairRoles.{AtSource, PairIn, shape_within}

@@ -12,6 +12,7 @@ use Rattle.world_laws.proofs.Types.sub_kind
 use Rattle.world_laws.proofs.Types.write
 use Rattle.geo_base.specs.Broker.{Broker, Site, sender_at}
 use Rattle.geo_base.specs.Builder.{current_id}
+use Rattle.geo_base.specs.Entry.{is_outbound}
 use Rattle.geo_base.specs.Forwarding.{resets}
 use Rattle.geo_base.specs.Link.{Link, next_packet, sent_on}
 use Rattle.geo_base.specs.Markers.{request_marker, response_marker, snapshot_marker}
@@ -30,7 +31,7 @@ use Rattle.world_laws.proofs.Members.{Stands}
 use Rattle.world_laws.proofs.Reach.{Incoming, IncomingChange, IncomingOut, IncomingPeer, OutgoingPeer, IncomingWrite, Outgoing, OutgoingChange, OutgoingOut, OutgoingWrite, fated_in, fated_out, fated_quiet, offers_out, reads_out, resets_out, seeks_out, served_out, snaps_out}
 use Rattle.world_laws.proofs.SenderEvents.{answered_done, fated_ok, forwards_done, handled_done, handled_ok}
 use Rattle.world_laws.proofs.SenderSide.{Facts, LeavesSender, OkWrite, facts_aside, facts_halted}
-use Rattle.world_laws.proofs.Shapes.{Answered, Fated, Reads, ReadsNext, Shape, Updates, is_outbound}
+use Rattle.world_laws.proofs.Shapes.{Answered, Fated, Reads, ReadsNext, Shape, Updates}
 
 -- the facts of a pair in a world
 abbrev pub PairIn : Setup → World → ℕ → ℕ → ℕ → Type 0
@@ -188,7 +189,7 @@ source_idle x y per a b f back facts = AtSource.Works tt (λ stamp. facts)
 
 -- the sender to y reads
 pub source_handled : (y per : ℕ) (h : Site) (a b : Broker) (f : Link) (back : List Packet) (i : ℕ) (e : Entry) (ws : List Write) (cs : List Change) → y < length a.senders
-    → ReadsNext h a y i e → is_outbound h y e ≡ false → Each (OkWrite h.own y a.entries b.entries) ws → Each (LeavesSender y) cs
+    → ReadsNext h a y i e → is_outbound h.own y e ≡ false → Each (OkWrite h.own y a.entries b.entries) ws → Each (LeavesSender y) cs
     → Facts h.own y a b f back → AtSource h.own y per a b f back (handled y i ws cs)
 source_handled y per h a b f back i e ws cs lt next other ok leaves facts =
     AtSource.Works (handled_ok h.own y h a b.entries i e ws cs next other ok)

@@ -19,7 +19,7 @@ use Rattle.geo_base.specs.World.{Back, Forward, LinkName, Links, ToBroker, ToCli
 use Rattle.world_laws.proofs.Effects.{Each, each_map}
 use Rattle.world_laws.proofs.Frames.{cell_set}
 use Rattle.world_laws.proofs.LinkFrames.{HasCell, MayBack, TakesElse, back_sent, forward_else, forward_sent, pushed, same_node, sent_cells, taken_back, taken_else, taken_here}
-use Rattle.world_laws.proofs.Once.{AllOnce}
+use Rattle.geo_base.specs.Safe.{AllOnce}
 use Rattle.world_laws.proofs.PairEvents.{AtTarget, ElseBack, source_does, source_halts, source_role, target_extends, target_role}
 use Rattle.world_laws.proofs.PairFacts.{Carried, Receiving, carried_back}
 use Rattle.world_laws.proofs.PairRoles.{IsEmpty, NotForward, PairIn, Reaches, shape_reaches, shape_within}

@@ -6,32 +6,31 @@ use Rattle.std.proofs.lemmas.Bool.Decides.{nat_tests}
 use Rattle.std.proofs.lemmas.List.{get_or-replicate, get_or_past, length-set}
 use Rattle.std.proofs.Math.Nat.{mul-le-mul_right}
 use Rattle.std.proofs.lemmas.Option.{none-some}
-use Rattle.world_laws.proofs.Types.{Entry, Packet, Step}
+use Rattle.world_laws.proofs.Types.{Entry, Packet}
 use Rattle.geo_base.specs.Broker.{Broker, new_broker, no_broker, receiver_at, sender_at}
 use Rattle.geo_base.specs.Client.{Acted}
 use Rattle.geo_base.specs.Cursor.{has}
-use Rattle.geo_base.specs.Entry.{goes_to}
+use Rattle.geo_base.specs.Entry.{is_outbound}
 use Rattle.geo_base.specs.Happening.{all_discarded, client_does, next_stamp, stops}
-use Rattle.geo_base.specs.Laws.{ArePair, of_origin, outbound}
+use Rattle.geo_base.specs.Laws.{ArePair, IsPrefix, IsReceived, LawPrefix, LawReceipt, of_origin, outbound}
 use Rattle.geo_base.specs.Link.{Link, discarded, no_link}
 use Rattle.geo_base.specs.Plan.{done, idle_plan}
 use Rattle.geo_base.specs.Planned.{Planned}
-use Rattle.geo_base.specs.Run.{Limits, run_under}
 use Rattle.geo_base.specs.Seeking.{restart}
 use Rattle.geo_base.specs.Sender.{Sender, new_sender}
 use Rattle.geo_base.specs.Setup.{Setup}
 use Rattle.geo_base.specs.World.{Back, Forward, Links, ToClient, World, cell, delivered, from_client, link_at, node, opening_world, packet_at, table, taken_from, topic_at}
-use Rattle.world_laws.specs.Moments.{Moment, partly_written, world_at}
-use Rattle.world_laws.specs.Replicated.{PrefixIn, ReceivedIn}
+use Rattle.geo_base.specs.Moments.{partly_written}
 use Rattle.world_laws.proofs.Frames.{at_copies}
 use Rattle.world_laws.proofs.LinkFrames.{client_back, client_forward}
-use Rattle.world_laws.proofs.Once.{AllOnce, once_kept}
+use Rattle.geo_base.specs.Safe.{AllOnce}
+use Rattle.world_laws.proofs.Once.{once_kept}
 use Rattle.world_laws.proofs.PairMoments.{Between, pair_written}
 use Rattle.world_laws.proofs.PairFacts.{Carried, InSession}
 use Rattle.world_laws.proofs.PairRoles.{PairIn}
 use Rattle.world_laws.proofs.PairWorlds.{PairAt, moved, pair_does, pair_halts}
 use Rattle.world_laws.proofs.ReceiverSide.{there_halted}
-use Rattle.world_laws.proofs.Runs.{IsKept, at_moment, in_run}
+use Rattle.world_laws.proofs.Runs.{IsKept, always}
 use Rattle.world_laws.proofs.SenderSide.{Facts, facts_halted}
 use Rattle.world_laws.proofs.Shapes.{Shape}
 use Rattle.world_laws.proofs.Sizes.{Sized, node_lt, node_there, sized_kept, stopped_at}
@@ -174,7 +173,7 @@ past_node s bs t x size le =
 
 -- both laws of a world, from what each write keeps
 abbrev Laws : Setup → World → Type 0
-Laws s w = PrefixIn s w × ReceivedIn s w
+Laws s w = IsPrefix s w × IsReceived s w
 
 laws_of : (s : Setup) (w : World) (f : ℕ → ℕ → ℕ → Link) (back : ℕ → ℕ → ℕ → List Packet) → length w.brokers ≡ length s.topics * length s.clusters
     → ((t x y : ℕ) → t < length s.topics → ArePair s x y → Between x y (topic_at s w t x) (topic_at s w t y) (f t x y) (back t x y)) → Laws s w
@@ -189,11 +188,11 @@ laws_of s w f back size h = (prefix, received)
         subst (λ (a : Broker). P a (topic_at s w t y)) (sym (past_node s w.brokers t x size le))
         (subst (P no_broker) (sym (past_node s w.brokers t y size le)) ([], refl))
 
-    prefix : PrefixIn s w
+    prefix : IsPrefix s w
     prefix t x y pair = prefix_at t x y pair (nat_lt t (length s.topics)) refl
 
     received_at : (t x y i : ℕ) (e : Entry) → ArePair s x y → (b : Bool) → nat_lt t (length s.topics) ≡ b → has (sender_at (topic_at s w t x) y).cursor i ≡ true
-        → slice_get (topic_at s w t x).entries i ≡ Some e → ((e.ident.origin == x) && goes_to y e.to) ≡ true
+        → slice_get (topic_at s w t x).entries i ≡ Some e → is_outbound x y e ≡ true
         → (k : ℕ) × (slice_get (topic_at s w t y).entries k ≡ Some e)
     received_at t x y i e pair true b acked at out = let r = (h t x y (ltb-true _ _ b) pair).received i e acked at out in (r.place, r.is)
     received_at t x y i e pair false b acked at out =
@@ -201,7 +200,7 @@ laws_of s w f back size h = (prefix, received)
         let P : Broker → Type 0 = λ a. slice_get a.entries i ≡ Some e in
         absurd (none-some e (subst P (past_node s w.brokers t x size le) at))
 
-    received : ReceivedIn s w
+    received : IsReceived s w
     received t x y i e pair = received_at t x y i e pair (nat_lt t (length s.topics)) refl
 
 forward_of : Setup → World → ℕ → ℕ → ℕ → Link
@@ -221,10 +220,9 @@ written_laws s w k p shape h =
     (length-set w.brokers (node s p.topic p.cluster) _ ∙ h.sized.brokers)
     (λ t x y lt pair. pair_written s w k p t x y shape h.once h.sized lt pair (h.pairs t x y lt pair))
 
--- at the end of every run, under whatever limits
-pub laws_under : (l : Limits) (s : Setup) (es : List Step) → Laws s (run_under l s es).world
-laws_under l s es = replicates_laws s (run_under l s es).world (in_run l s (Replicates s) (replication_kept s) es)
+-- at every moment
+pub prefix_always : LawPrefix
+prefix_always s = always s (Replicates s) (IsPrefix s) (replication_kept s) (λ w h. (replicates_laws s w h).0) (λ w k p shape h. (written_laws s w k p shape h).0)
 
--- and at every moment
-pub laws_at : (l : Limits) (s : Setup) (m : Moment) → Laws s (world_at l s m)
-laws_at l s m = at_moment l s (Replicates s) (Laws s) (replication_kept s) (replicates_laws s) (written_laws s) m
+pub receipt_always : LawReceipt
+receipt_always s = always s (Replicates s) (IsReceived s) (replication_kept s) (λ w h. (replicates_laws s w h).1) (λ w k p shape h. (written_laws s w k p shape h).1)

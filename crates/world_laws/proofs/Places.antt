@@ -14,7 +14,7 @@ use Rattle.geo_base.specs.Planned.{Planned, planned}
 use Rattle.geo_base.specs.Sender.{Sender, new_sender, sender_restarted}
 use Rattle.geo_base.specs.Setup.{Setup}
 use Rattle.geo_base.specs.World.{LinkName, World, broker_at, node, opening_world}
-use Rattle.world_laws.specs.Within.{BrokerPlaces, WorldPlaces}
+use Rattle.geo_base.specs.Worlds.{BrokerPlaces, IsWorldOf}
 use Rattle.world_laws.proofs.Frames.{at_set}
 use Rattle.world_laws.proofs.Walk.{on_if}
 
@@ -57,14 +57,14 @@ kept_changes s b (c ∷ cs) p = kept_changes s (changed b c) cs (kept_change s b
 pub kept_done : (s : Setup) (per : ℕ) (b : Broker) (q : Plan) → BrokerPlaces s b → BrokerPlaces s (done per b q)
 kept_done s per b q p = kept_changes s (all_written per b q.writes) q.changes (kept_writes s per b q.writes p)
 
-idles_places : (s : Setup) (w : World) (n : ℕ) → WorldPlaces s w → WorldPlaces s (record w { idle = n })
+idles_places : (s : Setup) (w : World) (n : ℕ) → IsWorldOf s w → IsWorldOf s (record w { idle = n })
 idles_places s w n p = record { brokers = p.brokers; clients = p.clients; broker_clocks = p.broker_clocks; client_clocks = p.client_clocks; each = p.each }
 
-does_places : (s : Setup) (w : World) (q : Planned) → WorldPlaces s w → WorldPlaces s (broker_does s w q)
+does_places : (s : Setup) (w : World) (q : Planned) → IsWorldOf s w → IsWorldOf s (broker_does s w q)
 unfolding broker_does
 does_places s w q p =
     let n : ℕ = node s q.topic q.cluster in
-    on_if (WorldPlaces s) q.plan.idle _ _ (idles_places s w (w.idle + 1) p) (record {
+    on_if (IsWorldOf s) q.plan.idle _ _ (idles_places s w (w.idle + 1) p) (record {
       brokers = length-set w.brokers n _ ∙ p.brokers;
       clients = p.clients;
       broker_clocks = length-set w.broker_clocks n _ ∙ p.broker_clocks;
@@ -75,10 +75,10 @@ does_places s w q p =
           (λ is. kept_done s s.per_ledger (broker_at w n) q.plan (p.each n (subst (λ (m : ℕ). m < length w.brokers) (sym is) z_within))) (p.each z z_within);
     })
 
-client_places : (s : Setup) (w : World) (c : ℕ) (k : Option LinkName) (a : Acted) → WorldPlaces s w → WorldPlaces s (client_does s w c k a)
+client_places : (s : Setup) (w : World) (c : ℕ) (k : Option LinkName) (a : Acted) → IsWorldOf s w → IsWorldOf s (client_does s w c k a)
 unfolding client_does
 client_places s w c k a p =
-    on_if (WorldPlaces s) a.idle _ _ (idles_places s w (w.idle + 1) p) (record {
+    on_if (IsWorldOf s) a.idle _ _ (idles_places s w (w.idle + 1) p) (record {
       brokers = p.brokers;
       clients = length-set w.clients c a.client ∙ p.clients;
       broker_clocks = p.broker_clocks;
@@ -86,11 +86,11 @@ client_places s w c k a p =
       each = p.each;
     })
 
-planned_places : (s : Setup) (w : World) (o : Option Planned) → WorldPlaces s w → WorldPlaces s (does_planned s w o)
+planned_places : (s : Setup) (w : World) (o : Option Planned) → IsWorldOf s w → IsWorldOf s (does_planned s w o)
 planned_places s w None p = idles_places s w (w.idle + 1) p
 planned_places s w (Some q) p = does_places s w q p
 
-pub event_places : (s : Setup) (w : World) (e : Event) → WorldPlaces s w → WorldPlaces s (happens s w e)
+pub event_places : (s : Setup) (w : World) (e : Event) → IsWorldOf s w → IsWorldOf s (happens s w e)
 unfolding happens
 event_places s w (event.Go c) p = client_places s w c _ _ p
 event_places s w (event.Reconnect c) p = client_places s w c _ _ p
@@ -102,7 +102,7 @@ replicate_at P zero z x d p h = absurd (omega arith)
 replicate_at P (suc n) zero x d p h = p
 replicate_at P (suc n) (suc z) x d p h = replicate_at P n z x d p (omega arith)
 
-pub opening_places : (s : Setup) → WorldPlaces s (opening_world s)
+pub opening_places : (s : Setup) → IsWorldOf s (opening_world s)
 opening_places s = record {
   brokers = length-replicate (length s.topics * length s.clusters) (new_broker (length s.clusters) (length s.clients));
   clients = length-map s.clients new_client;

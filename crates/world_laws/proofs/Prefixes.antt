@@ -10,16 +10,12 @@ use Rattle.std.proofs.lemmas.Option.{none-some, slice_get_within}
 use Rattle.std.proofs.lemmas.Slice.Eq.{bytes_eq-Decides}
 use Rattle.std.specs.Str.{bytes_eq}
 use Rattle.world_laws.proofs.Types.{Entry, Ident}
-use Rattle.geo_base.specs.Entry.{goes_to, same_stream}
+use Rattle.geo_base.specs.Entry.{goes_to, is_outbound, same_stream}
 use Rattle.geo_base.specs.Laws.{of_origin, outbound}
 use Rattle.geo_base.specs.Topic.{accepts}
 use Rattle.world_laws.proofs.Members.{Cuts, IsSplit, Passes, Stands, cut_both, from_filter, get_left, get_right, split_at, stands_here, stands_left, stands_next, to_filter}
 use Rattle.world_laws.proofs.Once.{OnceIn, accepts_newer}
 use Rattle.world_laws.proofs.Walk.{left}
-
--- an entry of x that y is to have
-abbrev pub is_out : ℕ → ℕ → Entry → Bool
-is_out x y e = (e.ident.origin == x) && goes_to y e.to
 
 abbrev pub is_of : ℕ → Entry → Bool
 is_of x e = e.ident.origin == x
@@ -65,10 +61,10 @@ not_twice : (es : List Entry) (e : Entry) → OnceIn es → InOrder es e e → �
 not_twice es e once o = let h = once o.i o.j e e o.before o.at_i o.at_j (same_self e.ident) in omega (arith, h)
 
 -- the entries for y about one of them
-outbound_cut : (x y : ℕ) (e : Entry) (before after : List Entry) → is_out x y e ≡ true
+outbound_cut : (x y : ℕ) (e : Entry) (before after : List Entry) → is_outbound x y e ≡ true
     → outbound x y (before ++ e ∷ after) ≡ outbound x y before ++ e ∷ outbound x y after
 outbound_cut x y e before after out =
-    filter-append (is_out x y) before (e ∷ after)
+    filter-append (is_outbound x y) before (e ∷ after)
     ∙ ap (λ (b : Bool). outbound x y before ++ cond b (e ∷ outbound x y after) (outbound x y after)) out
 
 within : (es : List Entry) (i : ℕ) (e : Entry) → slice_get es i ≡ Some e → i < length es
@@ -93,7 +89,7 @@ record IsCutAt (x y : ℕ) (near far : List Entry) (i : ℕ) (e : Entry) : Type 
   cuts : Cuts (of_origin x far) rest (outbound x y split.before) e
   whole : outbound x y near ≡ outbound x y split.before ++ e ∷ outbound x y split.after
 
-cut_at : (x y : ℕ) (near far : List Entry) (i : ℕ) (e : Entry) → Begins x y near far → slice_get near i ≡ Some e → is_out x y e ≡ true → IsCutAt x y near far i e
+cut_at : (x y : ℕ) (near far : List Entry) (i : ℕ) (e : Entry) → Begins x y near far → slice_get near i ≡ Some e → is_outbound x y e ≡ true → IsCutAt x y near far i e
 cut_at x y near far i e begins at out =
     let s = split_at near i e at in
     let w : outbound x y near ≡ outbound x y s.before ++ e ∷ outbound x y s.after = ap (outbound x y) s.whole ∙ outbound_cut x y e s.before s.after out in
@@ -104,11 +100,11 @@ cut_at x y near far i e begins at out =
       whole = w;
     }
 
-pub of_out : (x y : ℕ) (e : Entry) → is_out x y e ≡ true → is_of x e ≡ true
+pub of_out : (x y : ℕ) (e : Entry) → is_outbound x y e ≡ true → is_of x e ≡ true
 of_out x y e out = left (is_of x e) (goes_to y e.to) out
 
 -- one more at far, where the beginning ends before it
-goes_on : (x y : ℕ) (near far : List Entry) (e : Entry) (before after : List Entry) → is_out x y e ≡ true → of_origin x far ≡ outbound x y before
+goes_on : (x y : ℕ) (near far : List Entry) (e : Entry) (before after : List Entry) → is_outbound x y e ≡ true → of_origin x far ≡ outbound x y before
     → outbound x y near ≡ outbound x y before ++ e ∷ outbound x y after → Begins x y near (far ++ e ∷ [])
 goes_on x y near far e before after out meet whole =
     let one : of_origin x (far ++ e ∷ []) ≡ of_origin x far ++ e ∷ [] =
@@ -120,14 +116,14 @@ goes_on x y near far e before after out meet whole =
 
 -- the entries before it all stand at far
 abbrev pub AllBefore : ℕ → ℕ → List Entry → List Entry → ℕ → Type 0
-AllBefore x y near far i = (j : ℕ) (f : Entry) → j < i → slice_get near j ≡ Some f → is_out x y f ≡ true → Stands far f
+AllBefore x y near far i = (j : ℕ) (f : Entry) → j < i → slice_get near j ≡ Some f → is_outbound x y f ≡ true → Stands far f
 
 -- the beginning can't end earlier
 not_short : (x y : ℕ) (near far : List Entry) (i : ℕ) (e f : Entry) (r : List Entry) (s : IsSplit near i e) → OnceIn near → AllBefore x y near far i
     → outbound x y s.before ≡ of_origin x far ++ f ∷ r → ⊥
 not_short x y near far i e f r s once all is =
     let P : List Entry → Type 0 = λ l. Stands l f in
-    let passes : Passes (is_out x y) s.before f = from_filter (is_out x y) s.before f (subst P (sym is) (stands_here (of_origin x far) r f)) in
+    let passes : Passes (is_outbound x y) s.before f = from_filter (is_outbound x y) s.before f (subst P (sym is) (stands_here (of_origin x far) r f)) in
     let before : InOrder near f e = before_cut near s.before s.after e f s.whole passes.stands in
     let G : List Entry → Type 0 = λ l. slice_get l passes.stands.place ≡ Some f in
     let at : slice_get near passes.stands.place ≡ Some f = subst G (sym s.whole) (get_left s.before (e ∷ s.after) passes.stands.place f passes.stands.is) in
@@ -137,13 +133,13 @@ not_short x y near far i e f r s once all is =
     let G' : ℕ → List Entry → Type 0 = λ n l. slice_get l n ≡ Some f in
     let size : first.place < length (of_origin x far) = within (of_origin x far) first.place f first.is in
     let order : InOrder s.before f f =
-    filter_order (is_out x y) s.before f f first.place (length (of_origin x far) + zero) (omega (arith, size))
+    filter_order (is_outbound x y) s.before f f first.place (length (of_origin x far) + zero) (omega (arith, size))
     (subst (G' first.place) (sym is) (get_left (of_origin x far) (f ∷ r) first.place f first.is))
     (subst (G' (length (of_origin x far) + zero)) (sym is) (get_right (of_origin x far) (f ∷ r) zero)) in
     not_twice s.before f (once_left s.before (e ∷ s.after) (subst OnceIn s.whole once)) order
 
 -- an accepted entry of x that all before it precede is the next one
-pub next_begins : (x y : ℕ) (near far : List Entry) (i : ℕ) (e : Entry) → OnceIn near → Begins x y near far → slice_get near i ≡ Some e → is_out x y e ≡ true
+pub next_begins : (x y : ℕ) (near far : List Entry) (i : ℕ) (e : Entry) → OnceIn near → Begins x y near far → slice_get near i ≡ Some e → is_outbound x y e ≡ true
     → AllBefore x y near far i → accepts far e.ident ≡ true → Begins x y near (far ++ e ∷ [])
 next_begins x y near far i e once begins at out all new = go c.cuts
   where
@@ -177,7 +173,7 @@ refused [] i h = absurd (false≢true (sym h))
 refused (a ∷ es) i h = refused_at a es i (same_stream a.ident i) (nat_lt a.ident.seq i.seq) refl refl h (refused es i)
 
 -- a refused entry of x stands at far
-pub refused_stands : (x y : ℕ) (near far : List Entry) (i : ℕ) (e : Entry) → OnceIn near → Begins x y near far → slice_get near i ≡ Some e → is_out x y e ≡ true
+pub refused_stands : (x y : ℕ) (near far : List Entry) (i : ℕ) (e : Entry) → OnceIn near → Begins x y near far → slice_get near i ≡ Some e → is_outbound x y e ≡ true
     → accepts far e.ident ≡ false → Stands far e
 refused_stands x y near far i e once begins at out old = go c.cuts
   where
@@ -195,7 +191,7 @@ refused_stands x y near far i e once begins at out old = go c.cuts
 
     not_before : Stands (outbound x y c.split.before) r.entry → ⊥
     not_before s =
-        let o = before_cut near c.split.before c.split.after e r.entry c.split.whole (from_filter (is_out x y) c.split.before r.entry s).stands in
+        let o = before_cut near c.split.before c.split.after e r.entry c.split.whole (from_filter (is_outbound x y) c.split.before r.entry s).stands in
         let h = once o.i o.j r.entry e o.before o.at_i o.at_j r.same in
         grind (arith, nat_tests, h, r.newer)
 
@@ -212,7 +208,7 @@ refused_stands x y near far i e once begins at out old = go c.cuts
 pub near_grows : (x y : ℕ) (near far more : List Entry) → Begins x y near far → Begins x y (near ++ more) far
 near_grows x y near far more begins = (
   begins.0 ++ outbound x y more,
-  filter-append (is_out x y) near more ∙ ap (λ (l : List Entry). l ++ outbound x y more) begins.1 ∙ append_assoc (of_origin x far) begins.0 (outbound x y more),
+  filter-append (is_outbound x y) near more ∙ ap (λ (l : List Entry). l ++ outbound x y more) begins.1 ∙ append_assoc (of_origin x far) begins.0 (outbound x y more),
 )
 
 -- and so does what far has of others

@@ -7,7 +7,7 @@ use Rattle.world_laws.proofs.Types.marker
 use Rattle.world_laws.proofs.Types.progress
 use Rattle.geo_base.specs.Broker.{Broker, Site, sender_at, sub_named}
 use Rattle.geo_base.specs.Builder.{Heard, on_response}
-use Rattle.geo_base.specs.Entry.{is_place}
+use Rattle.geo_base.specs.Entry.{is_outbound, is_place}
 use Rattle.geo_base.specs.Forwarding.{is_remote}
 use Rattle.geo_base.specs.Markers.{after_response, heard_from, read_content, read_marker, read_response}
 use Rattle.geo_base.specs.Name.{is_name}
@@ -17,7 +17,7 @@ use Rattle.geo_base.specs.Subscribing.{has_room}
 use Rattle.geo_base.specs.Subscription.{Subscription, with_acks}
 use Rattle.geo_base.specs.Topic.{position_at}
 use Rattle.geo_base.specs.Updating.{only_index, passed_over, positions_for, update_to, updates}
-use Rattle.world_laws.proofs.Shapes.{Hears, IsMarkerOf, IsResponse, IsUpdate, Reads, ReadsNext, is_outbound}
+use Rattle.world_laws.proofs.Shapes.{Hears, IsMarkerOf, IsResponse, IsUpdate, Reads, ReadsNext}
 use Rattle.world_laws.proofs.ServeWalk.{updates_after}
 use Rattle.world_laws.proofs.Walk.{on_test}
 
@@ -70,7 +70,7 @@ entry_read : (h : Site) (b : Broker) (y i : ℕ) (o : Option Entry) → is_remot
     → Reads h b y (read_entry h b y i o)
 entry_read h b y i None remote at is = Reads.NothingToRead
 entry_read h b y i (Some e) remote at is =
-    on_test (Reads h b y) (is_outbound h y e) _ _ (λ out. Reads.Forwards i e (remote, at, is) out)
+    on_test (Reads h b y) (is_outbound h.own y e) _ _ (λ out. Reads.Forwards i e (remote, at, is) out)
     (λ other. on_test (Reads h b y) (e.ident.origin == y) _ _ (λ of. content_read h b y i e e.content (remote, at, is) (other, of) refl)
     (λ _. Reads.Skips i e (remote, at, is) other))
 

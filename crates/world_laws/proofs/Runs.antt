@@ -6,11 +6,13 @@ use Rattle.world_laws.proofs.Types.event
 use Rattle.world_laws.proofs.Types.step
 use Rattle.geo_base.specs.Client.{Acted}
 use Rattle.geo_base.specs.Happening.{broker_does, broker_halts, client_does, does_planned, happens, halts_planned, stops}
+use Rattle.geo_base.specs.Laws.{Always, AlwaysIn, BetweenEvents}
 use Rattle.geo_base.specs.Planned.{Planned, planned}
-use Rattle.geo_base.specs.Run.{Limits, Ran, all_settle, budget, counting_round, ends_or, goes_on, pairs, resets_of, round_of, rounds_of, run_from, run_under, settled_world, settles, steps}
+use Rattle.geo_base.specs.Run.{Limits, Ran, all_settle, budget, counting_round, ends_or, goes_on, no_limits, pairs, resets_of, round_of, rounds_of, run, run_from, run_under, settled_world, settles, steps}
+use Rattle.geo_base.specs.Settled.{SettledSoFar}
 use Rattle.geo_base.specs.Setup.{Setup}
 use Rattle.geo_base.specs.World.{ToClient, World, opening_world}
-use Rattle.world_laws.specs.Moments.{Moment, Settling, InRound, NotBegun, Resetting, partly_written, settled_so_far, world_at, world_between}
+use Rattle.geo_base.specs.Moments.{Moment, Settling, InRound, NotBegun, Resetting, partly_written, settling_so_far, world_at, world_between}
 use Rattle.world_laws.proofs.EventWalk.{HasShape, planned_shape}
 use Rattle.world_laws.proofs.Shapes.{Shape}
 use Rattle.world_laws.proofs.Walk.{on_elim, on_if}
@@ -80,7 +82,7 @@ steps_done l s P k r (e ∷ es) p = steps_done l s P k (steps l s r e) es (step_
 pub in_run : (l : Limits) (s : Setup) (P : World → Type 0) → IsKept s P → (es : List Step) → P (run_under l s es).world
 in_run l s P k es = steps_done l s P k (record { world = opening_world s; ended = None }) es k.opening
 
-settling_done : (l : Limits) (s : Setup) (P : World → Type 0) (k : IsKept s P) (r : Ran) (at : Settling) → P r.world → Holds P (settled_so_far l s r at)
+settling_done : (l : Limits) (s : Setup) (P : World → Type 0) (k : IsKept s P) (r : Ran) (at : Settling) → P r.world → Holds P (settling_so_far l s r at)
 settling_done l s P k r NotBegun p = p
 settling_done l s P k r (Resetting n) p = all_settled l s P k r (take n (resets_of (pairs s))) p
 settling_done l s P k r (InRound m n) p =
@@ -105,3 +107,27 @@ at_moment l s P Q k weaker written m = go (planned s w m.event) (planned_shape s
     go : (o : Option Planned) → HasShape s w o → Q (partly_written s w m.writes o)
     go None shape = weaker w p
     go (Some q) shape = written w m.writes q shape p
+
+-- and so it does always
+pub always : (s : Setup) (P Q : World → Type 0) → IsKept s P → ((w : World) → P w → Q w)
+    → ((w : World) (n : ℕ) (p : Planned) → Shape s w p → P w → Q (partly_written s w n (Some p))) → Always s (λ w settled. Q w)
+always s P Q k weaker written = record {
+  run = λ es. weaker (run s es) (in_run no_limits s P k es);
+  limited = λ l es. weaker (run_under l s es).world (in_run l s P k es);
+  between = λ l es at. weaker (world_between l s es at) (between l s P k es at);
+  moment = λ l m. at_moment l s P Q k weaker written m;
+}
+
+pub between_events : (s : Setup) (P Q : World → Type 0) → IsKept s P → ((w : World) → P w → Q w) → BetweenEvents s Q
+between_events s P Q k weaker = record {
+  run = λ es. weaker (run s es) (in_run no_limits s P k es);
+  limited = λ l es. weaker (run_under l s es).world (in_run l s P k es);
+  between = λ l es at. weaker (world_between l s es at) (between l s P k es at);
+}
+
+-- what holds always holds always in each run
+pub always_in : (s : Setup) (es : List Step) (Holds : World → SettledSoFar → Type 0) → Always s Holds → AlwaysIn s es Holds
+always_in s es Holds a = record {
+  between = λ k at. a.between no_limits (take k es) at;
+  moment = λ k at e writes. a.moment no_limits (record { steps = take k es; settling = at; event = e; writes = writes });
+}

@@ -11,6 +11,7 @@ use Rattle.world_laws.proofs.Types.sender_state
 use Rattle.world_laws.proofs.Types.write
 use Rattle.geo_base.specs.Broker.{Broker, Site, receiver_at, sender_at}
 use Rattle.geo_base.specs.Cursor.{has, with_index}
+use Rattle.geo_base.specs.Entry.{is_outbound}
 use Rattle.geo_base.specs.Forwarding.{resets}
 use Rattle.geo_base.specs.Link.{Link, sent_on}
 use Rattle.geo_base.specs.Plan.{Plan, done, halted, quiet_plan}
@@ -24,7 +25,6 @@ use Rattle.world_laws.proofs.InARow.{answered_in_a_row}
 use Rattle.world_laws.proofs.Members.{Stands}
 use Rattle.world_laws.proofs.Packets.{Asks, Carries, IsReceipt, IsSend, WasSentBefore, last_send, not_both, same_entry, send_left}
 use Rattle.world_laws.proofs.PairFacts.{IsPlaced, MayAck, Receiving, carried_sent, grows_length}
-use Rattle.world_laws.proofs.Prefixes.{is_out}
 use Rattle.world_laws.proofs.SenderSide.{Facts, HasWritten, LeavesSender, OkWrite, Sending, all_ok_written, facts_aside, facts_done, facts_halted, facts_of, left_all, none_written, sending_of}
 use Rattle.world_laws.proofs.SessionFacts.{forgetful, pending_is, session_forgot, session_opened, session_opens, session_read, session_received, session_sent}
 use Rattle.world_laws.proofs.Shapes.{Answered, Fated, InLink, ReadsNext}
@@ -127,14 +127,14 @@ next_index x y h a i e next =
 
 -- an entry for y goes out under the next number
 sent_sending : (x y : ℕ) (near : List Entry) (s : Sender) (far : List Entry) (sent back : List Packet) (i : ℕ) (e : Entry) (p : Packet)
-    → (s.state ≡ sender_state.Closed → ⊥) → ((j : ℕ) → s.read_index ≤ j → j < i → has s.cursor j ≡ true) → slice_get near i ≡ Some e → is_out x y e ≡ true
+    → (s.state ≡ sender_state.Closed → ⊥) → ((j : ℕ) → s.read_index ≤ j → j < i → has s.cursor j ≡ true) → slice_get near i ≡ Some e → is_outbound x y e ≡ true
     → Carries p s.session s.next e → Sending x y near s far sent back → Sending x y near (sender_sent i s) far (sent ++ p ∷ []) back
 sent_sending x y near s far sent back i e p live covered at out carries h = record {
   carried = carried_sent x y near s.cursor far sent back p placed h.carried;
   session = session_sent x y near sent s i e p live at covered carries h.session;
 }
   where
-    all_before : (m : ℕ) → s.session ≡ m → (j : ℕ) (f : Entry) → j < i → slice_get near j ≡ Some f → is_out x y f ≡ true
+    all_before : (m : ℕ) → s.session ≡ m → (j : ℕ) (f : Entry) → j < i → slice_get near j ≡ Some f → is_outbound x y f ≡ true
         → (b : Bool) → nat_lt j s.read_index ≡ b → (has s.cursor j ≡ true) ⊎ WasSentBefore (sent ++ p ∷ []) (length sent) m f
     all_before m is j f lt at' out' true read =
         elim (h.session.read j f (ltb-true _ _ read) at' out') [
@@ -158,7 +158,7 @@ sent_sending x y near s far sent back i e p live covered at out carries h = reco
         })
 
 pub forwards_done : (x y per : ℕ) (h : Site) (a b : Broker) (f : Link) (back : List Packet) (i : ℕ) (e : Entry) (p : Packet) → y < length a.senders
-    → ReadsNext h a y i e → is_out x y e ≡ true → Carries p (sender_at a y).session (sender_at a y).next e → Facts x y a b f back
+    → ReadsNext h a y i e → is_outbound x y e ≡ true → Carries p (sender_at a y).session (sender_at a y).next e → Facts x y a b f back
     → Facts x y (done per a (forwards h y (sender_at a y) i e)) b (sent_on f p) back
 forwards_done x y per h a b f back i e p lt next out carries facts =
     let s = sender_at a y in let q = forwards h y s i e in let n = next_index x y h a i e next in
@@ -167,14 +167,14 @@ forwards_done x y per h a b f back i e p lt next out carries facts =
     (sent_sending x y a.entries s b.entries f.sent back i e p n.live n.covered n.at out carries (sending_of x y a b f back facts))
 
 -- what is not for y may be acknowledged at once
-aside_may : (x y : ℕ) (h : Site) (a : Broker) (far : List Entry) (i : ℕ) (e : Entry) → ReadsNext h a y i e → is_out x y e ≡ false → MayAck x y a.entries far i
+aside_may : (x y : ℕ) (h : Site) (a : Broker) (far : List Entry) (i : ℕ) (e : Entry) → ReadsNext h a y i e → is_outbound x y e ≡ false → MayAck x y a.entries far i
 aside_may x y h a far i e next other = record {
   within = slice_get_within a.entries i e next.2;
-  stands = λ g at out. absurd (false≢true (sym other ∙ (ap (is_out x y) (same_Some _ _ (sym next.2 ∙ at)) ∙ out)));
+  stands = λ g at out. absurd (false≢true (sym other ∙ (ap (is_outbound x y) (same_Some _ _ (sym next.2 ∙ at)) ∙ out)));
 }
 
 pub handled_ok : (x y : ℕ) (h : Site) (a : Broker) (far : List Entry) (i : ℕ) (e : Entry) (ws : List Write) (cs : List Change) → ReadsNext h a y i e
-    → is_out x y e ≡ false → Each (OkWrite x y a.entries far) ws → Each (OkWrite x y a.entries far) (handled y i ws cs).writes
+    → is_outbound x y e ≡ false → Each (OkWrite x y a.entries far) ws → Each (OkWrite x y a.entries far) (handled y i ws cs).writes
 handled_ok x y h a far i e ws cs next other ok =
     each_both (OkWrite x y a.entries far) ws (write.SenderAck y i ∷ []) ok ((λ _. aside_may x y h a far i e next other), tt)
 
@@ -190,7 +190,7 @@ then_both y s (c ∷ cs) ds = then_both y (sender_changed y s c) cs ds
 
 -- what a sender read is acknowledged, behind writes and changes of its own
 pub handled_done : (x y per : ℕ) (h : Site) (a b : Broker) (f : Link) (back : List Packet) (i : ℕ) (e : Entry) (ws : List Write) (cs : List Change)
-    → y < length a.senders → ReadsNext h a y i e → is_out x y e ≡ false → Each (OkWrite x y a.entries b.entries) ws → Each (LeavesSender y) cs
+    → y < length a.senders → ReadsNext h a y i e → is_outbound x y e ≡ false → Each (OkWrite x y a.entries b.entries) ws → Each (LeavesSender y) cs
     → Facts x y a b f back → Facts x y (done per a (handled y i ws cs)) b f back
 handled_done x y per h a b f back i e ws cs lt next other ok leaves facts =
     facts_done x y per a b f back (handled y i ws cs) lt (handled_ok x y h a b.entries i e ws cs next other ok) turns facts

@@ -7,11 +7,11 @@ use Rattle.std.proofs.lemmas.Option.{none-some, same_Some, slice_get_within}
 use Rattle.world_laws.proofs.Types.{Entry, Packet, Pending, SenderState}
 use Rattle.world_laws.proofs.Types.sender_state
 use Rattle.geo_base.specs.Cursor.{has}
+use Rattle.geo_base.specs.Entry.{is_outbound}
 use Rattle.geo_base.specs.Sender.{Sender, pending_index, sender_sent, without_number}
 use Rattle.world_laws.proofs.Members.{get_push, Stands, get_last, stands_next}
 use Rattle.world_laws.proofs.Packets.{Asks, Carries, IsOpener, IsSend, WasSent, last_opener, last_send, not_both, same_entry, same_number, send_left, sent_left}
 use Rattle.world_laws.proofs.PairFacts.{Grows, InSession, IsPending, grows_get, grows_length, grows_within}
-use Rattle.world_laws.proofs.Prefixes.{is_out}
 
 -- the topic grows, and the cursor too
 pub session_grew : (x y : ℕ) (near near' : List Entry) (sent : List Packet) (s : Sender) (cursor : List ℕ) → Grows near near'
@@ -106,7 +106,7 @@ session_read x y near sent s i le covered f = record {
   pending = f.pending;
 }
   where
-    at_index : (j : ℕ) (e : Entry) → j < i → slice_get near j ≡ Some e → is_out x y e ≡ true → (b : Bool) → nat_lt j s.read_index ≡ b
+    at_index : (j : ℕ) (e : Entry) → j < i → slice_get near j ≡ Some e → is_outbound x y e ≡ true → (b : Bool) → nat_lt j s.read_index ≡ b
         → (has s.cursor j ≡ true) ⊎ WasSent sent s.session e
     at_index j e lt at out true h = f.read j e (ltb-true _ _ h) at out
     at_index j e lt at out false h = inl (covered j (grind (arith, nat_tests, h)) lt)
@@ -204,7 +204,7 @@ session_sent x y near sent s i e p live at covered carries f = record {
           ]
         ]
 
-    read_sent : (j : ℕ) (g : Entry) → j < i + 1 → slice_get near j ≡ Some g → is_out x y g ≡ true → (b c : Bool) → nat_lt j s.read_index ≡ b → (j == i) ≡ c
+    read_sent : (j : ℕ) (g : Entry) → j < i + 1 → slice_get near j ≡ Some g → is_outbound x y g ≡ true → (b c : Bool) → nat_lt j s.read_index ≡ b → (j == i) ≡ c
         → (has s.cursor j ≡ true) ⊎ WasSent (sent ++ p ∷ []) s.session g
     read_sent j g lt at' out true c h h' =
         elim (f.read j g (ltb-true _ _ h) at' out) [ inl k ↦ inl k | inr w ↦ inr (sent_left sent (p ∷ []) s.session g w) ]

@@ -20,7 +20,7 @@ use Rattle.geo_base.specs.Builder.{current_id, on_response, snapshot_id}
 use Rattle.geo_base.specs.Cache.{cached, cut_of, last_passed}
 use Rattle.geo_base.specs.Cursor.{mark}
 use Rattle.geo_base.specs.Dispatcher.{consumer_at, least_due, pick}
-use Rattle.geo_base.specs.Entry.{goes_to, is_data, is_place, key_bytes, with_origin}
+use Rattle.geo_base.specs.Entry.{is_data, is_outbound, is_place, key_bytes, with_origin}
 use Rattle.geo_base.specs.Forwarding.{closes, is_remote, link_producer, resets}
 use Rattle.geo_base.specs.Link.{next_packet, sends}
 use Rattle.geo_base.specs.Markers.{asks, request_marker, response_marker, snapshot_marker}
@@ -174,13 +174,9 @@ abbrev pub ReadsNext : Site → Broker → ℕ → ℕ → Entry → Type 0
 ReadsNext h b y i e =
     (is_remote h y ≡ true) × (index_to_read (sender_at b y).state (sender_at b y) (length b.entries) ≡ Some i) × (slice_get b.entries i ≡ Some e)
 
--- whether an entry is to be sent to y
-abbrev pub is_outbound : Site → ℕ → Entry → Bool
-is_outbound h y e = (e.ident.origin == h.own) && goes_to y e.to
-
 -- it is a marker of y
 abbrev pub IsMarkerOf : Site → ℕ → Entry → Type 0
-IsMarkerOf h y e = (is_outbound h y e ≡ false) × ((e.ident.origin == y) ≡ true)
+IsMarkerOf h y e = (is_outbound h.own y e ≡ false) × ((e.ident.origin == y) ≡ true)
 
 -- it is a response of y to the snapshot that is being made
 abbrev pub IsResponse : Site → Broker → ℕ → Entry → List ℕ → ClusterPosition → Builder → Type 0
@@ -199,8 +195,8 @@ IsUpdate h b y e n remote j =
 
 pub data Reads (h : Site) (b : Broker) (y : ℕ) : Plan → Type 0 where
   NothingToRead : Reads h b y idle_plan
-  Forwards : (i : ℕ) (e : Entry) → ReadsNext h b y i e → is_outbound h y e ≡ true → Reads h b y (forwards h y (sender_at b y) i e)
-  Skips : (i : ℕ) (e : Entry) → ReadsNext h b y i e → is_outbound h y e ≡ false → Reads h b y (handled y i [] [])
+  Forwards : (i : ℕ) (e : Entry) → ReadsNext h b y i e → is_outbound h.own y e ≡ true → Reads h b y (forwards h y (sender_at b y) i e)
+  Skips : (i : ℕ) (e : Entry) → ReadsNext h b y i e → is_outbound h.own y e ≡ false → Reads h b y (handled y i [] [])
   Responds : (i : ℕ) (e : Entry) (id : List ℕ) (source : Place) → ReadsNext h b y i e → IsMarkerOf h y e
       → e.content ≡ content.Marked (marker.Request id source)
       → Reads h b y (handled y i (write.Append (response_marker h b y id) ∷ []) [])

@@ -1,3 +1,1 @@
-pub mod Moments
-pub mod Replicated
 pub mod Within

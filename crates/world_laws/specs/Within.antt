@@ -1,8 +1,7 @@
 -- Numbers of a world that count what happened, each at most a bound. An event raises none of them by more than one, so none
 -- is greater than the count of all events, idle ones included.
-use Rattle.std.specs.Prelude.{◌≡◌, ℕ, ◌+◌, ◌*◌, ◌<◌, ◌≤◌, List, length, Some, slice_get, slice_index, slice_index_or}
+use Rattle.std.specs.Prelude.{◌≡◌, ℕ, ◌+◌, ◌≤◌, List, Some, slice_get, slice_index, slice_index_or}
 use Rattle.geo_base.specs.declared.packet.Packet.{Packet}
-use Rattle.geo_base.specs.Broker.{Broker}
 use Rattle.geo_base.specs.Client.{Client}
 use Rattle.geo_base.specs.Link.{Link}
 use Rattle.geo_base.specs.Sender.{Sender, new_sender}
@@ -35,17 +34,3 @@ pub record WorldWithin (s : Setup) (n : ℕ) (w : World) : Type 0 where
   pub broker_clocks : (z : ℕ) → slice_index w.broker_clocks z ≤ n
   pub client_clocks : (c : ℕ) → slice_index w.client_clocks c ≤ n
   pub stamps : (k : LinkName) → StampsWithin n (link_at w.links k)
-
--- A broker has a place for each cluster and each client of the setup.
-pub record BrokerPlaces (s : Setup) (b : Broker) : Type 0 where
-  pub senders : length b.senders ≡ length s.clusters
-  pub receivers : length b.receivers ≡ length s.clusters
-  pub sessions : length b.sessions ≡ length s.clients
-
--- A world has a broker for each topic at each cluster, and what is declared of clients.
-pub record WorldPlaces (s : Setup) (w : World) : Type 0 where
-  pub brokers : length w.brokers ≡ length s.topics * length s.clusters
-  pub clients : length w.clients ≡ length s.clients
-  pub broker_clocks : length w.broker_clocks ≡ length s.topics * length s.clusters
-  pub client_clocks : length w.client_clocks ≡ length s.clients
-  pub each : (z : ℕ) → z < length w.brokers → BrokerPlaces s (broker_at w z)

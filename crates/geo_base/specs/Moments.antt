@@ -1,7 +1,6 @@
 -- The moments of a run: between two steps, between two events of settling, and between two durable writes of one event.
 use Rattle.std.specs.Prelude.{ℕ, List, take, Option, Some, None, slice_set}
-use Rattle.geo_base.specs.declared.event.Event.{Event}
-use Rattle.geo_base.specs.declared.event.Step.{Step}
+use Rattle.geo_base.specs.Types.{Event, Step}
 use Rattle.geo_base.specs.Plan.{all_written}
 use Rattle.geo_base.specs.Planned.{Planned, planned}
 use Rattle.geo_base.specs.Run.{Limits, Ran, all_settle, pairs, resets_of, round_of, rounds_of, run_under}
@@ -15,10 +14,10 @@ pub data Settling : Type 0 where
   Resetting : (k : ℕ) → Settling
   InRound : (rounds k : ℕ) → Settling
 
-abbrev pub settled_so_far : Limits → Setup → Ran → Settling → Ran
-settled_so_far l s r NotBegun = r
-settled_so_far l s r (Resetting k) = all_settle l s r (take k (resets_of (pairs s)))
-settled_so_far l s r (InRound n k) = all_settle l s (rounds_of n l s (all_settle l s r (resets_of (pairs s)))) (take k (round_of (pairs s)))
+abbrev pub settling_so_far : Limits → Setup → Ran → Settling → Ran
+settling_so_far l s r NotBegun = r
+settling_so_far l s r (Resetting k) = all_settle l s r (take k (resets_of (pairs s)))
+settling_so_far l s r (InRound n k) = all_settle l s (rounds_of n l s (all_settle l s r (resets_of (pairs s)))) (take k (round_of (pairs s)))
 
 -- the world when an event has done the first k of its durable writes, and nothing else yet
 abbrev pub partly_written : Setup → World → ℕ → Option Planned → World
@@ -35,7 +34,7 @@ pub record Moment : Type 0 where
 
 -- the world between two events
 abbrev pub world_between : Limits → Setup → List Step → Settling → World
-world_between l s es at = (settled_so_far l s (run_under l s es) at).world
+world_between l s es at = (settling_so_far l s (run_under l s es) at).world
 
 -- the world at a moment of a run under limits
 abbrev pub world_at : Limits → Setup → Moment → World
