@@ -34,3 +34,16 @@ pub mod Pairs
 pub mod Calm
 pub mod Places
 pub mod Bounds
+pub mod Ledgers
+pub mod NoSelf
+pub mod Order
+pub mod Added
+pub mod Layers
+pub mod Ordered
+pub mod Answering
+pub mod Positions
+pub mod Short
+pub mod SnapshotFacts
+pub mod Hearing
+pub mod Everyone
+pub mod Ids

@@ -5,7 +5,9 @@
 #![tactic(auto)]
 
 pub mod replication;
+pub mod snapshots;
 pub mod topics;
 
 pub use replication::{law_prefix, law_receipt};
+pub use snapshots::law_position;
 pub use topics::law_once;
