@@ -54,3 +54,16 @@ pub mod HistoryPush
 pub mod Agreeing
 pub mod ByteHistories
 pub mod Origins
+pub mod Ledgers
+pub mod NoSelf
+pub mod Order
+pub mod Added
+pub mod Layers
+pub mod Ordered
+pub mod Answering
+pub mod Positions
+pub mod Short
+pub mod SnapshotFacts
+pub mod Hearing
+pub mod Everyone
+pub mod Ids

@@ -90,7 +90,7 @@ halts_once s w k p shape once z =
     at_set IsOnce w.brokers (node s p.topic p.cluster) z _ no_broker
     (λ _. halted_once s.per_ledger (broker_at w (node s p.topic p.cluster)) k p.plan (shape_fresh s w p shape) (once (node s p.topic p.cluster))) (once z)
 
-writes_once : (s : Setup) (w : World) (k : ℕ) (p : Planned) → Shape s w p → AllOnce w → AllOnce (partly_written s w k (Some p))
+pub writes_once : (s : Setup) (w : World) (k : ℕ) (p : Planned) → Shape s w p → AllOnce w → AllOnce (partly_written s w k (Some p))
 writes_once s w k p shape once z =
     at_set IsOnce w.brokers (node s p.topic p.cluster) z _ no_broker
     (λ _. written_once s.per_ledger (broker_at w (node s p.topic p.cluster)) k p.plan (shape_fresh s w p shape) (once (node s p.topic p.cluster))) (once z)

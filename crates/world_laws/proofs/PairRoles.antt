@@ -113,7 +113,7 @@ not_pushed y v stamp o f other = by (v == y) refl
     by false e = refl
 
 -- a packet that goes to another sender's link
-abbrev ElsePeer : ℕ → Peer → Type 0
+abbrev pub ElsePeer : ℕ → Peer → Type 0
 ElsePeer y (peer.Forward v) = v ≡ y → ⊥
 ElsePeer y (peer.Broker v) = v ≡ y → ⊥
 ElsePeer y (peer.Back v) = Unit {0}
@@ -129,13 +129,13 @@ pushed_else : (y stamp : ℕ) (f : Link) (os : List Out) → Each (λ (o : Out).
 pushed_else y stamp f [] h = refl
 pushed_else y stamp f (o ∷ os) h = ap (λ (g : Link). pushed y stamp g os) (one_else y stamp o f o.to h.0) ∙ pushed_else y stamp f os h.1
 
-out_peer : (y z : ℕ) → (z ≡ y → ⊥) → (to : Peer) → OutgoingPeer z to → ElsePeer y to
+pub out_peer : (y z : ℕ) → (z ≡ y → ⊥) → (to : Peer) → OutgoingPeer z to → ElsePeer y to
 out_peer y z other (peer.Forward v) h = λ is. other (sym h ∙ is)
 out_peer y z other (peer.Back v) h = absurd h
 out_peer y z other (peer.Client c) h = tt
 out_peer y z other (peer.Broker v) h = absurd h
 
-in_peer : (y z : ℕ) (to : Peer) → IncomingPeer z to → ElsePeer y to
+pub in_peer : (y z : ℕ) (to : Peer) → IncomingPeer z to → ElsePeer y to
 in_peer y z (peer.Forward v) h = absurd h
 in_peer y z (peer.Back v) h = tt
 in_peer y z (peer.Client c) h = tt

@@ -1,6 +1,6 @@
 -- The facts of all pairs hold at every moment of every run, and with them the laws of replication.
-use Rattle.std.proofs.Common.{◌≡◌, ℕ, zero, suc, ◌*◌, ◌<◌, ◌≤◌, Bool, true, false, List, [], ◌∷◌, ◌++◌, length, map, refl, sym, ap, subst, ◌∙◌, ◌==◌, arith}
-use Rattle.std.specs.Prelude.{Option, Some, None, ◌&&◌, nat_lt, replicate, slice_get, slice_index, slice_index_or}
+use Rattle.std.proofs.Common.{◌≡◌, ℕ, zero, suc, ◌*◌, ◌<◌, ◌≤◌, Bool, true, false, List, [], ◌∷◌, ◌++◌, length, map, refl, sym, ap, subst, ◌∙◌, arith}
+use Rattle.std.specs.Prelude.{Option, Some, None, nat_lt, replicate, slice_get, slice_index, slice_index_or}
 use Rattle.std.proofs.lemmas.Bool.{false≢true, ltb-true}
 use Rattle.std.proofs.lemmas.Bool.Decides.{nat_tests}
 use Rattle.std.proofs.lemmas.List.{get_or-replicate, get_or_past, length-set}
@@ -69,7 +69,7 @@ discarded_row [] y = refl
 discarded_row (l ∷ ls) zero = refl
 discarded_row (l ∷ ls) (suc y) = discarded_row ls y
 
-discarded_cell : (m : List (List Link)) (i y : ℕ) → cell (all_discarded m) i y ≡ discarded (cell m i y)
+pub discarded_cell : (m : List (List Link)) (i y : ℕ) → cell (all_discarded m) i y ≡ discarded (cell m i y)
 discarded_cell [] i y = refl
 discarded_cell (r ∷ m) zero y = discarded_row r y
 discarded_cell (r ∷ m) (suc i) y = discarded_cell m i y
@@ -119,7 +119,7 @@ empty_facts x y a b near far sender session = record {
       pending = λ a d is. absurd (none-some d is);
     }
 
-empty_cell : (rows columns i y : ℕ) → cell (table rows columns) i y ≡ no_link
+pub empty_cell : (rows columns i y : ℕ) → cell (table rows columns) i y ≡ no_link
 empty_cell rows columns i y =
     at_copies (λ (r : List Link). slice_index_or r y no_link ≡ no_link) rows i (replicate columns no_link) []
     (at_copies (λ (l : Link). l ≡ no_link) columns y no_link no_link refl refl) refl
@@ -166,13 +166,13 @@ replication_kept s = record {
 }
 
 -- a topic that is not there has no entries
-past_node : (s : Setup) (bs : List Broker) (t x : ℕ) → length bs ≡ length s.topics * length s.clusters → length s.topics ≤ t
+pub past_node : (s : Setup) (bs : List Broker) (t x : ℕ) → length bs ≡ length s.topics * length s.clusters → length s.topics ≤ t
     → slice_index_or bs (node s t x) no_broker ≡ no_broker
 past_node s bs t x size le =
     let m = mul-le-mul_right (length s.clusters) le in get_or_past bs (node s t x) no_broker (omega (arith, size, m))
 
 -- both laws of a world, from what each write keeps
-abbrev Laws : Setup → World → Type 0
+abbrev pub Laws : Setup → World → Type 0
 Laws s w = IsPrefix s w × IsReceived s w
 
 laws_of : (s : Setup) (w : World) (f : ℕ → ℕ → ℕ → Link) (back : ℕ → ℕ → ℕ → List Packet) → length w.brokers ≡ length s.topics * length s.clusters
@@ -209,11 +209,11 @@ forward_of s w t x y = link_at w.links (Forward (node s t x) y)
 back_of : Setup → World → ℕ → ℕ → ℕ → List Packet
 back_of s w t x y = (link_at w.links (Back (node s t x) y)).sent
 
-replicates_laws : (s : Setup) (w : World) → Replicates s w → Laws s w
+pub replicates_laws : (s : Setup) (w : World) → Replicates s w → Laws s w
 unfolding forward_of back_of
 replicates_laws s w h = laws_of s w (forward_of s w) (back_of s w) h.sized.brokers (λ t x y lt pair. (h.pairs t x y lt pair).carried)
 
-written_laws : (s : Setup) (w : World) (k : ℕ) (p : Planned) → Shape s w p → Replicates s w → Laws s (partly_written s w k (Some p))
+pub written_laws : (s : Setup) (w : World) (k : ℕ) (p : Planned) → Shape s w p → Replicates s w → Laws s (partly_written s w k (Some p))
 unfolding forward_of back_of
 written_laws s w k p shape h =
     laws_of s (partly_written s w k (Some p)) (forward_of s w) (back_of s w)

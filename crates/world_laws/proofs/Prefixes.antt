@@ -28,12 +28,12 @@ pub same_self : (i : Ident) → same_stream i i ≡ true
 same_self i = subst (λ (b : Bool). (b && bytes_eq i.producer i.producer) ≡ true) (sym (eq-eqb i.origin i.origin refl)) ((bytes_eq-Decides i.producer i.producer).1 refl)
 
 -- two entries, one before the other
-record InOrder (es : List Entry) (e f : Entry) : Type 0 where
-  i : ℕ
-  j : ℕ
-  before : i < j
-  at_i : slice_get es i ≡ Some e
-  at_j : slice_get es j ≡ Some f
+pub record InOrder (es : List Entry) (e f : Entry) : Type 0 where
+  pub i : ℕ
+  pub j : ℕ
+  pub before : i < j
+  pub at_i : slice_get es i ≡ Some e
+  pub at_j : slice_get es j ≡ Some f
 
 in_order_next : (a : Entry) (es : List Entry) (e f : Entry) → InOrder es e f → InOrder (a ∷ es) e f
 in_order_next a es e f o = record { i = suc o.i; j = suc o.j; before = omega (arith, o.before); at_i = o.at_i; at_j = o.at_j }
@@ -51,13 +51,13 @@ order_step p a es e f true ih (suc i) (suc j) lt ge gf = in_order_next a es e f 
 order_step p a es e f false ih i j lt ge gf = in_order_next a es e f (ih i j lt ge gf)
 
 -- a test leaves the order as it is
-filter_order : (p : Entry → Bool) (es : List Entry) (e f : Entry) (i j : ℕ) → i < j → slice_get (filter p es) i ≡ Some e → slice_get (filter p es) j ≡ Some f
+pub filter_order : (p : Entry → Bool) (es : List Entry) (e f : Entry) (i j : ℕ) → i < j → slice_get (filter p es) i ≡ Some e → slice_get (filter p es) j ≡ Some f
     → InOrder es e f
 filter_order p [] e f i j lt ge gf = absurd (none-some e ge)
 filter_order p (a ∷ es) e f i j lt ge gf = order_step p a es e f (p a) (filter_order p es e f) i j lt ge gf
 
 -- no entry stands before itself
-not_twice : (es : List Entry) (e : Entry) → OnceIn es → InOrder es e e → ⊥
+pub not_twice : (es : List Entry) (e : Entry) → OnceIn es → InOrder es e e → ⊥
 not_twice es e once o = let h = once o.i o.j e e o.before o.at_i o.at_j (same_self e.ident) in omega (arith, h)
 
 -- the entries for y about one of them
@@ -71,7 +71,7 @@ within : (es : List Entry) (i : ℕ) (e : Entry) → slice_get es i ≡ Some e �
 within = slice_get_within
 
 -- an entry before the cut is before the entry at it
-before_cut : (near before after : List Entry) (e f : Entry) → near ≡ before ++ e ∷ after → Stands before f → InOrder near f e
+pub before_cut : (near before after : List Entry) (e f : Entry) → near ≡ before ++ e ∷ after → Stands before f → InOrder near f e
 before_cut near before after e f whole s =
     let P : List Entry → Type 0 = λ es. InOrder es f e in
     let size : s.place < length before = within before s.place f s.is in
@@ -79,17 +79,17 @@ before_cut near before after e f whole s =
     subst P (sym whole)
     (record { i = s.place; j = length before + zero; before = omega (arith, size); at_i = get_left before (e ∷ after) s.place f s.is; at_j = here })
 
-once_left : (es fs : List Entry) → OnceIn (es ++ fs) → OnceIn es
+pub once_left : (es fs : List Entry) → OnceIn (es ++ fs) → OnceIn es
 once_left es fs once i j e f lt ge gf same = once i j e f lt (get_left es fs i e ge) (get_left es fs j f gf) same
 
 -- what an entry of x at an index of near and a beginning at far tell
-record IsCutAt (x y : ℕ) (near far : List Entry) (i : ℕ) (e : Entry) : Type 0 where
-  split : IsSplit near i e
-  rest : List Entry
-  cuts : Cuts (of_origin x far) rest (outbound x y split.before) e
-  whole : outbound x y near ≡ outbound x y split.before ++ e ∷ outbound x y split.after
+pub record IsCutAt (x y : ℕ) (near far : List Entry) (i : ℕ) (e : Entry) : Type 0 where
+  pub split : IsSplit near i e
+  pub rest : List Entry
+  pub cuts : Cuts (of_origin x far) rest (outbound x y split.before) e
+  pub whole : outbound x y near ≡ outbound x y split.before ++ e ∷ outbound x y split.after
 
-cut_at : (x y : ℕ) (near far : List Entry) (i : ℕ) (e : Entry) → Begins x y near far → slice_get near i ≡ Some e → is_outbound x y e ≡ true → IsCutAt x y near far i e
+pub cut_at : (x y : ℕ) (near far : List Entry) (i : ℕ) (e : Entry) → Begins x y near far → slice_get near i ≡ Some e → is_outbound x y e ≡ true → IsCutAt x y near far i e
 cut_at x y near far i e begins at out =
     let s = split_at near i e at in
     let w : outbound x y near ≡ outbound x y s.before ++ e ∷ outbound x y s.after = ap (outbound x y) s.whole ∙ outbound_cut x y e s.before s.after out in

@@ -6,8 +6,10 @@
 
 pub mod histories;
 pub mod replication;
+pub mod snapshots;
 pub mod topics;
 
 pub use histories::{law_alike, law_merge};
 pub use replication::{law_prefix, law_receipt};
+pub use snapshots::law_position;
 pub use topics::law_once;
