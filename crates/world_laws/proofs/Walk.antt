@@ -1,7 +1,8 @@
 -- Following a definition through its branches: a fact of a choice from that of both of its sides, and the parts of a test.
 use Rattle.std.proofs.Common.{◌≡◌, Bool, true, false, refl}
 use Rattle.std.proofs.lemmas.Bool.{false≢true}
-use Rattle.std.specs.Prelude.{if◌then◌else◌, ◌&&◌}
+use Rattle.std.specs.Prelude.{if◌then◌else◌, ◌&&◌, Option, Some, None}
+use Rattle.geo_base.specs.Plan.{Plan, unless_found}
 
 pub on_if : {X : Type 0} (P : X → Type 0) (b : Bool) (x y : X) → P x → P y → P (if b then x else y)
 on_if P true x y p q = p
@@ -16,6 +17,11 @@ on_test P false x y p q = q refl
 pub on_elim : {X : Type 0} (P : X → Type 0) (b : Bool) (x y : X) → P x → P y → P (elim b as (λ b. X) [ true ↦ x | false ↦ y ])
 on_elim P true x y p q = p
 on_elim P false x y p q = q
+
+-- a value that is looked for, which may use that it was found
+pub on_found : {X : Type 0} (P : Plan → Type 0) (p : Plan) (o : Option X) (f : X → Plan) → (o ≡ None → P p) → ((x : X) → o ≡ Some x → P (f x)) → P (unless_found p o f)
+on_found P p None f missing found = missing refl
+on_found P p (Some x) f missing found = found x refl
 
 pub left : (a b : Bool) → (a && b) ≡ true → a ≡ true
 left true b h = refl
