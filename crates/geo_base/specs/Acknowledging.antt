@@ -9,8 +9,8 @@ use Rattle.geo_base.specs.Types.write
 use Rattle.geo_base.specs.Broker.{Broker, Site}
 use Rattle.geo_base.specs.Cursor.{below}
 use Rattle.geo_base.specs.Plan.{Plan, plan_of, quiet_plan}
-use Rattle.geo_base.specs.Storing.{update_after}
-use Rattle.geo_base.specs.Subscription.{Subscription, with_acks}
+use Rattle.geo_base.specs.Storing.{cursor_write}
+use Rattle.geo_base.specs.Subscription.{Subscription}
 use Rattle.geo_base.specs.Topic.{index_of}
 
 abbrev pub with_stored : Option ℕ → List ℕ → List ℕ
@@ -42,10 +42,10 @@ abbrev pub acked_indexes : List ℕ → SubKind → List Position → AckKind �
 acked_indexes ledgers kind ps ack_kind.Individual = stored_indexes ledgers ps
 acked_indexes ledgers kind ps ack_kind.Cumulative = if allows_cumulative kind then cumulative_indexes ledgers ps else []
 
--- one cursor write for all of them, where there is one, then an update where the mark-delete has passed a snapshot
+-- one cursor write for all of them, where there is one
 abbrev pub acks : Site → Broker → Subscription → List ℕ → Plan
 acks h b sub [] = quiet_plan []
-acks h b sub (i ∷ is) = plan_of (write.Acks sub.name (i ∷ is) ∷ update_after h b (with_acks (i ∷ is) sub)) (change.Acked sub.name ∷ []) []
+acks h b sub (i ∷ is) = plan_of (cursor_write h b sub (write.Acks sub.name (i ∷ is))) (change.Acked sub.name ∷ []) []
 
 abbrev pub serve_ack : Site → Broker → AckKind → List Position → Option Subscription → Plan
 serve_ack h b kind ps None = quiet_plan []

@@ -83,26 +83,26 @@ written per b (write.Delete n) = record b { subs = filter (λ (s : Subscription)
 written per b (write.Acks n is) = at_sub b n (with_acks is)
 written per b (write.Seek n i) = at_sub b n (sought i)
 written per b (write.SenderAck y i) = at_sender b y (λ s. record s { cursor = with_index s.cursor i })
-written per b (write.SessionNumber y n) = at_sender b y (λ s. record s { session = n })
+written per b (write.SessionNumber y session) = at_sender b y (λ s. record s { session = session })
 written per b write.Ledger = record b { ledgers = b.ledgers ++ 0 ∷ [] }
 
 -- one change in memory; Forget is what a restart does
 abbrev pub changed : Broker → Change → Broker
-changed b (change.Receiver x r) = record b { receivers = slice_set b.receivers x r }
-changed b (change.Client c s) = record b { sessions = slice_set b.sessions c s }
+changed b (change.Receiver x session) = record b { receivers = slice_set b.receivers x session }
+changed b (change.Client c session) = record b { sessions = slice_set b.sessions c session }
 changed b (change.Attach n k) = at_sub b n (attached k)
 changed b (change.Detach c) = record b { subs = map (detached c) b.subs }
 changed b (change.Permit n c permits) = at_sub b n (permitted c permits)
 changed b (change.Passed n i) = at_sub b n (passed_index i)
 changed b (change.Given n i at) = at_sub b n (given i at)
-changed b (change.Cache n c) = at_sub b n (λ s. record s { cache = cached s.cache c })
+changed b (change.Cache n snapshot) = at_sub b n (λ s. record s { cache = cached s.cache snapshot })
 changed b (change.Acked n) = at_sub b n after_acks
 changed b (change.Cleared n) = at_sub b n cleared
 changed b (change.Opening y) = at_sender b y sender_reset
 changed b (change.Opened y) = at_sender b y (λ s. record s { state = sender_state.Open })
 changed b (change.Pend y i) = at_sender b y (sender_sent i)
 changed b (change.ReadTo y i) = at_sender b y (λ s. record s { read_index = i })
-changed b (change.Unpend y n) = at_sender b y (λ s. record s { pending = without_number s.pending n })
+changed b (change.Unpend y number) = at_sender b y (λ s. record s { pending = without_number s.pending number })
 changed b (change.Building o) = record b { builder = o }
 changed b change.Forget = record {
   entries = b.entries;

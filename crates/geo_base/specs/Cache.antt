@@ -4,7 +4,7 @@ use Rattle.std.specs.List.{list_any}
 use Rattle.geo_base.specs.Types.{CachedSnapshot, ClusterPosition, Cut, Place, Position}
 use Rattle.geo_base.specs.Types.place
 
--- Pulsar's default for the snapshots that are kept
+-- Pulsar's default for the snapshots that a subscription keeps (replicatedSubscriptionsSnapshotMaxCachedPerSubscription)
 abbrev pub most_cached : ℕ
 most_cached = 10
 
@@ -28,7 +28,7 @@ not_passed mark (c ∷ cs) = if any_passed mark (c ∷ cs) then not_passed mark 
 
 -- a place that a marker names, put into the remote positions of a cut of the cluster own
 abbrev pub with_place : ℕ → Place → Position → List (Option Position) → List (Option Position)
-with_place own (place.Known c) p ps = if c == own then ps else slice_set ps c (Some p)
+with_place own (place.Known x) p ps = if x == own then ps else slice_set ps x (Some p)
 with_place own (place.Stranger n) p ps = ps
 
 abbrev pub with_places : ℕ → List (Option Position) → List ClusterPosition → List (Option Position)

@@ -9,32 +9,34 @@ use Rattle.geo_base.specs.Subscription.{Subscription}
 abbrev pub is_due : Subscription → ℕ → Bool
 is_due s i = not (has s.cursor i) && (has s.due i || nat_le s.read_index i)
 
+-- the least due of the indexes from, from + 1, .. from + more - 1
 abbrev pub least_due_from : Subscription → ℕ → ℕ → Option ℕ
 least_due_from s from zero = None
 least_due_from s from (suc more) = if is_due s from then Some from else least_due_from s (from + 1) more
 
--- the index that an offer concerns, in a topic of n entries
+-- the index that an offer concerns, in a topic of so many entries: the least that is due
 abbrev pub least_due : Subscription → ℕ → Option ℕ
-least_due s n = least_due_from s 0 n
+least_due s entries = least_due_from s 0 entries
 
 -- an index that was offered is no longer due again, and reading has passed it
 abbrev pub passed_index : ℕ → Subscription → Subscription
 passed_index i s = record s { due = filter (λ j. not (j == i)) s.due; read_index = max s.read_index (i + 1) }
 
+-- the consumer at a place in the order
 abbrev pub consumer_at : List Consumer → ℕ → Consumer
-consumer_at ks i = slice_index_or ks i (record { client = 0; id = 0; permits = 0 })
+consumer_at ks at = slice_index_or ks at (record { client = 0; id = 0; permits = 0 })
 
 abbrev pub if_permitted : List Consumer → ℕ → Option ℕ
-if_permitted ks i = if nat_lt 0 (consumer_at ks i).permits then Some i else None
+if_permitted ks at = if nat_lt 0 (consumer_at ks at).permits then Some at else None
 
--- the first from place i on that has a permit
+-- the first from a place on that has a permit
 abbrev pub first_permitted : ℕ → List Consumer → Option ℕ
-first_permitted i [] = None
-first_permitted i (k ∷ ks) = if nat_lt 0 k.permits then Some i else first_permitted (i + 1) ks
+first_permitted at [] = None
+first_permitted at (k ∷ ks) = if nat_lt 0 k.permits then Some at else first_permitted (at + 1) ks
 
 -- a key's number (own: any function of the bytes that spreads keys would do)
 abbrev pub key_number : List ℕ → ℕ
-key_number key = fold (λ h b. (h * 31 + b) % 65536) 0 key
+key_number key = fold (λ sum byte. (sum * 31 + byte) % 65536) 0 key
 
 -- the place of the consumer that an entry is for, where it has a permit. Exclusive and Failover serve the consumer that came
 -- first (own for Failover: Pulsar orders by priority and name); Shared the first in order with a permit; Key_Shared the one
@@ -52,8 +54,8 @@ used k = record k { permits = k.permits - 1 }
 
 -- the consumers after the one at a place was given a message: with Shared it goes to the end of the order
 abbrev pub served : SubKind → List Consumer → ℕ → List Consumer
-served sub_kind.Shared ks i = take i ks ++ drop (i + 1) ks ++ used (consumer_at ks i) ∷ []
-served kind ks i = slice_set ks i (used (consumer_at ks i))
+served sub_kind.Shared ks at = take at ks ++ drop (at + 1) ks ++ used (consumer_at ks at) ∷ []
+served kind ks at = slice_set ks at (used (consumer_at ks at))
 
 -- one more index is out; what is out ascends by index, as every set of indexes does, and an index is out once (own)
 abbrev pub with_out : List Outstanding → Outstanding → List Outstanding

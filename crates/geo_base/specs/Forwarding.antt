@@ -25,10 +25,11 @@ is_remote h y = nat_lt y (length h.clusters) && not (y == h.own)
 abbrev pub link_producer : Site → ℕ → List ℕ
 link_producer h x = codes "pulsar.repl." ++ cluster_name h x
 
--- reset: session n begins, and the packet that opens it goes out, with the session as producer id and as request id (own)
+-- reset: a session begins, and the packet that opens it goes out, with the session as producer id and as request id (own)
 abbrev pub resets : Site → ℕ → ℕ → Plan
-resets h y n =
-    plan_of (write.SessionNumber y n ∷ []) (change.Opening y ∷ []) (sends (peer.Forward y) n (frame.Producer h.topic n n (Some (link_producer h h.own))))
+resets h y session =
+    plan_of (write.SessionNumber y session ∷ []) (change.Opening y ∷ [])
+    (sends (peer.Forward y) session (frame.Producer h.topic session session (Some (link_producer h h.own))))
 
 unfoldable pub reset : Site → Broker → ℕ → Plan
 reset h b y = if is_remote h y then resets h y ((sender_at b y).session + 1) else idle_plan
@@ -39,14 +40,14 @@ closes x = quiet_plan (change.Receiver x None ∷ [])
 
 -- an entry of x is stored or is a duplicate; either way it is answered, with the session and the SEND's number
 abbrev pub take_send : Site → Broker → ℕ → ℕ → ℕ → Option Place → Entry → Plan
-take_send h b x n seq source e =
+take_send h b x session seq source e =
     if is_from x source && nat_le (entry_size h.clusters e) most_entry_size
-    then plan_of (storing b (with_origin x e)) [] (sends (peer.Back x) n (frame.SendReceipt n seq (receipt_position h.per_ledger b (with_origin x e))))
+    then plan_of (storing b (with_origin x e)) [] (sends (peer.Back x) session (frame.SendReceipt session seq (receipt_position h.per_ledger b (with_origin x e))))
     else closes x
 
 abbrev pub take_command : Site → Broker → ℕ → ℕ → Frame → Plan
-take_command h b x n (frame.Send id seq source e) = take_send h b x n seq source e
-take_command h b x n f = closes x
+take_command h b x session (frame.Send id seq source e) = take_send h b x session seq source e
+take_command h b x session command = closes x
 
 -- what comes in another session is discarded
 abbrev pub take_in : Site → Broker → ℕ → Packet → Plan
@@ -59,13 +60,13 @@ take_frame h b x p (frame.Producer topic id request name) =
     if bytes_eq topic h.topic && (id == p.session)
     then plan_of [] (change.Receiver x (Some id) ∷ []) (sends (peer.Back x) id (frame.ProducerSuccess request (link_producer h x)))
     else take_in h b x p
-take_frame h b x p f = take_in h b x p
+take_frame h b x p command = take_in h b x p
 
 -- a lost packet closes the session, since entries behind it would be stored without it
 abbrev pub take_fate : Site → Broker → ℕ → Packet → Fate → Plan
 take_fate h b x p fate.Good = take_frame h b x p p.frame
 take_fate h b x p fate.Lost = closes x
-take_fate h b x p fate.Twice = twice h.per_ledger b (λ c. take_frame h c x p p.frame)
+take_fate h b x p fate.Twice = twice h.per_ledger b (λ now. take_frame h now x p p.frame)
 
 unfoldable pub take_packet : Site → Broker → ℕ → Fate → Option Packet → Plan
 take_packet h b x f None = idle_plan
@@ -73,8 +74,8 @@ take_packet h b x f (Some p) = take_fate h b x p f
 
 -- receipt: the index that was sent under a number is acknowledged on the sender's cursor, also for a duplicate
 abbrev pub receives : ℕ → ℕ → Option ℕ → Plan
-receives y n None = quiet_plan []
-receives y n (Some i) = plan_of (write.SenderAck y i ∷ []) (change.Unpend y n ∷ []) []
+receives y seq None = quiet_plan []
+receives y seq (Some i) = plan_of (write.SenderAck y i ∷ []) (change.Unpend y seq ∷ []) []
 
 abbrev pub opens : ℕ → SenderState → Plan
 opens y sender_state.Opening = quiet_plan (change.Opened y ∷ [])
@@ -83,8 +84,8 @@ opens y sender_state.Closed = quiet_plan []
 
 abbrev pub receipt_command : ℕ → Sender → Frame → Plan
 receipt_command y s (frame.ProducerSuccess request name) = opens y s.state
-receipt_command y s (frame.SendReceipt id n position) = receives y n (pending_index s.pending n)
-receipt_command y s f = quiet_plan []
+receipt_command y s (frame.SendReceipt id seq position) = receives y seq (pending_index s.pending seq)
+receipt_command y s command = quiet_plan []
 
 -- what answers another session has no effect
 abbrev pub receipt_packet : Broker → ℕ → Packet → Plan
@@ -93,7 +94,7 @@ receipt_packet b y p = if p.session == (sender_at b y).session then receipt_comm
 abbrev pub receipt_fate : Site → Broker → ℕ → Packet → Fate → Plan
 receipt_fate h b y p fate.Good = receipt_packet b y p
 receipt_fate h b y p fate.Lost = quiet_plan []
-receipt_fate h b y p fate.Twice = twice h.per_ledger b (λ c. receipt_packet c y p)
+receipt_fate h b y p fate.Twice = twice h.per_ledger b (λ now. receipt_packet now y p)
 
 unfoldable pub receipt : Site → Broker → ℕ → Fate → Option Packet → Plan
 receipt h b y f None = idle_plan

@@ -32,6 +32,10 @@ framed kind len body = 8 + (small_field + bytes_field kind len + body)
 abbrev pub simple : ℕ → ℕ → ℕ
 simple kind len = framed kind len 0
 
+-- the greatest size of a frame after its first four bytes: Pulsar's largest message, and 10 KiB for what frames it
+abbrev pub most_frame_size : ℕ
+most_frame_size = 5253120
+
 -- CONNECT names the client `geo-client`, CONNECTED the server `geo-broker` (own), the text of an error is `error` (own);
 -- bytes that cannot be read are written by nobody
 abbrev pub frame_size : List (List ℕ) → Frame → ℕ

@@ -48,8 +48,8 @@ with_error k = record k { errors = k.errors + 1 }
 
 -- a message for the sub line in force is held and got
 abbrev pub received : Client → ℕ → Ident → Position → Client
-received k id i p =
-    if is_number id k.sub then record k { held = k.held ++ record { ident = i; position = p } ∷ []; got = k.got ++ i ∷ [] } else k
+received k id ident p =
+    if is_number id k.sub then record k { held = k.held ++ record { ident = ident; position = p } ∷ []; got = k.got ++ ident ∷ [] } else k
 
 -- a message's origin is its replicated_from; without one the cluster that it came from stored it first
 abbrev pub got_message : Client → ℕ → Position → Option Place → Entry → Client
@@ -66,4 +66,4 @@ got_frame d k f = k
 
 unfoldable pub get : Declared → Client → Option Packet → Acted
 get d k None = stays k
-get d k (Some p) = becomes (if p.session == k.connection then got_frame d k p.frame else k) []
+get d k (Some packet) = becomes (if packet.session == k.connection then got_frame d k packet.frame else k) []

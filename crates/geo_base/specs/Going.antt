@@ -31,7 +31,8 @@ acks_to k None = stays k
 acks_to k (Some p) =
     becomes (record (past k) { held = filter (λ (h : Held). not (position_le h.position p)) k.held }) (to_broker k (frame.Ack (id_of k.sub) ack_kind.Cumulative (p ∷ [])))
 
--- the most positions of one acknowledgement, which keeps its frame below the limit on frames (own)
+-- the most positions of one acknowledgement (own: a position takes at most 22 bytes and the two of its field, so the frame stays
+-- below Pulsar's largest, 5 MiB and 10 KiB)
 abbrev pub most_acks : ℕ
 most_acks = 200000
 
@@ -41,7 +42,7 @@ acks_all k (h ∷ hs) =
     becomes (record (past k) { held = drop most_acks (h ∷ hs) })
     (to_broker k (frame.Ack (id_of k.sub) ack_kind.Individual (map (λ (g : Held). g.position) (take most_acks (h ∷ hs)))))
 
--- the most publishes that wait for their receipts (own)
+-- the most publishes that wait for their receipts (own: a window, as Pulsar's clients have one, bounds what a reconnect sends again)
 abbrev pub most_unanswered : ℕ
 most_unanswered = 256
 

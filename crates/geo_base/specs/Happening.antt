@@ -9,18 +9,18 @@ use Rattle.geo_base.specs.Getting.{get}
 use Rattle.geo_base.specs.Going.{go}
 use Rattle.geo_base.specs.Link.{Link, discarded, next_packet}
 use Rattle.geo_base.specs.Plan.{done, halted}
-use Rattle.geo_base.specs.Planned.{Planned, planned}
+use Rattle.geo_base.specs.Planned.{Planned, has_client, planned}
 use Rattle.geo_base.specs.Seeking.{restart}
 use Rattle.geo_base.specs.Setup.{Setup, declared_at}
 use Rattle.geo_base.specs.World.{LinkName, ToClient, World, broker_at, client_at, delivered, from_broker, from_client, link_at, node, packet_at, taken_from}
 
 abbrev pub stamp_of : Option Packet → ℕ
 stamp_of None = 0
-stamp_of (Some p) = p.stamp
+stamp_of (Some packet) = packet.stamp
 
 -- an event's stamp: 1 plus the greater of its node's last one and that of the packet that it takes (own)
 abbrev pub next_stamp : ℕ → Option Packet → ℕ
-next_stamp clock p = 1 + max clock (stamp_of p)
+next_stamp clock packet = 1 + max clock (stamp_of packet)
 
 abbrev pub idles : World → World
 idles w = record w { idle = w.idle + 1 }
@@ -73,13 +73,13 @@ abbrev pub does_planned : Setup → World → Option Planned → World
 does_planned s w None = idles w
 does_planned s w (Some p) = broker_does s w p
 
--- an event: idle where it is not enabled
+-- an event: idle where it is not enabled, or a number in it is out of range
 unfoldable pub happens : Setup → World → Event → World
-happens s w (event.Go c) = client_does s w c None (client_acted s (client_at s w c) (event.Go c) None)
-happens s w (event.Reconnect c) = client_does s w c None (client_acted s (client_at s w c) (event.Reconnect c) None)
+happens s w (event.Go c) = if has_client s c then client_does s w c None (client_acted s (client_at s w c) (event.Go c) None) else idles w
+happens s w (event.Reconnect c) = if has_client s c then client_does s w c None (client_acted s (client_at s w c) (event.Reconnect c) None) else idles w
 happens s w (event.Get c) =
-    let k = ToClient c (client_at s w c).cluster in
-    client_does s w c (Some k) (client_acted s (client_at s w c) (event.Get c) (next_packet (link_at w.links k)))
+    let link = ToClient c (client_at s w c).cluster in
+    if has_client s c then client_does s w c (Some link) (client_acted s (client_at s w c) (event.Get c) (next_packet (link_at w.links link))) else idles w
 happens s w e = does_planned s w (planned s w e)
 
 -- a stop behind the first k durable writes of an event: its packet is taken, nothing is sent, the node starts again. It is

@@ -4,7 +4,7 @@ use Rattle.std.specs.Prelude.{ℕ, ◌+◌, ◌*◌, ◌/◌, nat_lt, ◌==◌, 
 use Rattle.geo_base.specs.Types.{Event, Peer}
 use Rattle.geo_base.specs.Types.event
 use Rattle.geo_base.specs.Types.peer
-use Rattle.geo_base.specs.Planned.{has_node, in_range}
+use Rattle.geo_base.specs.Planned.{has_client, has_node, in_range}
 use Rattle.geo_base.specs.Setup.{Setup, declared_at}
 use Rattle.geo_base.specs.World.{Back, Forward, LinkName, ToBroker, ToClient, from_broker, from_client, node}
 
@@ -23,9 +23,6 @@ node_count s = broker_count s + length s.clients
 abbrev pub node_number : Setup → Node → ℕ
 node_number s (BrokerNode t x) = node s t x
 node_number s (ClientNode c) = broker_count s + c
-
-abbrev pub has_client : Setup → ℕ → Bool
-has_client s c = nat_lt c (length s.clients)
 
 abbrev pub is_node : Setup → Node → Bool
 is_node s (BrokerNode t x) = has_node s t x

@@ -1,7 +1,7 @@
 -- offer: the dispatcher of a subscription takes the least due index. A message goes to a consumer that has a permit; a marker
 -- needs none, is never shown to a consumer, and a snapshot of the own cluster enters the cache.
-use Rattle.std.specs.Prelude.{ℕ, ◌==◌, ◌&&◌, if◌then◌else◌, List, [], ◌∷◌, length, Option, Some, None, slice_get}
-use Rattle.geo_base.specs.Types.{CachedSnapshot, ClusterPosition, Consumer, Content, Entry, Out, Place, Position, Session}
+use Rattle.std.specs.Prelude.{ℕ, ◌==◌, ◌&&◌, if◌then◌else◌, List, [], ◌∷◌, length, Option, Some, None, slice_get, option_map}
+use Rattle.geo_base.specs.Types.{CachedSnapshot, Consumer, Content, Entry, Out, Place, Session}
 use Rattle.geo_base.specs.Types.change
 use Rattle.geo_base.specs.Types.content
 use Rattle.geo_base.specs.Types.frame
@@ -12,11 +12,11 @@ use Rattle.geo_base.specs.Types.write
 use Rattle.geo_base.specs.Broker.{Broker, Site, session_at, sub_named}
 use Rattle.geo_base.specs.Cache.{cached, cut_of}
 use Rattle.geo_base.specs.Dispatcher.{consumer_at, least_due, pick}
-use Rattle.geo_base.specs.Entry.{key_bytes}
+use Rattle.geo_base.specs.Entry.{is_data, key_bytes}
 use Rattle.geo_base.specs.Link.{sends}
-use Rattle.geo_base.specs.Plan.{Plan, idle_plan, plan_of}
-use Rattle.geo_base.specs.Storing.{update_after}
-use Rattle.geo_base.specs.Subscription.{Subscription, with_acks}
+use Rattle.geo_base.specs.Plan.{Plan, idle_plan, plan_of, unless_found}
+use Rattle.geo_base.specs.Storing.{cursor_write}
+use Rattle.geo_base.specs.Subscription.{Subscription}
 use Rattle.geo_base.specs.Topic.{index_of, position_at}
 
 -- replicated_from, absent where the own cluster stored the entry first
@@ -31,46 +31,35 @@ abbrev pub message : Site → Broker → ℕ → Entry → Consumer → List Out
 message h b i e k =
     sends (peer.Client k.client) (number_of (session_at b k.client)) (frame.Message k.id (position_at b.ledgers i) (source_of h.own e) e)
 
-abbrev pub offer_data : Site → Broker → Subscription → ℕ → Entry → Option ℕ → Plan
-offer_data h b s i e None = idle_plan
-offer_data h b s i e (Some at) = plan_of [] (change.Given s.name i at ∷ []) (message h b i e (consumer_at s.consumers at))
+-- the snapshot that a marker brings into the cache of a replicated subscription: one that the own cluster made, whose local
+-- position is stored
+abbrev pub own_snapshot : Site → Broker → Subscription → ℕ → Content → Option CachedSnapshot
+own_snapshot h b s origin (content.Marked (marker.Snapshot id local remote)) =
+    if (origin == h.own) && s.replicated
+    then option_map (λ j. record { index = j; cut = cut_of h.own (length h.clusters) local remote }) (index_of b.ledgers local)
+    else None
+own_snapshot h b s origin c = None
 
--- a marker is acknowledged on the cursor, and an update follows where the mark-delete has passed a snapshot
-abbrev pub offer_marker : Site → Broker → Subscription → ℕ → Plan
-offer_marker h b s i =
-    plan_of (write.Acks s.name (i ∷ []) ∷ update_after h b (with_acks (i ∷ []) s)) (change.Passed s.name i ∷ change.Acked s.name ∷ []) []
-
--- the snapshot enters the cache first
-abbrev pub offer_snapshot : Site → Broker → Subscription → ℕ → CachedSnapshot → Plan
-offer_snapshot h b s i c =
-    plan_of (write.Acks s.name (i ∷ []) ∷ update_after h b (with_acks (i ∷ []) (record s { cache = cached s.cache c })))
+-- a marker is acknowledged on the cursor, and the snapshot that it brings enters the cache first
+abbrev pub passes_by : Site → Broker → Subscription → ℕ → Option CachedSnapshot → Plan
+passes_by h b s i None =
+    plan_of (cursor_write h b s (write.Acks s.name (i ∷ []))) (change.Passed s.name i ∷ change.Acked s.name ∷ []) []
+passes_by h b s i (Some c) =
+    plan_of (cursor_write h b (record s { cache = cached s.cache c }) (write.Acks s.name (i ∷ [])))
     (change.Cache s.name c ∷ change.Passed s.name i ∷ change.Acked s.name ∷ []) []
 
--- only one whose local position is stored
-abbrev pub offer_cut : Site → Broker → Subscription → ℕ → Position → List ClusterPosition → Option ℕ → Plan
-offer_cut h b s i local remote None = offer_marker h b s i
-offer_cut h b s i local remote (Some j) = offer_snapshot h b s i (record { index = j; cut = cut_of h.own (length h.clusters) local remote })
+-- what becomes of the entry at an index, the least that is due
+abbrev pub offer_entry : Site → Broker → Subscription → ℕ → Entry → Plan
+offer_entry h b s i e =
+    if is_data e.content
+    then unless_found idle_plan (pick s.kind s.consumers (key_bytes e.meta.key)) (λ at.
+    plan_of [] (change.Given s.name i at ∷ []) (message h b i e (consumer_at s.consumers at)))
+    else passes_by h b s i (own_snapshot h b s e.ident.origin e.content)
 
-abbrev pub offer_content : Site → Broker → Subscription → ℕ → Entry → Content → Plan
-offer_content h b s i e content.Data = offer_data h b s i e (pick s.kind s.consumers (key_bytes e.meta.key))
-offer_content h b s i e (content.Marked (marker.Snapshot id local remote)) =
-    if (e.ident.origin == h.own) && s.replicated then offer_cut h b s i local remote (index_of b.ledgers local) else offer_marker h b s i
-offer_content h b s i e (content.Marked (marker.Request id source)) = offer_marker h b s i
-offer_content h b s i e (content.Marked (marker.Response id answer)) = offer_marker h b s i
-offer_content h b s i e (content.Marked (marker.Update n remote)) = offer_marker h b s i
-offer_content h b s i e (content.Unread kind) = offer_marker h b s i
-
-abbrev pub offer_entry : Site → Broker → Subscription → ℕ → Option Entry → Plan
-offer_entry h b s i None = idle_plan
-offer_entry h b s i (Some e) = offer_content h b s i e e.content
-
-abbrev pub offer_at : Site → Broker → Subscription → Option ℕ → Plan
-offer_at h b s None = idle_plan
-offer_at h b s (Some i) = offer_entry h b s i (slice_get b.entries i)
-
-abbrev pub offer_on : Site → Broker → Option Subscription → Plan
-offer_on h b None = idle_plan
-offer_on h b (Some s) = offer_at h b s (least_due s (length b.entries))
-
+-- idle where the subscription is not here, nothing is due, or a message is due and no consumer for it has a permit
 unfoldable pub offer : Site → Broker → List ℕ → Plan
-offer h b n = offer_on h b (sub_named b.subs n)
+offer h b n =
+    unless_found idle_plan (sub_named b.subs n) (λ s.
+    unless_found idle_plan (least_due s (length b.entries)) (λ i.
+    unless_found idle_plan (slice_get b.entries i) (λ e.
+    offer_entry h b s i e)))

@@ -1,5 +1,5 @@
 -- Which node an event concerns, which link it takes a packet from, and its plan.
-use Rattle.std.specs.Prelude.{ℕ, nat_lt, Bool, true, ◌&&◌, if◌then◌else◌, length, Option, Some, None}
+use Rattle.std.specs.Prelude.{ℕ, nat_lt, Bool, ◌&&◌, if◌then◌else◌, length, Option, Some, None}
 use Rattle.geo_base.specs.Types.{Event, Packet}
 use Rattle.geo_base.specs.Types.event
 use Rattle.geo_base.specs.Broker.{Broker}
@@ -62,13 +62,17 @@ planned_in s w (event.Reconnect c) = None
 abbrev pub has_node : Setup → ℕ → ℕ → Bool
 has_node s t x = nat_lt t (length s.topics) && nat_lt x (length s.clusters)
 
+abbrev pub has_client : Setup → ℕ → Bool
+has_client s c = nat_lt c (length s.clients)
+
 abbrev pub has_pair : Setup → ℕ → ℕ → ℕ → Bool
 has_pair s t x y = has_node s t x && nat_lt y (length s.clusters)
 
--- the topics and clusters that an event names are in the setup
+-- the topics, clusters and clients that an event names are in the setup. A subscription's number past the end is that of an
+-- empty name, which no subscription has
 abbrev pub in_range : Setup → Event → Bool
-in_range s (event.Serve x c) = nat_lt x (length s.clusters)
-in_range s (event.Drop x c) = nat_lt x (length s.clusters)
+in_range s (event.Serve x c) = nat_lt x (length s.clusters) && has_client s c
+in_range s (event.Drop x c) = nat_lt x (length s.clusters) && has_client s c
 in_range s (event.Reset t x y) = has_pair s t x y
 in_range s (event.Read t x y) = has_pair s t x y
 in_range s (event.Take t x y f) = has_pair s t x y
@@ -77,8 +81,10 @@ in_range s (event.Snap t x) = has_node s t x
 in_range s (event.Offer t x n) = has_node s t x
 in_range s (event.Seek t x n to) = has_node s t x
 in_range s (event.Restart t x) = has_node s t x
-in_range s e = true
+in_range s (event.Go c) = has_client s c
+in_range s (event.Get c) = has_client s c
+in_range s (event.Reconnect c) = has_client s c
 
--- a number out of range would name a node of another topic, so such an event has no plan and is idle
+-- a number out of range names nobody, or a node of another topic, so such an event has no plan and is idle (own)
 unfoldable pub planned : Setup → World → Event → Option Planned
 planned s w e = if in_range s e then planned_in s w e else None

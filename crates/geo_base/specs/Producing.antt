@@ -29,9 +29,13 @@ abbrev pub is_taken : List ℕ → ℕ → ℕ → List (Option Session) → Boo
 is_taken n c d [] = false
 is_taken n c d (s ∷ ss) = (not (c == d) && uses_name n s) || is_taken n c (d + 1) ss
 
--- a name that a broker attaches: at most 1,024 bytes (own), and none that begins with `pulsar.`, as the system's own do
+-- the most bytes of a producer's name (own: PulsarApi.proto has no limit; a session keeps its producers' names in memory)
+abbrev pub most_producer_name : ℕ
+most_producer_name = 1024
+
+-- a name that a broker attaches: not too long, and none that begins with `pulsar.`, as the system's own do
 abbrev pub may_attach : List ℕ → Bool
-may_attach n = nat_le (length n) 1024 && not (bytes_eq (take 7 n) (codes "pulsar."))
+may_attach n = nat_le (length n) most_producer_name && not (bytes_eq (take 7 n) (codes "pulsar."))
 
 abbrev pub with_producers : ℕ → Session → List AttachedProducer → Change
 with_producers c s ps = change.Client c (Some (record { number = s.number; producers = ps }))

@@ -21,17 +21,25 @@ Limits = World → Option ℕ
 abbrev pub no_limits : Limits
 no_limits w = None
 
--- limit 2: events and idle events together (own, so that every run ends)
+-- the most events and idle events of a run together (own: so that every run ends, settling included)
+abbrev pub most_events : ℕ
+most_events = 2000000
+
+-- limit 2
 abbrev pub event_limit : Limits
-event_limit w = if nat_lt 2000000 (w.events + w.idle) then Some 2 else None
+event_limit w = if nat_lt most_events (w.events + w.idle) then Some 2 else None
 
 abbrev pub or_else : Option ℕ → Option ℕ → Option ℕ
 or_else None o = o
 or_else (Some n) o = Some n
 
--- limit 3: bytes of all frames sent, 1 GiB (own, so that links fit in memory); limit 2 is judged first
+-- the most bytes of all frames that a run sends, 1 GiB (own: so that links fit in memory)
+abbrev pub most_sent_bytes : ℕ
+most_sent_bytes = 1073741824
+
+-- limit 3; limit 2 is judged first
 abbrev pub all_limits : Limits
-all_limits w = or_else (event_limit w) (if nat_lt 1073741824 w.frame_bytes then Some 3 else None)
+all_limits w = or_else (event_limit w) (if nat_lt most_sent_bytes w.frame_bytes then Some 3 else None)
 
 -- how far a run has come, and the limit at which it ended, if it did
 pub record Ran : Type 0 where

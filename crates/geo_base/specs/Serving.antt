@@ -6,7 +6,7 @@ use Rattle.geo_base.specs.Types.frame
 use Rattle.geo_base.specs.Acknowledging.{serve_ack}
 use Rattle.geo_base.specs.Answers.{answer, answers}
 use Rattle.geo_base.specs.Broker.{Broker, Site, session_at}
-use Rattle.geo_base.specs.Plan.{Plan, idle_plan, plan_of, quiet_plan}
+use Rattle.geo_base.specs.Plan.{Plan, idle_plan, plan_of, quiet_plan, unless_found}
 use Rattle.geo_base.specs.Producing.{name_with, serve_close_producer, serve_producer, serve_send}
 use Rattle.geo_base.specs.Subscribing.{consumed_by, serve_close_consumer, serve_flow, serve_subscribe, serve_unsubscribe}
 
@@ -14,7 +14,8 @@ use Rattle.geo_base.specs.Subscribing.{consumed_by, serve_close_consumer, serve_
 abbrev pub session_becomes : ℕ → Option Session → List Change
 session_becomes c s = change.Detach c ∷ change.Client c s ∷ []
 
--- a command of the open session; one that this link does not carry closes it
+-- a command of the open session; one that this link does not carry closes it, without an answer (own:
+-- PulsarApi.proto leaves it open)
 abbrev pub serve_command : Site → Broker → ℕ → Session → Frame → Plan
 serve_command h b c s (frame.Producer topic id request n) = serve_producer h b c s topic id request n
 serve_command h b c s (frame.Send id seq source e) = serve_send h b c s id seq source e (name_with id s.producers)
@@ -29,23 +30,21 @@ serve_command h b c s frame.Ping = answers c s frame.Pong
 serve_command h b c s frame.Pong = quiet_plan []
 serve_command h b c s f = quiet_plan (session_becomes c None)
 
--- what comes in another session is discarded
-abbrev pub serve_in : Site → Broker → ℕ → Packet → Option Session → Plan
-serve_in h b c p None = quiet_plan []
-serve_in h b c p (Some s) = if s.number == p.session then serve_command h b c s p.frame else quiet_plan []
-
--- CONNECT opens the packet's session, a frame that cannot be read closes whatever is open
+-- The first of these that applies holds (own). CONNECT opens the packet's session: it comes first, since no session is open
+-- before it. A frame that cannot be read closes whatever is open: nobody can tell what it asked, so nothing behind it may
+-- count. What comes in another session is discarded: it was sent on a connection that has ended. Then the command is done
 abbrev pub serve_frame : Site → Broker → ℕ → Packet → Frame → Plan
 serve_frame h b c p frame.Connect =
     let s : Session = record { number = p.session; producers = [] } in
     plan_of [] (session_becomes c (Some s)) (answer c s frame.Connected)
 serve_frame h b c p frame.Unreadable = quiet_plan (session_becomes c None)
-serve_frame h b c p f = serve_in h b c p (session_at b c)
+serve_frame h b c p f =
+    unless_found (quiet_plan []) (session_at b c) (λ s. if s.number == p.session then serve_command h b c s p.frame else quiet_plan [])
 
 unfoldable pub serve : Site → Broker → ℕ → Option Packet → Plan
-serve h b c None = idle_plan
-serve h b c (Some p) = serve_frame h b c p p.frame
+serve h b c next = unless_found idle_plan next (λ p. serve_frame h b c p p.frame)
 
+-- drop: idle where the client has no session open
 abbrev pub drop_session : ℕ → Option Session → Plan
 drop_session c None = idle_plan
 drop_session c (Some s) = quiet_plan (session_becomes c None)

@@ -87,6 +87,6 @@ metadata_size e =
 abbrev pub entry_size : List (List ℕ) → Entry → ℕ
 entry_size names e = metadata_size e + payload_size names e.content e.payload
 
--- the greatest size of an entry that is stored: Pulsar's largest message, 5 MiB
+-- the greatest size of an entry that is stored: Pulsar's largest message, 5 MiB (maxMessageSize of a broker's configuration)
 abbrev pub most_entry_size : ℕ
 most_entry_size = 5242880

@@ -11,7 +11,7 @@ use Rattle.geo_base.specs.Cache.{last_passed}
 use Rattle.geo_base.specs.Cursor.{mark}
 use Rattle.geo_base.specs.Entry.{marker_producer}
 use Rattle.geo_base.specs.Position.{nowhere}
-use Rattle.geo_base.specs.Subscription.{Subscription}
+use Rattle.geo_base.specs.Subscription.{Subscription, sought, with_acks}
 use Rattle.geo_base.specs.Topic.{accepts, next_marker, next_position}
 
 -- an entry that came is stored where it is accepted
@@ -40,7 +40,18 @@ abbrev pub appending_update : Site → Broker → List ℕ → Option Cut → Li
 appending_update h b n None = []
 appending_update h b n (Some cut) = write.Append (update_marker h b n cut) ∷ []
 
--- after a write of a subscription's cursor, s being the subscription with that write done: an update where the mark-delete
--- has passed a cached snapshot, and only for a replicated subscription
+-- what follows a write of a subscription's cursor, s being the subscription with that write done: an update where the
+-- mark-delete has passed a cached snapshot, and only for a replicated subscription (PIP-33)
 abbrev pub update_after : Site → Broker → Subscription → List Write
 update_after h b s = appending_update h b s.name (if s.replicated then last_passed (mark s.cursor) s.cache else None)
+
+-- what a write makes of a subscription's cursor; no other write than these two is one of a cursor
+abbrev pub with_write : Write → Subscription → Subscription
+with_write (write.Acks n is) s = with_acks is s
+with_write (write.Seek n i) s = sought i s
+with_write w s = s
+
+-- a write of a subscription's cursor with what follows it. An ACK, an update that another cluster sent, an offer and a seek
+-- all write a cursor in this way, so that no move of a mark-delete goes untold
+abbrev pub cursor_write : Site → Broker → Subscription → Write → List Write
+cursor_write h b s w = w ∷ update_after h b (with_write w s)

@@ -19,7 +19,7 @@ same_kind sub_kind.Failover sub_kind.Failover = true
 same_kind sub_kind.KeyShared sub_kind.KeyShared = true
 same_kind a b = false
 
--- the most subscriptions of a topic (own)
+-- the most subscriptions of a topic (own: so that a script's clients, and updates that other clusters send, take bounded memory)
 abbrev pub most_subs : ℕ
 most_subs = 32
 

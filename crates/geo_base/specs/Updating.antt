@@ -7,10 +7,10 @@ use Rattle.geo_base.specs.Types.write
 use Rattle.geo_base.specs.Broker.{Broker, Site, sub_named}
 use Rattle.geo_base.specs.Entry.{is_data, is_place, meant_for}
 use Rattle.geo_base.specs.Name.{is_name}
-use Rattle.geo_base.specs.Plan.{Plan, plan_of}
-use Rattle.geo_base.specs.Storing.{update_after}
+use Rattle.geo_base.specs.Plan.{Plan, plan_of, unless_found}
+use Rattle.geo_base.specs.Storing.{cursor_write}
 use Rattle.geo_base.specs.Subscribing.{has_room}
-use Rattle.geo_base.specs.Subscription.{Subscription, with_acks}
+use Rattle.geo_base.specs.Subscription.{Subscription, new_subscription}
 use Rattle.geo_base.specs.Topic.{index_of}
 
 -- what the sender to y has read at index i is acknowledged on its cursor, after writes and changes of its own
@@ -33,22 +33,26 @@ only_index ledgers (p ∷ q ∷ ps) = None
 abbrev pub passes : ℕ → Entry → Bool
 passes y e = not (is_data e.content) || meant_for y e
 
--- the indexes that it passes over among the first n of the entries, k being the index of the first
+-- the indexes that it passes over among the first so many of the entries, the first of which has index i
 abbrev pub passed_over : ℕ → ℕ → ℕ → List Entry → List ℕ
-passed_over y k zero es = []
-passed_over y k (suc n) [] = []
-passed_over y k (suc n) (e ∷ es) = if passes y e then k ∷ passed_over y (k + 1) n es else passed_over y (k + 1) n es
+passed_over y i zero es = []
+passed_over y i (suc more) [] = []
+passed_over y i (suc more) (e ∷ es) = if passes y e then i ∷ passed_over y (i + 1) more es else passed_over y (i + 1) more es
 
--- a missing subscription is created at Earliest, replicated and Exclusive; one that is here is not changed otherwise, and
--- need not be marked replicated (own)
-abbrev pub updates : Site → Broker → ℕ → ℕ → List ℕ → List ℕ → Option Subscription → Plan
-updates h b y i n is None = handled y i (write.Create n sub_kind.Exclusive true false ∷ write.Acks n is ∷ []) (change.Acked n ∷ [])
-updates h b y i n is (Some s) = handled y i (write.Acks n is ∷ update_after h b (with_acks is s)) (change.Acked n ∷ [])
+-- one write of the cursor of a subscription of this name, which is created at Earliest, replicated and Exclusive where it is
+-- missing; one that is here is not changed otherwise, and need not be marked replicated (own)
+abbrev pub passing : Site → Broker → List ℕ → List ℕ → Option Subscription → List Write
+passing h b n is None =
+    write.Create n sub_kind.Exclusive true false ∷ cursor_write h b (new_subscription n sub_kind.Exclusive true []) (write.Acks n is)
+passing h b n is (Some s) = cursor_write h b s (write.Acks n is)
 
-abbrev pub update_to : Site → Broker → ℕ → ℕ → List ℕ → Option ℕ → Plan
-update_to h b y i n None = handled y i [] []
-update_to h b y i n (Some j) =
-    if is_name n && has_room b n then updates h b y i n (passed_over y 0 (j + 1) b.entries) (sub_named b.subs n) else handled y i [] []
-
+-- an update of y at index i. It has no effect, but is acknowledged like every marker, unless it names exactly one position
+-- for the own cluster and that is stored, and its name is a name of a subscription that is here or may be made (own, since
+-- PIP-33 says nothing of such updates: of two positions none is better, one that is not stored here can't be passed, and no
+-- update makes a subscription that a client could not make)
 abbrev pub read_update : Site → Broker → ℕ → ℕ → List ℕ → List ClusterPosition → Plan
-read_update h b y i n remote = update_to h b y i n (only_index b.ledgers (positions_for h.own remote))
+read_update h b y i n remote =
+    unless_found (handled y i [] []) (only_index b.ledgers (positions_for h.own remote)) (λ j.
+    if is_name n && has_room b n
+    then handled y i (passing h b n (passed_over y 0 (j + 1) b.entries) (sub_named b.subs n)) (change.Acked n ∷ [])
+    else handled y i [] [])

@@ -102,11 +102,11 @@ table rows columns = replicate rows (replicate columns no_link)
 -- empty topics, no session, no connection, empty links
 abbrev pub opening_world : Setup → World
 opening_world s =
-    let n = length s.clusters in let nodes = length s.topics * n in let clients = length s.clients in
+    let clusters = length s.clusters in let nodes = length s.topics * clusters in let clients = length s.clients in
     record {
-      brokers = replicate nodes (new_broker n clients);
+      brokers = replicate nodes (new_broker clusters clients);
       clients = map new_client s.clients;
-      links = record { forward = table nodes n; back = table nodes n; to_broker = table clients n; to_client = table clients n };
+      links = record { forward = table nodes clusters; back = table nodes clusters; to_broker = table clients clusters; to_client = table clients clusters };
       broker_clocks = replicate nodes 0;
       client_clocks = replicate clients 0;
       events = 0;

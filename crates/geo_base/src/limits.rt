@@ -1,4 +1,14 @@
 //! The limits of a script and of a run, each with its reason.
+ghost use Rattle.std.specs.Prelude.{◌≡◌};
+ghost use Rattle.geo_base.specs.Cache.{most_cached};
+ghost use Rattle.geo_base.specs.FrameSizes.{most_frame_size};
+ghost use Rattle.geo_base.specs.Going.{most_acks, most_unanswered};
+ghost use Rattle.geo_base.specs.Name.{most_name_bytes};
+ghost use Rattle.geo_base.specs.Producing.{most_producer_name};
+ghost use Rattle.geo_base.specs.Run.{most_events, most_sent_bytes};
+ghost use Rattle.geo_base.specs.Sizes.{most_entry_size};
+ghost use Rattle.geo_base.specs.Subscribing.{most_subs};
+ghost use Rattle.geo_base.specs.Subscription.{most_permits};
 
 /// Bytes of a name: as many as a script's reader takes in at a glance (own).
 pub const NAME_BYTES: usize = 16;
@@ -50,3 +60,19 @@ pub const EVENTS: u64 = 2_000_000;
 
 /// Bytes of all frames that a run sends, so that links fit in memory (own).
 pub const SENT_BYTES: u64 = 1_073_741_824;
+
+/// The numbers of the machine: its definitions write each themselves, and the constant here is the same.
+pub fn machine_numbers()
+    ensures name { NAME_BYTES ≡ most_name_bytes }
+    ensures producer_name { PRODUCER_NAME_BYTES ≡ most_producer_name }
+    ensures subscriptions { SUBSCRIPTIONS ≡ most_subs }
+    ensures unanswered { UNANSWERED ≡ most_unanswered }
+    ensures acked { ACKED_AT_ONCE ≡ most_acks }
+    ensures entry { ENTRY_BYTES ≡ most_entry_size }
+    ensures frame { FRAME_BYTES ≡ most_frame_size }
+    ensures cached { CACHED_SNAPSHOTS ≡ most_cached }
+    ensures permits { PERMITS ≡ most_permits }
+    ensures events { EVENTS ≡ most_events }
+    ensures sent { SENT_BYTES ≡ most_sent_bytes }
+{
+}

@@ -1,9 +1,8 @@
 //! The dispatcher of a subscription: offer.
-ghost use Rattle.std.specs.Prelude.{◌≡◌, ◌<◌, ◌+◌, ◌^◌, true, Some, length, IfOk};
+ghost use Rattle.std.specs.Prelude.{◌≡◌, ◌<◌, ◌+◌, ◌^◌, true, IfOk};
 ghost use Rattle.geo_base.specs.Broker.{session_at};
-ghost use Rattle.geo_base.specs.Dispatcher.{least_due};
 ghost use Rattle.geo_base.specs.Message.{is_message};
-ghost use Rattle.geo_base.specs.Offering.{number_of, offer, offer_at, offer_entry, source_of};
+ghost use Rattle.geo_base.specs.Offering.{number_of, offer, offer_entry, source_of};
 ghost use Rattle.topic_book.specs.Fits.{HasRoom, PlanFits, steps_room};
 
 use crate::ack_room::AckRoom;
@@ -36,17 +35,9 @@ impl Book {
         ensures kept { self.new.broker ≡ self.old.broker }
     {
         self.reserve(AckRoom::none(alloc))?;
-        match self.subs().named(sub.as_bytes()) {
-            None => Ok(Prepared::idle(alloc)),
-            Some(found) => self.offer_at(alloc, site, found),
-        }
-    }
-
-    fn offer_at(&self, alloc: Global, site: &Site, sub: &Sub) -> Result<Prepared, Memory>
-        ensures plan { IfOk result (λ p. p ≡ offer_at site.now self.now.broker sub.now.sub (least_due sub.now.sub (length self.now.broker.entries))) }
-        ensures fits { IfOk result (λ p. PlanFits site.now.per_ledger self.now.broker p) }
-        ensures few { IfOk result (λ p. HasRoom steps_room p) }
-    {
+        let Some(sub) = self.subs().named(sub.as_bytes()) else {
+            return Ok(Prepared::idle(alloc));
+        };
         let Some(index) = sub.least_due(self.entries().len() as u64) else {
             return Ok(Prepared::idle(alloc));
         };
@@ -68,7 +59,7 @@ impl Book {
     ) -> Result<Prepared, Memory>
         requires index { index + 1 < 2 ^ 64 }
         requires message { is_message entry.now ≡ true }
-        ensures plan { IfOk result (λ p. p ≡ offer_entry site.now self.now.broker sub.now.sub index (Some entry.now)) }
+        ensures plan { IfOk result (λ p. p ≡ offer_entry site.now self.now.broker sub.now.sub index entry.now) }
         ensures fits { IfOk result (λ p. PlanFits site.now.per_ledger self.now.broker p) }
         ensures few { IfOk result (λ p. HasRoom steps_room p) }
     {

@@ -3,10 +3,10 @@ ghost use Rattle.std.specs.Prelude.{◌≡◌, ◌≢◌, ◌==◌, ◌&&◌, �
 ghost use Rattle.std.specs.Option.{option_copied};
 ghost use Rattle.std.specs.Str.{bytes_eq};
 ghost use Rattle.geo_base.specs.Answers.{answers, refuses, unknown_error};
-ghost use Rattle.geo_base.specs.Broker.{Site, session_at};
+ghost use Rattle.geo_base.specs.Broker.{Site};
 ghost use Rattle.geo_base.specs.Entry.{with_origin};
 ghost use Rattle.geo_base.specs.Producing.{is_sound, name_with, serve_send, stores};
-ghost use Rattle.geo_base.specs.Serving.{serve, serve_command, serve_frame, serve_in};
+ghost use Rattle.geo_base.specs.Serving.{serve, serve_command, serve_frame};
 ghost use Rattle.geo_base.specs.declared.frame.Frame.TheVariants as frame;
 ghost use Rattle.geo_base.specs.Built.{is_client_frame};
 ghost use Rattle.topic_book.specs.Fits.{HasRoom, PlanFits, acks_for, acks_in, room_for, steps_room};
@@ -97,29 +97,12 @@ impl Book {
                 plan.send(Peer::Client(client), packet.session, Frame::Connected)?;
                 Ok(plan)
             }
-            _ => self.serve_in(alloc, site, client, packet),
-        }
-    }
-
-    fn serve_in(
-        &self,
-        alloc: Global,
-        site: &Site,
-        client: u32,
-        packet: &Packet,
-    ) -> Result<Prepared, Memory>
-        requires client { client < length self.now.broker.sessions }
-        requires carried { is_client_frame packet.now.frame ≡ true }
-        requires opened { packet.now.frame ≢ frame.Connect }
-        ensures plan { IfOk result (λ p. p ≡ serve_in site.now self.now.broker client packet.now (session_at self.now.broker client)) }
-        ensures fits { IfOk result (λ p. PlanFits site.now.per_ledger self.now.broker p) }
-        ensures few { IfOk result (λ p. HasRoom (room_for (acks_for self.now.broker client packet.now.frame)) p) }
-    {
-        match self.session(client) {
-            Some(session) if session.number == packet.session => {
-                self.serve_command(alloc, site, client, session, &packet.frame)
-            }
-            _ => Ok(Prepared::quiet(alloc)),
+            _ => match self.session(client) {
+                Some(session) if session.number == packet.session => {
+                    self.serve_command(alloc, site, client, session, &packet.frame)
+                }
+                _ => Ok(Prepared::quiet(alloc)),
+            },
         }
     }
 

@@ -9,11 +9,11 @@ use Rattle.geo_base.specs.Client.{Acted, Client, new_client, reconnect}
 use Rattle.geo_base.specs.Forwarding.{receipt, reset, take_packet}
 use Rattle.geo_base.specs.Getting.{get}
 use Rattle.geo_base.specs.Going.{go}
-use Rattle.geo_base.specs.Happening.{broker_does, client_does, does_planned, happens, next_stamp}
+use Rattle.geo_base.specs.Happening.{broker_does, client_does, does_planned, happens, idles, next_stamp}
 use Rattle.geo_base.specs.Link.{next_packet}
 use Rattle.geo_base.specs.Offering.{offer}
 use Rattle.geo_base.specs.Plan.{Plan}
-use Rattle.geo_base.specs.Planned.{Planned, in_range, planned, planned_in}
+use Rattle.geo_base.specs.Planned.{Planned, has_client, in_range, planned, planned_in}
 use Rattle.geo_base.specs.Reading.{read}
 use Rattle.geo_base.specs.Serving.{serve}
 use Rattle.geo_base.specs.declared.packet.Packet.{Packet}
@@ -40,13 +40,14 @@ pair_in s t x y a b c =
     (lt-ltb y (length s.clusters) c)
 
 -- at brokers
-pub served : (s : Setup) (w : World) (x c : ℕ) (p : Plan) → x < length s.clusters
+pub served : (s : Setup) (w : World) (x c : ℕ) (p : Plan) → x < length s.clusters → c < length s.clients
     → p ≡ serve (site s (declared_at s c).topic x) (topic_at s w (declared_at s c).topic x) c (next_packet (link_at w.links (ToBroker c x)))
     → broker_does s w (at_node (declared_at s c).topic x (Some (ToBroker c x)) p) ≡ happens s w (event.Serve x c)
 unfolding happens
-served s w x c p h is =
+served s w x c p h k is =
     ap (λ (p : Plan). broker_does s w (at_node (declared_at s c).topic x (Some (ToBroker c x)) p)) is
-    ∙ sym (ap (does_planned s w) (in_plan s w (event.Serve x c) (lt-ltb x (length s.clusters) h)))
+    ∙ sym (ap (does_planned s w) (in_plan s w (event.Serve x c)
+    (both (nat_lt x (length s.clusters)) (nat_lt c (length s.clients)) (lt-ltb x (length s.clusters) h) (lt-ltb c (length s.clients) k))))
 
 pub was_reset : (s : Setup) (w : World) (t x y : ℕ) (p : Plan) → t < length s.topics → x < length s.clusters → y < length s.clusters
     → p ≡ reset (site s t x) (topic_at s w t x) y
@@ -88,15 +89,20 @@ was_offered s w t x n p a b is =
     (both (nat_lt t (length s.topics)) (nat_lt x (length s.clusters)) (lt-ltb t (length s.topics) a) (lt-ltb x (length s.clusters) b))))
 
 -- at clients
-pub went : (s : Setup) (w : World) (c : ℕ) (a : Acted) → a ≡ go s (declared_at s c) (client_at s w c)
+is_here : (s : Setup) (w v : World) (c : ℕ) → c < length s.clients → v ≡ (if has_client s c then v else idles w)
+is_here s w v c h = sym (ap (λ (b : Bool). if b then v else idles w) (lt-ltb c (length s.clients) h))
+
+pub went : (s : Setup) (w : World) (c : ℕ) (a : Acted) → c < length s.clients → a ≡ go s (declared_at s c) (client_at s w c)
     → client_does s w c None a ≡ happens s w (event.Go c)
 unfolding happens
-went s w c a is = ap (λ (a : Acted). client_does s w c None a) is
+went s w c a h is =
+    ap (λ (a : Acted). client_does s w c None a) is ∙ is_here s w (client_does s w c None (go s (declared_at s c) (client_at s w c))) c h
 
-pub reconnected : (s : Setup) (w : World) (c : ℕ) (a : Acted) → a ≡ reconnect s (declared_at s c) (client_at s w c)
+pub reconnected : (s : Setup) (w : World) (c : ℕ) (a : Acted) → c < length s.clients → a ≡ reconnect s (declared_at s c) (client_at s w c)
     → client_does s w c None a ≡ happens s w (event.Reconnect c)
 unfolding happens
-reconnected s w c a is = ap (λ (a : Acted). client_does s w c None a) is
+reconnected s w c a h is =
+    ap (λ (a : Acted). client_does s w c None a) is ∙ is_here s w (client_does s w c None (reconnect s (declared_at s c) (client_at s w c))) c h
 
 -- a client that takes a packet, and answers nothing to it
 answers_nothing : (d : Declared) (k : Client) (o : Option Packet) → (get d k o).sent ≡ []
@@ -110,18 +116,20 @@ does_silently : (s : Setup) (w : World) (c : ℕ) (takes : Option LinkName) (a :
 unfolding client_does
 does_silently s w c takes a stamp enabled silent is = rw (enabled, silent, is) refl
 
-pub got : (s : Setup) (w : World) (c : ℕ) (new : World) (k : Client) (stamp : ℕ)
+pub got : (s : Setup) (w : World) (c : ℕ) (new : World) (k : Client) (stamp : ℕ) → c < length s.clients
     → (get (declared_at s c) (client_at s w c) (next_packet (link_at w.links (ToClient c (client_at s w c).cluster)))).idle ≡ false
     → k ≡ (get (declared_at s c) (client_at s w c) (next_packet (link_at w.links (ToClient c (client_at s w c).cluster)))).client
     → stamp ≡ next_stamp (slice_index w.client_clocks c) (packet_at w.links (Some (ToClient c (client_at s w c).cluster)))
     → new ≡ client_took (record w { clients = slice_set w.clients c k }) c (Some (ToClient c (client_at s w c).cluster)) stamp
     → uncounted new ≡ uncounted (happens s w (event.Get c))
 unfolding happens
-got s w c new k stamp enabled client is new_is =
+got s w c new k stamp h enabled client is new_is =
     let link = ToClient c (client_at s w c).cluster in
+    let a = get (declared_at s c) (client_at s w c) (next_packet (link_at w.links link)) in
+    let does : uncounted new ≡ uncounted (client_does s w c (Some link) a) =
     rw (new_is, client)
-    (does_silently s w c (Some link) (get (declared_at s c) (client_at s w c) (next_packet (link_at w.links link))) stamp enabled
-    (answers_nothing (declared_at s c) (client_at s w c) (next_packet (link_at w.links link))) is)
+    (does_silently s w c (Some link) a stamp enabled (answers_nothing (declared_at s c) (client_at s w c) (next_packet (link_at w.links link))) is) in
+    does ∙ ap uncounted (is_here s w (client_does s w c (Some link) a) c h)
 
 -- a client that finds none
 set_same : {X : Type 0} (xs : List X) (i : ℕ) (d : X) → slice_set xs i (slice_index_or xs i d) ≡ xs
@@ -138,13 +146,16 @@ does_idly : (s : Setup) (w : World) (c : ℕ) (takes : Option LinkName) (a : Act
 unfolding client_does
 does_idly s w c takes a idle = rw idle refl
 
-pub got_nothing : (s : Setup) (w : World) (c : ℕ) (new : World) (k : Client)
+pub got_nothing : (s : Setup) (w : World) (c : ℕ) (new : World) (k : Client) → c < length s.clients
     → (get (declared_at s c) (client_at s w c) (next_packet (link_at w.links (ToClient c (client_at s w c).cluster)))).idle ≡ true
     → k ≡ (get (declared_at s c) (client_at s w c) (next_packet (link_at w.links (ToClient c (client_at s w c).cluster)))).client
     → new ≡ record w { clients = slice_set w.clients c k; idle = w.idle + 1 }
     → uncounted new ≡ uncounted (happens s w (event.Get c))
 unfolding happens
-got_nothing s w c new k idle client new_is =
+got_nothing s w c new k h idle client new_is =
     let link = ToClient c (client_at s w c).cluster in
     let o = next_packet (link_at w.links link) in
-    rw (new_is, client, does_idly s w c (Some link) (get (declared_at s c) (client_at s w c) o) idle, idle_keeps (declared_at s c) (client_at s w c) o idle, set_same w.clients c (new_client (declared_at s c))) refl
+    let a = get (declared_at s c) (client_at s w c) o in
+    let does : uncounted new ≡ uncounted (client_does s w c (Some link) a) =
+    rw (new_is, client, does_idly s w c (Some link) a idle, idle_keeps (declared_at s c) (client_at s w c) o idle, set_same w.clients c (new_client (declared_at s c))) refl in
+    does ∙ ap uncounted (is_here s w (client_does s w c (Some link) a) c h)

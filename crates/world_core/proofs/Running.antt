@@ -9,7 +9,7 @@ use Rattle.geo_base.specs.declared.event.Step.{Step}
 use Rattle.geo_base.specs.declared.event.Step.TheVariants as step
 use Rattle.geo_base.specs.Client.{Acted}
 use Rattle.geo_base.specs.Happening.{broker_does, client_does, does_planned, happens}
-use Rattle.geo_base.specs.Planned.{Planned, planned}
+use Rattle.geo_base.specs.Planned.{Planned, has_client, planned}
 use Rattle.geo_base.specs.Run.{Limits, Ran, ends_or, event_limit, goes_on, no_limits, run, run_from, run_under, steps}
 use Rattle.geo_base.specs.Setup.{Setup}
 use Rattle.geo_base.specs.World.{LinkName, World, opening_world}
@@ -61,9 +61,9 @@ event_planned s w e =
 
 pub happens_uncounted : (s : Setup) (w : World) (e : Event) → uncounted (happens s (uncounted w) e) ≡ uncounted (happens s w e)
 unfolding happens
-happens_uncounted s w (event.Go c) = client_uncounted s w c None _
-happens_uncounted s w (event.Reconnect c) = client_uncounted s w c None _
-happens_uncounted s w (event.Get c) = client_uncounted s w c _ _
+happens_uncounted s w (event.Go c) = uncounted_if (has_client s c) _ _ _ _ (client_uncounted s w c None _) refl
+happens_uncounted s w (event.Reconnect c) = uncounted_if (has_client s c) _ _ _ _ (client_uncounted s w c None _) refl
+happens_uncounted s w (event.Get c) = uncounted_if (has_client s c) _ _ _ _ (client_uncounted s w c _ _) refl
 happens_uncounted s w e = event_planned s w e
 
 -- each event counts once, idle or not
@@ -86,9 +86,9 @@ planned_counts s w (Some p) = broker_counts s w p
 
 happens_counts : (s : Setup) (w : World) (e : Event) → (happens s w e).events + (happens s w e).idle ≡ w.events + w.idle + 1
 unfolding happens
-happens_counts s w (event.Go c) = client_counts s w c None _
-happens_counts s w (event.Reconnect c) = client_counts s w c None _
-happens_counts s w (event.Get c) = client_counts s w c _ _
+happens_counts s w (event.Go c) = counted_if (has_client s c) (w.events + w.idle) _ _ (client_counts s w c None _) (omega arith)
+happens_counts s w (event.Reconnect c) = counted_if (has_client s c) (w.events + w.idle) _ _ (client_counts s w c None _) (omega arith)
+happens_counts s w (event.Get c) = counted_if (has_client s c) (w.events + w.idle) _ _ (client_counts s w c _ _) (omega arith)
 happens_counts s w e = planned_counts s w (planned s w e)
 
 pub within_limit : (s : Setup) (w : World) (e : Event) → w.events + w.idle < 2000000 → event_limit (happens s w e) ≡ None

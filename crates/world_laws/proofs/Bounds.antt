@@ -14,7 +14,7 @@ use Rattle.geo_base.specs.Getting.{answered, get, got_frame, is_duplicate, is_nu
 use Rattle.geo_base.specs.Going.{acks_all, acks_one, acks_to, first_held, go, go_line, most_unanswered, past}
 use Rattle.geo_base.specs.Happening.{broker_does, client_does, does_planned, happens, next_stamp, stamp_of}
 use Rattle.geo_base.specs.Link.{Link, next_packet, no_link, sent_on, took}
-use Rattle.geo_base.specs.Planned.{Planned, planned}
+use Rattle.geo_base.specs.Planned.{Planned, has_client, planned}
 use Rattle.geo_base.specs.Sender.{new_sender}
 use Rattle.geo_base.specs.Setup.{Declared, Setup, declared_at}
 use Rattle.geo_base.specs.World.{Back, Forward, LinkName, Links, ToBroker, ToClient, World, cell, delivered, link_at, node, opening_world, packet_at, stamped, table, taken_from, with_link}
@@ -226,9 +226,12 @@ get_within n d k (Some p) w = on_if (ClientWithin (n + 1)) (p.session == k.conne
 -- any event
 pub event_within : (s : Setup) (n : ℕ) (w : World) (e : Event) → WorldWithin s n w → WorldWithin s (n + 1) (happens s w e)
 unfolding happens
-event_within s n w (event.Go c) h = client_within s n w c _ _ (go_within n s _ _ (h.clients c)) h
-event_within s n w (event.Reconnect c) h = client_within s n w c _ _ (reconnect_within n s _ _ (h.clients c)) h
-event_within s n w (event.Get c) h = client_within s n w c _ _ (get_within n _ _ _ (h.clients c)) h
+event_within s n w (event.Go c) h =
+    on_if (WorldWithin s (n + 1)) (has_client s c) _ _ (client_within s n w c _ _ (go_within n s _ _ (h.clients c)) h) (idles_within s n w h)
+event_within s n w (event.Reconnect c) h =
+    on_if (WorldWithin s (n + 1)) (has_client s c) _ _ (client_within s n w c _ _ (reconnect_within n s _ _ (h.clients c)) h) (idles_within s n w h)
+event_within s n w (event.Get c) h =
+    on_if (WorldWithin s (n + 1)) (has_client s c) _ _ (client_within s n w c _ _ (get_within n _ _ _ (h.clients c)) h) (idles_within s n w h)
 event_within s n w e h = planned_within s n w (planned s w e) (planned_shape s w e) h
 
 -- the opening world

@@ -7,7 +7,7 @@ use Rattle.geo_base.specs.Broker.{session_at}
 use Rattle.geo_base.specs.Forwarding.{is_remote, receipt, reset, take_packet}
 use Rattle.geo_base.specs.Link.{next_packet}
 use Rattle.geo_base.specs.Plan.{Plan}
-use Rattle.geo_base.specs.Planned.{Planned, has_node, has_pair, in_range, planned, planned_in}
+use Rattle.geo_base.specs.Planned.{Planned, has_client, has_node, has_pair, in_range, planned, planned_in}
 use Rattle.geo_base.specs.Serving.{drop_client, drop_session, serve}
 use Rattle.geo_base.specs.Setup.{Setup, declared_at, sub_name}
 use Rattle.geo_base.specs.World.{Back, Forward, LinkName, ToBroker, World, link_at, node, site, topic_at}
@@ -68,8 +68,8 @@ HasShape s w (Some p) = Shape s w p
 
 in_range_shape : (s : Setup) (w : World) (e : Event) → in_range s e ≡ true → HasShape s w (planned_in s w e)
 unfolding drop_client
-in_range_shape s w (event.Serve x c) within = serve_planned s w x c _ within refl
-in_range_shape s w (event.Drop x c) within = drop_planned s w x c _ within refl
+in_range_shape s w (event.Serve x c) within = serve_planned s w x c _ (left (nat_lt x (length s.clusters)) (has_client s c) within) refl
+in_range_shape s w (event.Drop x c) within = drop_planned s w x c _ (left (nat_lt x (length s.clusters)) (has_client s c) within) refl
 in_range_shape s w (event.Reset t x y) within = reset_planned s w t x y within
 in_range_shape s w (event.Read t x y) within = Shape.Read t x y _ within (read_shape (site s t x) (topic_at s w t x) y)
 in_range_shape s w (event.Take t x y f) within = take_planned s w t x y f _ within refl

@@ -14,9 +14,9 @@ use Rattle.geo_base.specs.Happening.{broker_does, client_acted, client_does, doe
 use Rattle.geo_base.specs.History.{HappensAt, RecordedEvent, SentPacket, is_input, sent_over, sent_with, state_after, taken_over}
 use Rattle.geo_base.specs.Link.{Link, next_packet}
 use Rattle.geo_base.specs.NodeState.{BrokerState, ClientState, NodeState, acts, clock_at, state_at, takes_from}
-use Rattle.geo_base.specs.Nodes.{BrokerNode, ClientNode, Node, broker_count, has_client, has_link, is_node, link_from, node_number, node_of, same_link}
+use Rattle.geo_base.specs.Nodes.{BrokerNode, ClientNode, Node, broker_count, has_link, is_node, link_from, node_number, node_of, same_link}
 use Rattle.geo_base.specs.Plan.{Plan, done}
-use Rattle.geo_base.specs.Planned.{Planned, broker_plan, has_node, in_range, planned, planned_in}
+use Rattle.geo_base.specs.Planned.{Planned, broker_plan, has_client, has_node, in_range, planned, planned_in}
 use Rattle.geo_base.specs.Setup.{Setup, declared_at}
 use Rattle.geo_base.specs.World.{LinkName, Links, World, broker_at, client_at, delivered, from_broker, from_client, link_at, node, packet_at, taken_from, topic_at}
 use Rattle.world_laws.proofs.LinkTables.{HasLink, delivered_at, delivered_has, input_link, moved, same_link_is, taken_at, taken_has}
@@ -48,9 +48,9 @@ is_planned s w e h = on_true (in_range s e) (planned_in s w e) None h
 
 pub kind_of : (s : Setup) (w : World) (e : Event) → in_range s e ≡ true → Kind s w e
 unfolding happens
-kind_of s w (event.Go c) h = Kind.OfClient c refl refl
-kind_of s w (event.Get c) h = Kind.OfClient c refl refl
-kind_of s w (event.Reconnect c) h = Kind.OfClient c refl refl
+kind_of s w (event.Go c) h = Kind.OfClient c refl (on_true (has_client s c) _ _ h)
+kind_of s w (event.Get c) h = Kind.OfClient c refl (on_true (has_client s c) _ _ h)
+kind_of s w (event.Reconnect c) h = Kind.OfClient c refl (on_true (has_client s c) _ _ h)
 kind_of s w (event.Serve x c) h = Kind.OfBroker (declared_at s c).topic x refl (ap (does_planned s w) (is_planned s w (event.Serve x c) h))
 kind_of s w (event.Drop x c) h = Kind.OfBroker (declared_at s c).topic x refl (ap (does_planned s w) (is_planned s w (event.Drop x c) h))
 kind_of s w (event.Reset t x y) h = Kind.OfBroker t x refl (ap (does_planned s w) (is_planned s w (event.Reset t x y) h))

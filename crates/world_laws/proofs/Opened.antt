@@ -10,7 +10,8 @@ use Rattle.geo_base.specs.History.{RecordedEvent, Replays, sent_in, taken_in}
 use Rattle.geo_base.specs.Link.{Link, no_link}
 use Rattle.geo_base.specs.Merge.{IsMerge, Merged, history_of, of_node}
 use Rattle.geo_base.specs.NodeState.{BrokerState, ClientState, NodeState, clock_at, opening_state, state_at}
-use Rattle.geo_base.specs.Nodes.{broker_count, has_client, has_link, sender_of, taker_of}
+use Rattle.geo_base.specs.Nodes.{broker_count, has_link, sender_of, taker_of}
+use Rattle.geo_base.specs.Planned.{has_client}
 use Rattle.geo_base.specs.Scripted.{IsScripted}
 use Rattle.geo_base.specs.Setup.{Declared, Setup, declared_at, nobody}
 use Rattle.geo_base.specs.World.{Back, Forward, LinkName, ToBroker, ToClient, cell, link_at, opening_world, table}

@@ -15,10 +15,10 @@ use Rattle.geo_base.specs.Forwarding.{receipt, take_packet}
 use Rattle.geo_base.specs.Getting.{get, got_message}
 use Rattle.geo_base.specs.Happening.{client_acted}
 use Rattle.geo_base.specs.NodeState.{BrokerState, ClientState, NodeState, acts, broker_acted, from_acted}
-use Rattle.geo_base.specs.Plan.{Plan, quiet_plan}
+use Rattle.geo_base.specs.Plan.{Plan, quiet_plan, unless_found}
 use Rattle.geo_base.specs.Planned.{broker_plan}
 use Rattle.geo_base.specs.Producing.{name_with, serve_send}
-use Rattle.geo_base.specs.Serving.{serve, serve_in}
+use Rattle.geo_base.specs.Serving.{serve, serve_command}
 use Rattle.geo_base.specs.Setup.{Declared, Setup, declared_at}
 use Rattle.geo_base.specs.World.{site}
 
@@ -54,9 +54,10 @@ send_served : (h : Site) (b : Broker) (c : ℕ) (s : Session) (id seq : ℕ) (so
 send_served h b c s id seq source e None = refl
 send_served h b c s id seq source e (Some n) = refl
 
+-- of the open session, if there is one
 in_session : (h : Site) (b : Broker) (c n m id seq : ℕ) (source : Option Place) (e : Entry) (o : Option Session)
-    → serve_in h b c (record { session = n; stamp = m; frame = frame.Send id seq source (with_origin 0 e) }) o
-    ≡ serve_in h b c (record { session = n; stamp = m; frame = frame.Send id seq source e }) o
+    → unless_found (quiet_plan []) o (λ s. if s.number == n then serve_command h b c s (frame.Send id seq source (with_origin 0 e)) else quiet_plan [])
+    ≡ unless_found (quiet_plan []) o (λ s. if s.number == n then serve_command h b c s (frame.Send id seq source e) else quiet_plan [])
 in_session h b c n m id seq source e None = refl
 in_session h b c n m id seq source e (Some s) =
     ap (λ (p : Plan). if s.number == n then p else quiet_plan []) (send_served h b c s id seq source e (name_with id s.producers))
@@ -65,13 +66,7 @@ serve_same : (h : Site) (b : Broker) (c n m : ℕ) (f : Frame) → serve h b c (
 unfolding serve
 serve_same h b c n m f =
     of_frame (λ (f : Frame). serve h b c (packet_of n m f)) (λ id seq source e. in_session h b c n m id seq source e (session_at b c))
-    (λ id position source e. other (session_at b c) id position source e) f
-  where
-    other : (o : Option Session) (id : ℕ) (position : Position) (source : Option Place) (e : Entry)
-        → serve_in h b c (record { session = n; stamp = m; frame = frame.Message id position source (with_origin 0 e) }) o
-        ≡ serve_in h b c (record { session = n; stamp = m; frame = frame.Message id position source e }) o
-    other None id position source e = refl
-    other (Some s) id position source e = refl
+    (λ id position source e. refl) f
 
 take_same : (h : Site) (b : Broker) (x : ℕ) (fate' : Fate) (n m : ℕ) (f : Frame)
     → take_packet h b x fate' (packet_of n m (without_origin f)) ≡ take_packet h b x fate' (packet_of n m f)

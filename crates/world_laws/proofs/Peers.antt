@@ -10,9 +10,9 @@ use Rattle.geo_base.specs.Broker.{Broker, Site, session_at}
 use Rattle.geo_base.specs.Forwarding.{closes, receipt, reset, take_packet}
 use Rattle.geo_base.specs.History.{is_input}
 use Rattle.geo_base.specs.NodeState.{BrokerState, takes_from}
-use Rattle.geo_base.specs.Nodes.{BrokerNode, ClientNode, Node, broker_count, has_client, is_event, is_node, is_peer, node_number, node_of}
+use Rattle.geo_base.specs.Nodes.{BrokerNode, ClientNode, Node, broker_count, is_event, is_node, is_peer, node_number, node_of}
 use Rattle.geo_base.specs.Plan.{Plan, done, idle_plan, quiet_plan}
-use Rattle.geo_base.specs.Planned.{broker_plan, has_node, in_range}
+use Rattle.geo_base.specs.Planned.{broker_plan, has_client, has_node, in_range}
 use Rattle.geo_base.specs.Seeking.{restart}
 use Rattle.geo_base.specs.Serving.{drop_client, drop_session, serve}
 use Rattle.geo_base.specs.Setup.{Setup, declared_at, sub_name}

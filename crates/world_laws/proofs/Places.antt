@@ -10,7 +10,7 @@ use Rattle.geo_base.specs.Broker.{Broker, changed, new_broker, no_broker, sub_na
 use Rattle.geo_base.specs.Client.{Acted, new_client}
 use Rattle.geo_base.specs.Happening.{broker_does, client_does, does_planned, happens}
 use Rattle.geo_base.specs.Plan.{Plan, all_changed, all_written, done}
-use Rattle.geo_base.specs.Planned.{Planned, planned}
+use Rattle.geo_base.specs.Planned.{Planned, has_client, planned}
 use Rattle.geo_base.specs.Sender.{Sender, new_sender, sender_restarted}
 use Rattle.geo_base.specs.Setup.{Setup}
 use Rattle.geo_base.specs.World.{LinkName, World, broker_at, node, opening_world}
@@ -92,9 +92,9 @@ planned_places s w (Some q) p = does_places s w q p
 
 pub event_places : (s : Setup) (w : World) (e : Event) → IsWorldOf s w → IsWorldOf s (happens s w e)
 unfolding happens
-event_places s w (event.Go c) p = client_places s w c _ _ p
-event_places s w (event.Reconnect c) p = client_places s w c _ _ p
-event_places s w (event.Get c) p = client_places s w c _ _ p
+event_places s w (event.Go c) p = on_if (IsWorldOf s) (has_client s c) _ _ (client_places s w c _ _ p) (idles_places s w (w.idle + 1) p)
+event_places s w (event.Reconnect c) p = on_if (IsWorldOf s) (has_client s c) _ _ (client_places s w c _ _ p) (idles_places s w (w.idle + 1) p)
+event_places s w (event.Get c) p = on_if (IsWorldOf s) (has_client s c) _ _ (client_places s w c _ _ p) (idles_places s w (w.idle + 1) p)
 event_places s w e p = planned_places s w (planned s w e) p
 
 replicate_at : {X : Type 0} (P : X → Type 0) (n z : ℕ) (x d : X) → P x → z < length (replicate n x) → P (slice_index_or (replicate n x) z d)

@@ -1,7 +1,8 @@
 -- The walk through read: what a sender does with the next entry that its cursor lacks.
-use Rattle.std.proofs.Common.{◌≡◌, ℕ, ◌+◌, true, List, length, refl, ◌==◌}
+use Rattle.std.proofs.Common.{◌≡◌, ℕ, ◌+◌, true, List, [], ◌∷◌, length, refl, ◌==◌}
 use Rattle.std.specs.Prelude.{Option, Some, None, ◌&&◌, slice_get}
 use Rattle.world_laws.proofs.Types.{Builder, ClusterPosition, Content, Entry, Marker, Progress}
+use Rattle.world_laws.proofs.Types.change
 use Rattle.world_laws.proofs.Types.content
 use Rattle.world_laws.proofs.Types.marker
 use Rattle.world_laws.proofs.Types.progress
@@ -16,10 +17,10 @@ use Rattle.geo_base.specs.Sender.{index_to_read}
 use Rattle.geo_base.specs.Subscribing.{has_room}
 use Rattle.geo_base.specs.Subscription.{Subscription, with_acks}
 use Rattle.geo_base.specs.Topic.{position_at}
-use Rattle.geo_base.specs.Updating.{only_index, passed_over, positions_for, update_to, updates}
+use Rattle.geo_base.specs.Updating.{handled, only_index, passed_over, passing, positions_for, read_update}
 use Rattle.world_laws.proofs.Shapes.{Hears, IsMarkerOf, IsResponse, IsUpdate, Reads, ReadsNext}
 use Rattle.world_laws.proofs.ServeWalk.{updates_after}
-use Rattle.world_laws.proofs.Walk.{on_test}
+use Rattle.world_laws.proofs.Walk.{on_found, on_test}
 
 after_read : (h : Site) (b : Broker) (y i : ℕ) (e : Entry) (id : List ℕ) (answer : ClusterPosition) (u : Builder) (g : Progress) (u' : Builder)
     → ReadsNext h b y i e → IsResponse h b y e id answer u → Hears b y i id answer u g u' → Reads h b y (after_response h b y i g u')
@@ -39,25 +40,24 @@ response_read h b y i e id answer (Some u) next of is built =
 
 sub_read : (h : Site) (b : Broker) (y i j : ℕ) (e : Entry) (n : List ℕ) (remote : List ClusterPosition) (o : Option Subscription)
     → ReadsNext h b y i e → IsUpdate h b y e n remote j → sub_named b.subs n ≡ o
-    → Reads h b y (updates h b y i n (passed_over y 0 (j + 1) b.entries) o)
+    → Reads h b y (handled y i (passing h b n (passed_over y 0 (j + 1) b.entries) o) (change.Acked n ∷ []))
 sub_read h b y i j e n remote None next is named = Reads.CreatesAt i j e n remote next is named
 sub_read h b y i j e n remote (Some v) next is named =
     Reads.PassesOver i j e n remote v _ next is named (updates_after h b (with_acks (passed_over y 0 (j + 1) b.entries) v))
 
-update_read : (h : Site) (b : Broker) (y i : ℕ) (e : Entry) (n : List ℕ) (remote : List ClusterPosition) (o : Option ℕ)
-    → ReadsNext h b y i e → IsMarkerOf h y e → e.content ≡ content.Marked (marker.Update n remote) → only_index b.ledgers (positions_for h.own remote) ≡ o
-    → Reads h b y (update_to h b y i n o)
-update_read h b y i e n remote None next of is at = Reads.Skips i e next of.0
-update_read h b y i e n remote (Some j) next of is at =
-    on_test (Reads h b y) (is_name n && has_room b n) (updates h b y i n (passed_over y 0 (j + 1) b.entries) (sub_named b.subs n)) _
-    (λ may. sub_read h b y i j e n remote (sub_named b.subs n) next (of, is, at, may) refl) (λ _. Reads.Skips i e next of.0)
+update_read : (h : Site) (b : Broker) (y i : ℕ) (e : Entry) (n : List ℕ) (remote : List ClusterPosition)
+    → ReadsNext h b y i e → IsMarkerOf h y e → e.content ≡ content.Marked (marker.Update n remote) → Reads h b y (read_update h b y i n remote)
+update_read h b y i e n remote next of is =
+    on_found (Reads h b y) (handled y i [] []) (only_index b.ledgers (positions_for h.own remote)) _ (λ _. Reads.Skips i e next of.0)
+    (λ j at. on_test (Reads h b y) (is_name n && has_room b n) _ _
+    (λ may. sub_read h b y i j e n remote (sub_named b.subs n) next (of, is, at, may) refl) (λ _. Reads.Skips i e next of.0))
 
 marker_read : (h : Site) (b : Broker) (y i : ℕ) (e : Entry) (m : Marker) → ReadsNext h b y i e → IsMarkerOf h y e → e.content ≡ content.Marked m
     → Reads h b y (read_marker h b y i m)
 marker_read h b y i e (marker.Request id source) next of is = Reads.Responds i e id source next of is
 marker_read h b y i e (marker.Response id answer) next of is = response_read h b y i e id answer b.builder next of is refl
 marker_read h b y i e (marker.Snapshot id local remote) next of is = Reads.Skips i e next of.0
-marker_read h b y i e (marker.Update n remote) next of is = update_read h b y i e n remote (only_index b.ledgers (positions_for h.own remote)) next of is refl
+marker_read h b y i e (marker.Update n remote) next of is = update_read h b y i e n remote next of is
 
 content_read : (h : Site) (b : Broker) (y i : ℕ) (e : Entry) (c : Content) → ReadsNext h b y i e → IsMarkerOf h y e → e.content ≡ c
     → Reads h b y (read_content h b y i c)

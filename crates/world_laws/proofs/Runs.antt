@@ -7,7 +7,7 @@ use Rattle.world_laws.proofs.Types.step
 use Rattle.geo_base.specs.Client.{Acted}
 use Rattle.geo_base.specs.Happening.{broker_does, broker_halts, client_does, does_planned, happens, halts_planned, stops}
 use Rattle.geo_base.specs.Laws.{Always, AlwaysIn, BetweenEvents}
-use Rattle.geo_base.specs.Planned.{Planned, planned}
+use Rattle.geo_base.specs.Planned.{Planned, has_client, planned}
 use Rattle.geo_base.specs.Run.{Limits, Ran, all_settle, budget, counting_round, ends_or, goes_on, no_limits, pairs, resets_of, round_of, rounds_of, run, run_from, run_under, settled_world, settles, steps}
 use Rattle.geo_base.specs.Settled.{SettledSoFar}
 use Rattle.geo_base.specs.Setup.{Setup}
@@ -41,9 +41,9 @@ plan_halted s P k w n (Some q) shape p = k.halts w n q shape p
 
 event_done : (s : Setup) (P : World → Type 0) (k : IsKept s P) (w : World) (e : Event) → P w → P (happens s w e)
 unfolding happens
-event_done s P k w (event.Go c) p = k.goes w c _ p
-event_done s P k w (event.Reconnect c) p = k.goes w c _ p
-event_done s P k w (event.Get c) p = k.gets w c _ _ p
+event_done s P k w (event.Go c) p = on_if P (has_client s c) _ _ (k.goes w c _ p) (k.idle w (w.idle + 1) p)
+event_done s P k w (event.Reconnect c) p = on_if P (has_client s c) _ _ (k.goes w c _ p) (k.idle w (w.idle + 1) p)
+event_done s P k w (event.Get c) p = on_if P (has_client s c) _ _ (k.gets w c _ _ p) (k.idle w (w.idle + 1) p)
 event_done s P k w e p = plan_done s P k w (planned s w e) (planned_shape s w e) p
 
 ended : (l : Limits) (P : World → Type 0) (r : Ran) (w : World) (o : Option ℕ) → P r.world → P w → Holds P (ends_or r w o)

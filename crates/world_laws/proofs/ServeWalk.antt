@@ -13,16 +13,16 @@ use Rattle.geo_base.specs.Cache.{last_passed}
 use Rattle.geo_base.specs.Cursor.{mark}
 use Rattle.geo_base.specs.Entry.{with_origin}
 use Rattle.geo_base.specs.Name.{is_name}
-use Rattle.geo_base.specs.Plan.{plan_of}
+use Rattle.geo_base.specs.Plan.{plan_of, quiet_plan, unless_found}
 use Rattle.geo_base.specs.Position.{nowhere}
 use Rattle.geo_base.specs.Producing.{is_sound, is_taken, may_attach, name_with, serve_close_producer, serve_producer, serve_send, stores}
-use Rattle.geo_base.specs.Serving.{serve_command, serve_frame, serve_in}
+use Rattle.geo_base.specs.Serving.{serve_command, serve_frame}
 use Rattle.geo_base.specs.Storing.{appending_update, update_after}
 use Rattle.geo_base.specs.Subscribing.{consumed_by, has_room, is_busy, joins, same_kind, serve_close_consumer, serve_flow, serve_subscribe, serve_unsubscribe, subscribes}
 use Rattle.geo_base.specs.Subscription.{Subscription, is_attached, with_acks}
 use Rattle.geo_base.specs.Topic.{accepts, next_position}
 use Rattle.world_laws.proofs.Shapes.{InSession, IsSound, MayJoin, Served, Updates}
-use Rattle.world_laws.proofs.Walk.{on_if, on_test}
+use Rattle.world_laws.proofs.Walk.{on_found, on_if, on_test}
 
 -- an update follows, or none
 passed_updates : (h : Site) (b : Broker) (v : Subscription) (o : Option Cut) → v.replicated ≡ true → last_passed (mark v.cursor) v.cache ≡ o
@@ -127,12 +127,13 @@ command_served h b c p s frame.Ping at is = Served.Answers s _ at
 command_served h b c p s frame.Pong at is = Served.Ignores
 command_served h b c p s f at is = Served.Disconnects
 
-in_served : (h : Site) (b : Broker) (c : ℕ) (p : Packet) (o : Option Session) → session_at b c ≡ o → Served h b c p (serve_in h b c p o)
-in_served h b c p None at = Served.Ignores
-in_served h b c p (Some s) at =
-    on_test (Served h b c p) (s.number == p.session) _ _ (λ same. command_served h b c p s p.frame (at, same) refl) (λ _. Served.Ignores)
+in_served : (h : Site) (b : Broker) (c : ℕ) (p : Packet)
+    → Served h b c p (unless_found (quiet_plan []) (session_at b c) (λ s. if s.number == p.session then serve_command h b c s p.frame else quiet_plan []))
+in_served h b c p =
+    on_found (Served h b c p) (quiet_plan []) (session_at b c) _ (λ _. Served.Ignores)
+    (λ s at. on_test (Served h b c p) (s.number == p.session) _ _ (λ same. command_served h b c p s p.frame (at, same) refl) (λ _. Served.Ignores))
 
 pub frame_served : (h : Site) (b : Broker) (c : ℕ) (p : Packet) (f : Frame) → p.frame ≡ f → Served h b c p (serve_frame h b c p f)
 frame_served h b c p frame.Connect is = Served.Connects _ is refl
 frame_served h b c p frame.Unreadable is = Served.Disconnects
-frame_served h b c p f is = in_served h b c p (session_at b c) refl
+frame_served h b c p f is = in_served h b c p

@@ -1,7 +1,8 @@
 -- Following a definition through its branches: a fact of a choice from that of both of its sides, and the parts of a test.
 use Rattle.std.proofs.Common.{◌≡◌, Bool, true, false, refl, sym}
 use Rattle.std.proofs.lemmas.Bool.{false≢true}
-use Rattle.std.specs.Prelude.{if◌then◌else◌, ◌&&◌}
+use Rattle.std.specs.Prelude.{if◌then◌else◌, ◌&&◌, Option, Some, None}
+use Rattle.geo_base.specs.Plan.{Plan, unless_found}
 
 pub on_if : {X : Type 0} (P : X → Type 0) (b : Bool) (x y : X) → P x → P y → P (if b then x else y)
 on_if P true x y p q = p
@@ -25,6 +26,11 @@ on_true false x y h = absurd (false≢true h)
 pub on_false : {X : Type 0} (b : Bool) (x y : X) → b ≡ false → (if b then x else y) ≡ y
 on_false true x y h = absurd (false≢true (sym h))
 on_false false x y h = refl
+
+-- a value that is looked for, which may use that it was found
+pub on_found : {X : Type 0} (P : Plan → Type 0) (p : Plan) (o : Option X) (f : X → Plan) → (o ≡ None → P p) → ((x : X) → o ≡ Some x → P (f x)) → P (unless_found p o f)
+on_found P p None f missing found = missing refl
+on_found P p (Some x) f missing found = found x refl
 
 pub left : (a b : Bool) → (a && b) ≡ true → a ≡ true
 left true b h = refl

@@ -11,9 +11,7 @@ ghost use Rattle.topic_book.specs.SubRoom.{IsAscending, IsOutAscending, IsOutAt,
 
 use cursor_acks::Cursor;
 use geo_base::consumer::{Consumer, Outstanding};
-
-/// The most permits of a consumer: what a FLOW can name.
-const MOST_PERMITS: u64 = u32::MAX as u64;
+use geo_base::limits::PERMITS;
 
 /// The first of some indexes that is not acknowledged.
 pub(crate) fn first_open(indexes: &[u64], cursor: &Cursor) -> Option<u64>
@@ -154,7 +152,7 @@ fn permitted(consumer: Consumer, client: u32, permits: u64) -> Consumer
     Consumer {
         client: consumer.client,
         id: consumer.id,
-        permits: sum.min(MOST_PERMITS) as u32,
+        permits: sum.min(PERMITS) as u32,
     }
 }
 
