@@ -1,6 +1,6 @@
 -- The dispatcher: which entry of a subscription is offered next, and to which consumer (Pulsar manual, subscription types).
 use Rattle.std.specs.Prelude.{ℕ, zero, suc, ◌+◌, ◌-◌, ◌*◌, ◌%◌, max, nat_lt, nat_le, ◌==◌, Bool, not, ◌&&◌, ◌||◌, if◌then◌else◌, List, [], ◌∷◌, ◌++◌, length, fold, filter, take, drop, Option, Some, None, slice_set, slice_index_or}
-use Rattle.geo_base.specs.Types.{Consumer, SubKind}
+use Rattle.geo_base.specs.Types.{Consumer, Outstanding, SubKind}
 use Rattle.geo_base.specs.Types.sub_kind
 use Rattle.geo_base.specs.Cursor.{has}
 use Rattle.geo_base.specs.Subscription.{Subscription}
@@ -55,9 +55,14 @@ abbrev pub served : SubKind → List Consumer → ℕ → List Consumer
 served sub_kind.Shared ks i = take i ks ++ drop (i + 1) ks ++ used (consumer_at ks i) ∷ []
 served kind ks i = slice_set ks i (used (consumer_at ks i))
 
+-- one more index is out; what is out ascends by index, as every set of indexes does, and an index is out once (own)
+abbrev pub with_out : List Outstanding → Outstanding → List Outstanding
+with_out [] o = o ∷ []
+with_out (x ∷ xs) o = if nat_lt o.index x.index then o ∷ x ∷ xs else if x.index == o.index then o ∷ xs else x ∷ with_out xs o
+
 -- an index is given to the consumer at a place
 abbrev pub given : ℕ → ℕ → Subscription → Subscription
 given i at s = record (passed_index i s) {
   consumers = served s.kind s.consumers at;
-  out = s.out ++ record { index = i; client = (consumer_at s.consumers at).client } ∷ [];
+  out = with_out s.out (record { index = i; client = (consumer_at s.consumers at).client });
 }

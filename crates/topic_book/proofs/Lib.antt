@@ -6,6 +6,7 @@ pub mod Messages
 pub mod Refusals
 pub mod Mapped
 pub mod SubLists
+pub mod OutTables
 pub mod LeastDue
 pub mod SubTables
 pub mod Ledgers

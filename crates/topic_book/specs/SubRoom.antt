@@ -1,7 +1,8 @@
 -- Subscriptions as their owner sees them: the machine's subscription, and the room beside it.
-use Rattle.std.specs.Prelude.{◌≡◌, ℕ, ◌+◌, ◌≤◌, ◌<◌, ◌^◌, if◌then◌else◌, Bool, List, [], length, map, true, false, Option, Some, None, slice_index_or, ⊤}
-use Rattle.std.specs.List.{All}
+use Rattle.std.specs.Prelude.{◌≡◌, ◌≢◌, ℕ, ◌+◌, ◌≤◌, ◌<◌, ◌^◌, if◌then◌else◌, Bool, List, [], length, map, true, false, Option, Some, None, slice_index_or, ⊤}
+use Rattle.std.specs.List.{All, AllPairs, AllWithin, HoldsAt}
 use Rattle.std.specs.Str.{bytes_eq}
+use Rattle.geo_base.specs.declared.consumer.Outstanding.{Outstanding}
 use Rattle.geo_base.specs.declared.frame.SubKind.TheVariants as sub_kind
 use Rattle.geo_base.specs.Cursor.{below}
 use Rattle.geo_base.specs.Dispatcher.{given, is_due}
@@ -14,6 +15,27 @@ use Rattle.topic_book.specs.declared.subscription.SubStep.TheVariants as sub_ste
 abbrev pub IsAscending : List ℕ → Type 0
 IsAscending xs = (i j : ℕ) → i < j → j < length xs → slice_index_or xs i 0 < slice_index_or xs j 0
 
+-- what is out ascends by index
+abbrev pub IsOutAscending : List Outstanding → Type 0
+IsOutAscending os = AllPairs (λ (x : Outstanding) (y : Outstanding). x.index < y.index) os
+
+-- what is out before a place has lower indexes than i, and what is out from it on has not
+pub record IsOutPlace (os : List Outstanding) (i at : ℕ) : Type 0 where
+  pub within : at ≤ length os
+  pub low : AllWithin (λ (o : Outstanding). o.index < i) os 0 at
+  pub high : AllWithin (λ (o : Outstanding). i ≤ o.index) os at (length os)
+
+-- index i is out, at a place
+pub record IsOutAt (os : List Outstanding) (i at : ℕ) : Type 0 where
+  pub place : IsOutPlace os i at
+  pub within : at < length os
+  pub same : HoldsAt (λ (o : Outstanding). o.index ≡ i) os at
+
+-- index i is not out, and this is the place where it would stand
+pub record IsOutGap (os : List Outstanding) (i at : ℕ) : Type 0 where
+  pub place : IsOutPlace os i at
+  pub other : (d : Outstanding) → at < length os → (slice_index_or os at d).index ≢ i
+
 -- so many more steps find room, and so many more acknowledged indexes
 pub record SubBook : Type 0 where
   pub sub : Subscription
@@ -21,11 +43,12 @@ pub record SubBook : Type 0 where
   pub acks : ℕ
 
 -- what is out always finds room among what is due again
-pub record SubHolds (room len cap len' cap' len'' cap'' : ℕ) (indexes : List ℕ) : Type 0 where
+pub record SubHolds (room len cap len' cap' len'' cap'' : ℕ) (indexes : List ℕ) (given : List Outstanding) : Type 0 where
   pub consumers : len + room ≤ cap
   pub out : len' + room ≤ cap'
   pub due : len'' + (len' + room) ≤ cap''
   pub ascending : IsAscending indexes
+  pub out_ascending : IsOutAscending given
 
 -- of kind Exclusive, not replicated, and never sought
 pub record IsPlain (s : Subscription) : Type 0 where

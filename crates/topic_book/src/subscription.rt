@@ -11,7 +11,7 @@ ghost use Rattle.topic_book.specs.SubRoom.{IsLeast, IsPlain, SubBook, SubStepFit
 mod parts;
 
 use crate::subscription::parts::{
-    add_acks, add_due, first_open, forget_due, forget_out, give_up, leave, permit_each, take_out,
+    add_acks, add_due, add_out, first_open, forget_due, forget_out, give_up, leave, permit_each, take_out,
     use_permit,
 };
 use cursor_acks::Cursor;
@@ -40,8 +40,8 @@ pub enum SubStep<'a> {
     AckTo(u64),
 }
 
-/// A cursor, the consumers in order of attachment, what is out with them in order of giving, what is due again in ascending
-/// order, and where reading goes on. Each step takes one from the room that was reserved. What is out always has room among
+/// A cursor, the consumers in order of attachment, what is out with them and what is due again, each in ascending
+/// order of index, and where reading goes on. Each step takes one from the room that was reserved. What is out always has room among
 /// what is due again, so that a consumer's leaving takes none.
 #[derive(Debug, Drop)]
 pub struct Sub {
@@ -67,7 +67,7 @@ impl Model for Sub {
       acks = s.cursor.spare;
     } };
 
-    ghost invariant = { λ s. SubHolds s.room (vec_len s.consumers) (vec_capacity s.consumers) (vec_len s.out) (vec_capacity s.out) (vec_len s.due) (vec_capacity s.due) s.due.items };
+    ghost invariant = { λ s. SubHolds s.room (vec_len s.consumers) (vec_capacity s.consumers) (vec_len s.out) (vec_capacity s.out) (vec_len s.due) (vec_capacity s.due) s.due.items s.out.items };
 }
 
 impl Sub {
@@ -246,7 +246,7 @@ impl Sub {
         take_out(&mut self.due, index);
         self.read_index = self.read_index.max(index + 1);
         let client = use_permit(self.consumers.as_mut_slice(), place);
-        self.out.push_reserved(Outstanding { index, client });
+        add_out(&mut self.out, Outstanding { index, client });
     }
 
     /// What is acknowledged is neither out nor due.

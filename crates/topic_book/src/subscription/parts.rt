@@ -1,13 +1,13 @@
 //! What a subscription's steps do to its lists and to its cursor.
-ghost use Rattle.std.specs.Prelude.{◌≡◌, ◌<◌, ◌≤◌, ◌+◌, ◌==◌, length, map, not, min, slice_set, vec_len, vec_capacity, if◌then◌else◌, find};
+ghost use Rattle.std.specs.Prelude.{◌≡◌, ◌<◌, ◌≤◌, ◌+◌, ◌==◌, length, map, not, min, slice_set, vec_len, vec_capacity, if◌then◌else◌, find, IfErr, IfOk};
 ghost use Rattle.std.specs.List.{All, filter};
 ghost use Rattle.std.specs.Str.{bytes_eq};
 ghost use Rattle.geo_base.specs.Cursor.{below, has, with_index, with_indexes};
-ghost use Rattle.geo_base.specs.Dispatcher.{consumer_at, used};
+ghost use Rattle.geo_base.specs.Dispatcher.{consumer_at, used, with_out};
 ghost use Rattle.geo_base.specs.Subscription.{is_of, most_permits, out_with};
 ghost use Rattle.geo_base.specs.declared.consumer.Consumer.{Consumer};
 ghost use Rattle.geo_base.specs.declared.consumer.Outstanding.{Outstanding};
-ghost use Rattle.topic_book.specs.SubRoom.{IsAscending, need};
+ghost use Rattle.topic_book.specs.SubRoom.{IsAscending, IsOutAscending, IsOutAt, IsOutGap, need};
 
 use cursor_acks::Cursor;
 use geo_base::consumer::{Consumer, Outstanding};
@@ -59,9 +59,42 @@ pub(crate) fn add_due(due: &mut Vec<u64>, out: &[Outstanding], cursor: &Cursor, 
     }
 }
 
+/// The place of an index among what is out, or, as `Err`, the place where it would stand.
+fn place_out(out: &[Outstanding], index: u64) -> Result<usize, usize>
+    requires { IsOutAscending out.now }
+    ensures here { IfOk result (λ at. IsOutAt out.now index at) }
+    ensures gap { IfErr result (λ at. IsOutGap out.now index at) }
+{
+    let at = out.partition_point(|given| given.index < index);
+    if at < out.len() && out[at].index == index {
+        return Ok(at);
+    }
+    Err(at)
+}
+
+/// One more index is out; one that is out already is then out with another client.
+pub(crate) fn add_out(out: &mut Vec<Outstanding>, given: Outstanding)
+    requires room { vec_len out.old < vec_capacity out.old }
+    requires ascending { IsOutAscending out.old.items }
+    ensures items { out.new.items ≡ with_out out.old.items given }
+    ensures ascending { IsOutAscending out.new.items }
+    ensures len { vec_len out.new ≤ vec_len out.old + 1 }
+    ensures capacity { vec_capacity out.old ≤ vec_capacity out.new }
+{
+    match place_out(out.as_slice(), given.index) {
+        Ok(at) => out[at] = given,
+        Err(at) => match out.insert(at, given) {
+            Ok(()) => {}
+            Err(_) => unreachable!(),
+        },
+    }
+}
+
 /// Nothing is out with a client.
 pub(crate) fn give_up(out: &mut Vec<Outstanding>, client: u32)
+    requires { IsOutAscending out.old.items }
     ensures items { out.new.items ≡ filter (λ (o : Outstanding). not (o.client == client)) out.old.items }
+    ensures ascending { IsOutAscending out.new.items }
     ensures len { vec_len out.new + length (out_with client out.old.items) ≡ vec_len out.old }
     ensures capacity { vec_capacity out.new ≡ vec_capacity out.old }
 {
@@ -79,7 +112,9 @@ pub(crate) fn leave(consumers: &mut Vec<Consumer>, client: u32)
 
 /// What is out and not acknowledged.
 pub(crate) fn forget_out(out: &mut Vec<Outstanding>, cursor: &Cursor)
+    requires { IsOutAscending out.old.items }
     ensures items { out.new.items ≡ filter (λ (o : Outstanding). not (has cursor.now.indexes o.index)) out.old.items }
+    ensures ascending { IsOutAscending out.new.items }
     ensures len { vec_len out.new ≤ vec_len out.old }
     ensures capacity { vec_capacity out.new ≡ vec_capacity out.old }
 {
