@@ -1,5 +1,5 @@
 -- One range in place of some is one more acknowledged index, or all up to one.
-use Rattle.std.proofs.Common.{◌≡◌, ℕ, zero, suc, ◌+◌, true, false, List, inl, inr, refl, ◌∙◌, arith}
+use Rattle.std.proofs.Common.{◌≡◌, ℕ, zero, suc, ◌+◌, true, false, List, inl, inr, refl, sym, ◌∙◌, arith}
 use Rattle.std.proofs.lemmas.Bool.{cases_lt}
 use Rattle.std.proofs.lemmas.Bool.Decides.{nat_tests}
 use Rattle.geo_base.specs.Cursor.{below, has, with_index, with_indexes}
@@ -20,6 +20,9 @@ added_again rs i h e =
     same_set 0 (indexes_of rs) (with_index (indexes_of rs) i) (rising rs h) (rising_with_index 0 (indexes_of rs) i (rising rs h) (omega arith)) (λ j.
     let there : i ≡ j → covers rs j ≡ true = λ f. rw f at e in
     grind (arith, nat_tests, has_with_index (indexes_of rs) i j, has_indexes rs j, there))
+
+pub acked_again : (rs : List IndexRange) → AreKept rs → (i : ℕ) → has (indexes_of rs) i ≡ true → with_index (indexes_of rs) i ≡ indexes_of rs
+acked_again rs h i e = sym (added_again rs i h (sym (has_indexes rs i) ∙ e))
 
 pub one_fits : (rs : List IndexRange) (i at from to : ℕ) (r : IndexRange) → AreKept rs → IsPlace rs i at → covers rs i ≡ false → Begins rs i at from r.first → Ends rs i at to r.last → Fits rs from to r
 one_fits rs i at from to r h p out b e = record {

@@ -11,9 +11,9 @@ use std::alloc::Global;
 use std::marker::Model;
 use thiserror::Error;
 
-/// An index that is not below the topic's length: no entry stands there to be acknowledged.
+/// An index past a topic's end: no entry stands there to be acknowledged, or a seek would begin behind the end.
 #[derive(Clone, Copy, Debug, Drop, PartialEq, Eq, Error)]
-#[error("index {index} is not below the length {len}")]
+#[error("index {index} is past the end of {len} entries")]
 pub struct PastEnd {
     pub index: u64,
     pub len: u64,
@@ -107,6 +107,31 @@ impl Cursor {
         Ok(())
     }
 
+    /// Acknowledges all indexes below one and no other, in a topic of `len` entries, so that reading begins at `index`: where
+    /// an operator resets the cursor. `index == len` is the topic's end; `PastEnd` exactly where `index > len`, with no
+    /// change. It needs a spare of at least 1, and lowers it by at most 1.
+    pub fn seek_to(&mut self, index: u64, len: u64) -> Result<(), PastEnd>
+        requires room { 0 < self.old.spare }
+        ensures ok { OnOk result (index ≤ len) }
+        ensures indexes { OnOk result (self.new.indexes ≡ below index) }
+        ensures spare { self.old.spare ≤ self.new.spare + 1 }
+        ensures past_end { IfErr result (λ e. (len < index) × (e ≡ record { index = index; len = len })) }
+        ensures err { OnErr result (self.new ≡ self.old) }
+    {
+        if index > len {
+            return Err(PastEnd { index, len });
+        }
+        self.ranges.set_below(index);
+        Ok(())
+    }
+
+    /// How many more acknowledgements need no memory: `reserve` is called only where that is too few.
+    pub fn spare(&self) -> usize
+        ensures { result ≡ self.now.spare }
+    {
+        self.ranges.spare()
+    }
+
     /// The mark-delete: how many indexes from 0 on are all acknowledged.
     pub fn mark_delete(&self) -> u64
         ensures mark { result ≡ mark self.now.indexes }
@@ -127,10 +152,12 @@ impl Cursor {
         holds(ranges, place_of(ranges, index), index)
     }
 
-    /// The least index at or after `from` that is not acknowledged; it may be the topic's length or past it.
+    /// The least index at or after `from` that is not acknowledged; it may be the topic's length or past it. To acknowledge
+    /// one of those that it leaves out once again would change nothing.
     pub fn next_open(&self, from: u64) -> u64
         ensures least { IsFirstOpen self.now.indexes from result }
         ensures below { (end : ℕ) → next_open self.now.indexes from (end - from) ≡ if_below result end }
+        ensures again { (i : ℕ) → has self.now.indexes i ≡ true → with_index self.now.indexes i ≡ self.now.indexes }
     {
         let ranges = self.ranges.as_slice();
         let at = place_of(ranges, from);

@@ -90,4 +90,20 @@ impl RangeList {
         let (to, last) = end(ranges, at, index);
         self.replace(0, to, IndexRange { first: 0, last });
     }
+
+    /// All indexes below an end, and no other.
+    pub(crate) fn set_below(&mut self, end: u64)
+        requires room { 0 < self.old.spare }
+        ensures kept { AreKept self.new.list }
+        ensures indexes { indexes_of self.new.list ≡ below end }
+        ensures spare { self.old.spare ≤ self.new.spare + 1 }
+    {
+        self.items.clear();
+        if end > 0 {
+            self.items.push_reserved(IndexRange {
+                first: 0,
+                last: end - 1,
+            });
+        }
+    }
 }

@@ -35,6 +35,13 @@ impl RangeList {
         self.items.as_slice()
     }
 
+    /// How many more ranges find room without memory.
+    pub(crate) fn spare(&self) -> usize
+        ensures { result ≡ self.now.spare }
+    {
+        self.items.capacity() - self.items.len()
+    }
+
     /// No range; takes no memory.
     pub(crate) fn new(alloc: Global) -> RangeList
         ensures { result.list ≡ [] }

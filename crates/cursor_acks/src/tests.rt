@@ -5,10 +5,11 @@ use rand_pcg::Pcg32;
 use std::alloc::{AllocError, Global};
 use std::test::Fail;
 
-/// A call: an acknowledgement of one index, or of all up to one.
+/// A call: an acknowledgement of one index, or of all up to one, or a seek.
 enum Call {
     One(u64),
     To(u64),
+    Seek(u64),
 }
 
 /// Calls on a topic of `len` entries, and what the cursor then says.
@@ -26,6 +27,7 @@ fn after(alloc: Global, len: u64, calls: &[Call]) -> Result<Cursor, Memory> {
         let _answer = match call {
             Call::One(index) => cursor.ack_one(*index, len),
             Call::To(index) => cursor.ack_to(*index, len),
+            Call::Seek(index) => cursor.seek_to(*index, len),
         };
     }
     cursor.copy(alloc)
@@ -47,7 +49,7 @@ fn said(alloc: Global, cursor: &Cursor) -> Result<String, AllocError> {
     Ok(text)
 }
 
-const TABLE: [Row; 9] = [
+const TABLE: [Row; 12] = [
     Row {
         len: 5,
         calls: &[],
@@ -89,6 +91,23 @@ const TABLE: [Row; 9] = [
         calls: &[Call::One(4), Call::To(2)],
         said: "0-2 4-4 mark 3 open 3 3 5",
     },
+    // a seek forgets what is above it
+    Row {
+        len: 5,
+        calls: &[Call::One(0), Call::One(4), Call::Seek(2)],
+        said: "0-1 mark 2 open 2 2 4",
+    },
+    // 6 is past the end, 5 is the end
+    Row {
+        len: 5,
+        calls: &[Call::One(3), Call::Seek(6), Call::One(1)],
+        said: "1-1 3-3 mark 0 open 0 2 4",
+    },
+    Row {
+        len: 5,
+        calls: &[Call::Seek(5), Call::Seek(0), Call::One(2)],
+        said: "2-2 mark 0 open 0 3 4",
+    },
     // the greatest index of the greatest length
     Row {
         len: u64::MAX,
@@ -112,6 +131,7 @@ fn latest_and_past_the_end(rt: HostRuntime) -> Result<(), Fail> {
     assert_eq!(rt; most.next_open(7), u64::MAX);
     let mut cursor = Cursor::all(rt.alloc(), 5)?;
     cursor.reserve(1)?;
+    assert!(rt; cursor.spare() >= 1);
     let past = Err(PastEnd { index: 5, len: 5 });
     assert_eq!(rt; cursor.ack_one(5, 5), past);
     assert_eq!(rt;
@@ -145,6 +165,16 @@ impl Flags {
         }
         for i in 0..=index as usize {
             self.acked[i] = true;
+        }
+        true
+    }
+
+    fn seek_to(&mut self, index: u64) -> bool {
+        if index > LEN {
+            return false;
+        }
+        for i in 0..LEN {
+            self.acked[i as usize] = i < index;
         }
         true
     }
@@ -188,10 +218,10 @@ fn is_same_call(
     let index = (random.next_word() % 42) as u64;
     let probe = (random.next_word() % 45) as u64;
     cursor.reserve(1)?;
-    let alike = if random.next_word() % 20 == 0 {
-        cursor.ack_to(index, LEN).is_ok() == flags.ack_to(index)
-    } else {
-        cursor.ack_one(index, LEN).is_ok() == flags.ack_one(index)
+    let alike = match random.next_word() % 40 {
+        0 => cursor.seek_to(index, LEN).is_ok() == flags.seek_to(index),
+        1 | 2 => cursor.ack_to(index, LEN).is_ok() == flags.ack_to(index),
+        _ => cursor.ack_one(index, LEN).is_ok() == flags.ack_one(index),
     };
     Ok(
         alike
