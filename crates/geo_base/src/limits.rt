@@ -74,5 +74,4 @@ pub fn machine_numbers()
     ensures permits { PERMITS ≡ most_permits }
     ensures events { EVENTS ≡ most_events }
     ensures sent { SENT_BYTES ≡ most_sent_bytes }
-{
-}
+{}

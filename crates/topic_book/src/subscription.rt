@@ -11,8 +11,8 @@ ghost use Rattle.topic_book.specs.SubRoom.{IsLeast, IsPlain, SubBook, SubStepFit
 mod parts;
 
 use crate::subscription::parts::{
-    add_acks, add_due, add_out, first_open, forget_due, forget_out, give_up, leave, permit_each, take_out,
-    use_permit,
+    add_acks, add_due, add_out, first_open, forget_due, forget_out, give_up, leave, permit_each,
+    take_out, use_permit,
 };
 use cursor_acks::Cursor;
 use geo_base::bytes::Text;
