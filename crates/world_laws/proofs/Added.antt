@@ -97,7 +97,7 @@ adds_halt h b k ws a =
 fourth : (a b c d e : Bool) → (a && b && c && d && e) ≡ true → d ≡ true
 fourth a b c d e h = grind (arith, h)
 
-sound_data : (h : Site) (n : List ℕ) (seq : ℕ) (source : Option Place) (e : Entry) → is_sound h n seq source e ≡ true → is_data e.content ≡ true
+pub sound_data : (h : Site) (n : List ℕ) (seq : ℕ) (source : Option Place) (e : Entry) → is_sound h n seq source e ≡ true → is_data e.content ≡ true
 sound_data h n seq source e sound =
     fourth (bytes_eq n e.ident.producer) (seq == e.ident.seq) (is_none source) (is_data e.content) (nat_le (entry_size h.clusters e) most_entry_size) sound
 
@@ -196,7 +196,7 @@ seeks_adds h b n to q Seeks.NothingToSeek = Adds.Nothing
 seeks_adds h b n to q (Seeks.SeeksTo v i ws named at after) = updates_adds h b _ ws after
 
 -- a packet came on a link, so that it is none of a cluster to itself
-came_other : (s : Setup) (w : World) (t x y : ℕ) (p : Packet) → NoSelf s w → y < length s.clusters → next_packet (link_at w.links (Forward (node s t x) y)) ≡ Some p
+pub came_other : (s : Setup) (w : World) (t x y : ℕ) (p : Packet) → NoSelf s w → y < length s.clusters → next_packet (link_at w.links (Forward (node s t x) y)) ≡ Some p
     → x ≡ y → ⊥
 came_other s w t x y p none small next is =
     let P : ℕ → Type 0 = λ z. next_packet (link_at w.links (Forward (node s t z) y)) ≡ Some p in

@@ -172,7 +172,7 @@ adds_origin h b more lt (Adds.Two f g z small other of_f of_g) j e at =
 
 -- CONTENTS
 
-abbrev is_request : Content → Bool
+abbrev pub is_request : Content → Bool
 is_request (content.Marked (marker.Request id source)) = true
 is_request c = false
 

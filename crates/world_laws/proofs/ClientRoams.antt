@@ -119,7 +119,7 @@ all_at p [] i x h e = absurd (none-some x e)
 all_at p (y ∷ ys) zero x h e = subst (λ z. p z ≡ true) (same_Some y x e) (left (p y) (list_all p ys) h)
 all_at p (y ∷ ys) (suc i) x h e = all_at p ys i x (right (p y) (list_all p ys) h) e
 
-all_index : {X : Type 0} (p : X → Bool) (xs : List X) (i : ℕ) (d : X) → list_all p xs ≡ true → i < length xs → p (slice_index_or xs i d) ≡ true
+pub all_index : {X : Type 0} (p : X → Bool) (xs : List X) (i : ℕ) (d : X) → list_all p xs ≡ true → i < length xs → p (slice_index_or xs i d) ≡ true
 all_index p [] i d h lt = absurd (omega (arith, lt))
 all_index p (y ∷ ys) zero d h lt = left (p y) (list_all p ys) h
 all_index p (y ∷ ys) (suc i) d h lt = all_index p ys i d (right (p y) (list_all p ys) h) (omega (arith, lt))

@@ -4,8 +4,7 @@ use Rattle.std.specs.Prelude.{not, filter, ◌||◌, ◌&&◌}
 use Rattle.std.proofs.lemmas.Bool.{eqb-true, eq-eqb, false≢true}
 use Rattle.std.proofs.lemmas.Bool.Decides.{nat_tests}
 use Rattle.geo_base.specs.Cursor.{has}
-use Rattle.world_laws.proofs.SnapshotFacts.{by_test}
-use Rattle.world_laws.proofs.Walk.{left, right}
+use Rattle.world_laws.proofs.Walk.{by_test, left, right}
 
 -- no number twice
 abbrev pub apart : List ℕ → Bool

@@ -1,5 +1,5 @@
 -- A response keeps the facts of the builder.
-use Rattle.std.proofs.Common.{◌≡◌, ℕ, zero, suc, ◌+◌, ◌<◌, Bool, true, false, List, [], ◌∷◌, ◌++◌, length, refl, sym, ap, subst, ◌∙◌, ◌==◌, arith, inl, inr, ◌⊎◌}
+use Rattle.std.proofs.Common.{◌≡◌, ℕ, zero, suc, ◌+◌, ◌<◌, ◌≤◌, Bool, true, false, List, [], ◌∷◌, ◌++◌, length, refl, sym, ap, subst, ◌∙◌, ◌==◌, arith, inl, inr, ◌⊎◌}
 use Rattle.std.specs.Prelude.{Option, Some, None, slice_get, slice_index_or, slice_set, nat_lt, not, ◌||◌, ◌&&◌, if◌then◌else◌}
 use Rattle.std.proofs.lemmas.Option.{same_Some, slice_get_within}
 use Rattle.std.proofs.lemmas.Bool.{eqb-true, eq-eqb, false≢true}
@@ -13,9 +13,10 @@ use Rattle.world_laws.proofs.Members.{below_or, get_left, get_within}
 use Rattle.geo_base.specs.Cursor.{has}
 use Rattle.geo_base.specs.Position.{later_position, position_le, position_lt}
 use Rattle.geo_base.specs.Topic.{index_of, position_at}
-use Rattle.world_laws.proofs.SnapshotFacts.{Counted, FirstCounted, Made, NotYet, by_test}
+use Rattle.world_laws.proofs.SnapshotFacts.{Counted, FirstCounted, Made, NotYet}
 use Rattle.world_laws.proofs.Answering.{AnswerAt, RequestAt}
-use Rattle.world_laws.proofs.Walk.{on_test}
+use Rattle.world_laws.proofs.Everyone.{apart, everyone}
+use Rattle.world_laws.proofs.Walk.{by_test, on_test}
 
 -- the later of two positions is not before either
 later_left : (p a b : Position) → position_le p a ≡ true → position_le p (later_position a b) ≡ true
@@ -58,14 +59,15 @@ record Counting (u : Builder) (id : List ℕ) (c : ℕ) : Type 0 where
   same : id ≡ current_id u
   other : (c == u.own) ≡ false
   small : c < u.clusters
+  new : has u.heard c ≡ false
 
-five : (a b c d e : Bool) → (a && b && not c && d && e) ≡ true → (b ≡ true) × (c ≡ false) × (d ≡ true)
-five a b c d e h = (grind (arith, h), grind (arith, h), grind (arith, h))
+five : (a b c d e : Bool) → (a && b && not c && d && not e) ≡ true → (b ≡ true) × (c ≡ false) × (d ≡ true) × (e ≡ false)
+five a b c d e h = (grind (arith, h), grind (arith, h), grind (arith, h), grind (arith, h))
 
 counting : (u : Builder) (id : List ℕ) (c : ℕ) → counts u id c ≡ true → Counting u id c
 counting u id c h =
-    let f = five (not u.finished) (bytes_eq id (current_id u)) (c == u.own) (nat_lt c u.clusters) (not (has u.heard c)) h in
-    record { same = (bytes_eq-Decides id (current_id u)).0 f.0; other = f.1; small = grind (arith, nat_tests, f.2) }
+    let f = five (not u.finished) (bytes_eq id (current_id u)) (c == u.own) (nat_lt c u.clusters) (has u.heard c) h in
+    record { same = (bytes_eq-Decides id (current_id u)).0 f.0; other = f.1; small = grind (arith, nat_tests, f.2); new = f.3 }
 
 -- an answer that stands here counts for what it names
 answer_counts : (y i : ℕ) (es : List Entry) (ls : List ℕ) (id : List ℕ) (answer : ClusterPosition) (e : Entry) (local : Position)
@@ -97,6 +99,7 @@ with_more n x y i name es ls u id answer e made h at stored = record {
   empty = on_test (λ (l : List (Option Position)). slice_index_or l x None ≡ None) u.second u.cut.remote (slice_set u.cut.remote y (Some answer.position))
       (λ _. made.empty) (λ _. get_or-set_other u.cut.remote y x (Some answer.position) None (λ e. not_own (sym e)) ∙ made.empty);
   others = λ c heard. others c (by_test (y == c) inl (λ e. inr (second_of (y == c) (has u.heard c) heard e)));
+  distinct = subst (λ (b : Bool). (not b && apart u.heard) ≡ true) (sym k.new) made.distinct;
   local = λ _. local;
   zero = λ _ none. absurd (omega (arith, none));
   first = λ z p kept. first z p (remote_of u.second u.cut.remote y answer.position z p within kept);
@@ -207,6 +210,7 @@ judge n x name es ls u made some not_yet all_heard =
       places = made.places;
       empty = made.empty;
       others = made.others;
+      distinct = made.distinct;
       local = made.local;
       zero = made.zero;
       first = λ y p k. let f = made.first y p k in record { counted = f.counted; early = f.early };
@@ -223,6 +227,7 @@ judge n x name es ls u made some not_yet all_heard =
       places = made.places;
       empty = made.empty;
       others = λ c h. absurd (false≢true h);
+      distinct = refl;
       local = λ _. made.local (inr some);
       zero = λ h. absurd (false≢true (sym h));
       first = λ y p k. record { counted = (made.first y p k).counted; early = λ _ i g at of asks. absurd (not_yet round i (record { entry = g; at = at; of = of; asks = asks })) };
@@ -231,15 +236,36 @@ judge n x name es ls u made some not_yet all_heard =
       again = λ _ c h. absurd (false≢true h);
     }
 
+-- a list of heard clusters that is long enough has all of them but the own one
+pub all_heard : (n x : ℕ) (name : List ℕ) (es : List Entry) (ls : List ℕ) (u : Builder) → x < n → Made n x name es ls u → nat_lt (length u.heard + 1) u.clusters ≡ false
+    → (c : ℕ) → c < n → (c ≡ x → ⊥) → has u.heard c ≡ true
+all_heard n x name es ls u small made ended c lt other = rest (x == c) refl (everyone n (x ∷ u.heard) different below many c lt)
+  where
+    own_not : has u.heard x ≡ false
+    own_not = by_test (has u.heard x) (λ there. absurd ((made.others x there).1 refl)) (λ gone. gone)
+
+    different : apart (x ∷ u.heard) ≡ true
+    different = subst (λ (b : Bool). (not b && apart u.heard) ≡ true) (sym own_not) made.distinct
+
+    below : (d : ℕ) → has (x ∷ u.heard) d ≡ true → d < n
+    below d there = by_test (x == d) (λ e. subst (λ (k : ℕ). k < n) (eqb-true x d e) small)
+        (λ e. (made.others d (subst (λ (b : Bool). (b || has u.heard d) ≡ true) e there)).0)
+
+    many : n ≤ length (x ∷ u.heard)
+    many = let is = made.clusters in let le : u.clusters ≤ length u.heard + 1 = grind (arith, nat_tests, ended) in omega (arith, is, le)
+
+    rest : (t : Bool) → (x == c) ≡ t → (t || has u.heard c) ≡ true → has u.heard c ≡ true
+    rest true e h = absurd (other (sym (eqb-true x c e)))
+    rest false e h = h
+
 -- one response, whatever it is
 pub heard_more : (n x y i : ℕ) (name : List ℕ) (es : List Entry) (ls : List ℕ) (u : Builder) (id : List ℕ) (answer : ClusterPosition) (e : Entry)
-    → Made n x name es ls u → NotYet x es u → AnswerAt y es i id answer e → index_of ls (position_at ls i) ≡ Some i
-    → (nat_lt (length (y ∷ u.heard) + 1) u.clusters ≡ false → counts u id y ≡ true → (c : ℕ) → c < n → (c ≡ x → ⊥) → has (y ∷ u.heard) c ≡ true)
+    → x < n → Made n x name es ls u → NotYet x es u → AnswerAt y es i id answer e → index_of ls (position_at ls i) ≡ Some i
     → Made n x name es ls (on_response u id y answer.position (position_at ls i)).builder
-heard_more n x y i name es ls u id answer e made not_yet at stored all_heard =
+heard_more n x y i name es ls u id answer e small made not_yet at stored =
     on_test (λ (r : Heard). Made n x name es ls r.builder) (counts u id y) _ _
     (λ h. judge n x name es ls (with_response u y answer.position (position_at ls i)) (with_more n x y i name es ls u id answer e made h at stored) (omega arith) not_yet
-    (λ ended. all_heard ended h))
+    (λ ended. all_heard n x name es ls (with_response u y answer.position (position_at ls i)) small (with_more n x y i name es ls u id answer e made h at stored) ended))
     (λ _. made)
 
 -- growth: more entries, and positions that stay
@@ -255,7 +281,7 @@ grown_get es es' ls ls' g k e at = let P : List Entry → Type 0 = λ l. slice_g
 grown_old : (es es' : List Entry) (ls ls' : List ℕ) (g : Stays es es' ls ls') (k : ℕ) (e : Entry) → k < length es → slice_get es' k ≡ Some e → slice_get es k ≡ Some e
 grown_old es es' ls ls' g k e lt at = let P : List Entry → Type 0 = λ l. slice_get l k ≡ Some e in sym (get_within es g.more k lt) ∙ subst P g.is at
 
-request_stays : (x k : ℕ) (es es' : List Entry) (ls ls' : List ℕ) (id : List ℕ) → Stays es es' ls ls' → RequestAt x es k id → RequestAt x es' k id
+pub request_stays : (x k : ℕ) (es es' : List Entry) (ls ls' : List ℕ) (id : List ℕ) → Stays es es' ls ls' → RequestAt x es k id → RequestAt x es' k id
 request_stays x k es es' ls ls' id g r = record { entry = r.entry; at = grown_get es es' ls ls' g k r.entry r.at; of = r.of; asks = r.asks }
 
 abbrev counted_stays : (y : ℕ) (es es' : List Entry) (ls ls' : List ℕ) (id : List ℕ) (p local : Position) → Stays es es' ls ls' → Counted y es ls id p local → Counted y es' ls' id p local
@@ -280,6 +306,7 @@ made_grows n x name es es' ls ls' u g made = record {
   places = made.places;
   empty = made.empty;
   others = made.others;
+  distinct = made.distinct;
   local = λ some. let l = made.local some in (l.0, g.index u.cut.local l.0 l.1);
   zero = made.zero;
   first = λ y p kept.

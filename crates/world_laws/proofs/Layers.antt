@@ -65,6 +65,19 @@ kept_with s P Q k = record {
   stop = λ w p p' h. k.stop w h;
 }
 
+-- and what is kept with one thing is kept with what implies it
+pub kept_over : (s : Setup) (P P' Q : World → Type 0) → ((w : World) → P w → P' w) → KeptWith s P' Q → KeptWith s P Q
+kept_over s P P' Q f k = record {
+  opening = k.opening;
+  idle = λ w n p q. k.idle w n (f w p) q;
+  round = λ w n p q. k.round w n (f w p) q;
+  does = λ w e shape p p' q. k.does w e shape (f w p) (f _ p') q;
+  halts = λ w n e shape p p' q. k.halts w n e shape (f w p) (f _ p') q;
+  goes = λ w c a p p' q. k.goes w c a (f w p) (f _ p') q;
+  gets = λ w c x a p p' q. k.gets w c x a (f w p) (f _ p') q;
+  stop = λ w p p' q. k.stop w (f w p) (f _ p') q;
+}
+
 -- The facts that stand below those of one broker's durable state
 abbrev pub Grounds : Setup → World → Type 0
 Grounds s = Both (Replicates s) (NoSelf s)
@@ -88,7 +101,7 @@ all_kept s P d x b [] h = h
 all_kept s P d x b (c ∷ cs) h = all_kept s P d x (changed b c) cs (d.changes x b c h)
 
 -- one node has a new broker; where its topic is not there nothing changes
-one_node : (s : Setup) (P : ℕ → Broker → Type 0) (w : World) (t x : ℕ) (b : Broker) → x < length s.clusters → (IsThere s t x → P x b) → Everywhere s P w
+pub one_node : (s : Setup) (P : ℕ → Broker → Type 0) (w : World) (t x : ℕ) (b : Broker) → x < length s.clusters → (IsThere s t x → P x b) → Everywhere s P w
     → (u v : ℕ) → IsThere s u v → P v (slice_index_or (slice_set w.brokers (node s t x) b) (node s u v) no_broker)
 one_node s P w t x b lt new all u v there =
     at_set (P v) w.brokers (node s t x) (node s u v) b no_broker

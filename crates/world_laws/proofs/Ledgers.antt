@@ -14,7 +14,7 @@ total [] = 0
 total (l ∷ ls) = l + total ls
 
 -- the ledgers after one more entry, by recursion to the last one
-abbrev one_more : ℕ → List ℕ → List ℕ
+abbrev pub one_more : ℕ → List ℕ → List ℕ
 one_more per [] = 1 ∷ []
 one_more per (l ∷ []) = if nat_lt l per then (l + 1) ∷ [] else l ∷ 1 ∷ []
 one_more per (l ∷ m ∷ ls) = l ∷ one_more per (m ∷ ls)
@@ -23,7 +23,7 @@ below_first : (b : Bool) (l : ℕ) (xs ys : List ℕ) → (if b then l ∷ xs el
 below_first true l xs ys = refl
 below_first false l xs ys = refl
 
-grown_is : (per : ℕ) (ls : List ℕ) → 0 < length ls → grown per ls ≡ one_more per ls
+pub grown_is : (per : ℕ) (ls : List ℕ) → 0 < length ls → grown per ls ≡ one_more per ls
 grown_is per [] lt = absurd (omega (arith, lt))
 grown_is per (l ∷ []) lt = refl
 grown_is per (l ∷ m ∷ ls) lt =
@@ -130,10 +130,11 @@ pub record Found (ls : List ℕ) (k before : ℕ) (p : Position) (i : ℕ) : Typ
   pub after : before ≤ i
   pub within : i < before + total ls
   pub first : k ≤ p.ledger
+  pub last : p.ledger < k + length ls
   pub entry : before + p.entry ≤ i
   pub is : or_first (position_from ls k (i - before)) ≡ p
 
-found : (ls : List ℕ) (k before : ℕ) (p : Position) (i : ℕ) → index_from ls k before p ≡ Some i → Found ls k before p i
+pub found : (ls : List ℕ) (k before : ℕ) (p : Position) (i : ℕ) → index_from ls k before p ≡ Some i → Found ls k before p i
 found [] k before p i h = absurd (none-some i h)
 found (l ∷ ls) k before p i h = go (p.ledger == k) refl h (found ls (k + 1) (before + l) p i)
   where
@@ -148,6 +149,7 @@ found (l ∷ ls) k before p i h = go (p.ledger == k) refl h (found ls (k + 1) (b
           after = omega (arith, at);
           within = omega (arith, at, lt);
           first = omega (arith, of);
+          last = omega (arith, of);
           entry = omega (arith, at);
           is = ap (λ (b : Bool). or_first (if b then Some (record { ledger = k; entry = i - before }) else position_from ls (k + 1) (i - before - l))) is
               ∙ (λ j. record { ledger = sym of j; entry = back j });
@@ -159,13 +161,14 @@ found (l ∷ ls) k before p i h = go (p.ledger == k) refl h (found ls (k + 1) (b
     go true e g ih = here e (nat_lt p.entry l) refl g
     go false e g ih =
         let r = ih g in
-        let after = r.after in let within = r.within in let first = r.first in let entry = r.entry in
+        let after = r.after in let within = r.within in let first = r.first in let last = r.last in let entry = r.entry in
         let other : nat_lt (i - before) l ≡ false = grind (arith, nat_tests, after) in
         let back : i - before - l ≡ i - (before + l) = omega arith in
         record {
           after = omega (arith, after);
           within = omega (arith, within);
           first = omega (arith, first);
+          last = omega (arith, last);
           entry = omega (arith, entry);
           is = ap (λ (b : Bool). or_first (if b then Some (record { ledger = k; entry = i - before }) else position_from ls (k + 1) (i - before - l))) other
               ∙ ap (λ (n : ℕ). or_first (position_from ls (k + 1) n)) back ∙ r.is;
@@ -174,3 +177,8 @@ found (l ∷ ls) k before p i h = go (p.ledger == k) refl h (found ls (k + 1) (b
 -- a stored position is that of its index, and stands below the end
 pub of_index : (ls : List ℕ) (p : Position) (i : ℕ) → index_of ls p ≡ Some i → Found ls 0 0 p i
 of_index ls p i h = found ls 0 0 p i h
+
+pub position_is : (ls : List ℕ) (p : Position) (i : ℕ) → index_of ls p ≡ Some i → position_at ls i ≡ p
+position_is ls p i h =
+    let back : i - 0 ≡ i = omega arith in
+    subst (λ (n : ℕ). or_first (position_from ls 0 n) ≡ p) back (of_index ls p i h).is

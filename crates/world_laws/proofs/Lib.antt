@@ -67,3 +67,10 @@ pub mod SnapshotFacts
 pub mod Hearing
 pub mod Everyone
 pub mod Ids
+pub mod NextPosition
+pub mod Counts
+pub mod Building
+pub mod Making
+pub mod MakingEvents
+pub mod Asked
+pub mod SecondRound

@@ -14,10 +14,12 @@ use Rattle.geo_base.specs.Entry.{goes_to, is_outbound, meant_for}
 use Rattle.geo_base.specs.Position.{position_le}
 use Rattle.geo_base.specs.Topic.{index_of, position_at}
 use Rattle.world_laws.proofs.Answering.{AllAnswers, AnswerAt, Answering, Answers, Asks, RequestAt}
+use Rattle.world_laws.proofs.Everyone.{apart}
 use Rattle.world_laws.proofs.Members.{Stands, from_filter, stands_left, to_filter}
 use Rattle.world_laws.proofs.Once.{OnceIn}
 use Rattle.world_laws.proofs.Order.{Below, Chain, Follows, FromWhom, covered, of_source, round_two}
 use Rattle.world_laws.proofs.Prefixes.{Begins, is_of}
+use Rattle.world_laws.proofs.Walk.{by_test}
 
 -- an own request has the id of its place, or that of a request before it, for the second round
 pub data Form (name : List ℕ) (es : List Entry) (ls : List ℕ) (x k : ℕ) (id : List ℕ) : Type 0 where
@@ -49,6 +51,7 @@ pub record Made (n x : ℕ) (name : List ℕ) (es : List Entry) (ls : List ℕ) 
   pub places : length u.cut.remote ≡ n
   pub empty : slice_index_or u.cut.remote x None ≡ None
   pub others : (c : ℕ) → has u.heard c ≡ true → (c < n) × (c ≡ x → ⊥)
+  pub distinct : apart u.heard ≡ true
   pub local : (u.second ≡ true) ⊎ (0 < length u.heard) → (l : ℕ) × (index_of ls u.cut.local ≡ Some l)
   pub zero : u.second ≡ false → length u.heard ≡ 0 → u.cut.local ≡ record { ledger = 0; entry = 0 }
   pub first : (y : ℕ) (p : Position) → slice_index_or u.cut.remote y None ≡ Some p → FirstCounted x y es ls u p
@@ -114,10 +117,6 @@ pub record CoversAll (x : ℕ) (a b : List Entry) (lb : List ℕ) (u : Builder) 
   pub index : ℕ
   pub stands : index_of lb position ≡ Some index
   pub covers : (i : ℕ) (f : Entry) → i ≤ index → slice_get b i ≡ Some f → meant_for x f ≡ true → Below a (suc l) f
-
-pub by_test : {X : Type 0} (t : Bool) → (t ≡ true → X) → (t ≡ false → X) → X
-by_test true f g = f refl
-by_test false f g = g refl
 
 second_of : (a b : Bool) → (a || b) ≡ true → a ≡ false → b ≡ true
 second_of true b h k = absurd (false≢true (sym k))

@@ -13,6 +13,11 @@ pub on_test : {X : Type 0} (P : X → Type 0) (b : Bool) (x y : X) → (b ≡ tr
 on_test P true x y p q = p refl
 on_test P false x y p q = q refl
 
+-- by cases of a test
+pub by_test : {X : Type 0} (t : Bool) → (t ≡ true → X) → (t ≡ false → X) → X
+by_test true f g = f refl
+by_test false f g = g refl
+
 -- a choice that does not go through the library's `if`, as a recursion that ends early
 pub on_elim : {X : Type 0} (P : X → Type 0) (b : Bool) (x y : X) → P x → P y → P (elim b as (λ b. X) [ true ↦ x | false ↦ y ])
 on_elim P true x y p q = p
