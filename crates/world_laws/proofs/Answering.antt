@@ -139,7 +139,7 @@ one_of_two : (f g : Entry) (j : ℕ) (e : Entry) → slice_get (f ∷ g ∷ []) 
 one_of_two f g zero e at = inl (same_Some _ _ at)
 one_of_two f g (suc j) e at = inr (only_one g j e at).1
 
-not_own : (own z : ℕ) (e : Entry) → (z ≡ own → ⊥) → e.ident.origin ≡ z → is_of own e ≡ true → ⊥
+pub not_own : (own z : ℕ) (e : Entry) → (z ≡ own → ⊥) → e.ident.origin ≡ z → is_of own e ≡ true → ⊥
 not_own own z e other of own_is = other (sym of ∙ eqb-true e.ident.origin own own_is)
 
 pub own_added : (h : Site) (b : Broker) (more : List Entry) → Adds h b more → (j : ℕ) (e : Entry) → slice_get more j ≡ Some e → is_of h.own e ≡ true → Alone h b j e

@@ -1,13 +1,11 @@
 -- What each topic knows of its own requests and of the snapshot that it makes, in every world of a short run.
-use Rattle.std.proofs.Common.{◌≡◌, ℕ, zero, suc, ◌*◌, ◌<◌, ◌==◌, Bool, true, false, List, [], ◌∷◌, length, refl, sym, ap, subst, ◌∙◌, arith, inl, inr}
+use Rattle.std.proofs.Common.{◌≡◌, ℕ, zero, suc, ◌*◌, ◌<◌, ◌==◌, Bool, true, false, List, [], ◌∷◌, length, refl, sym, subst, ◌∙◌, arith, inl, inr}
 use Rattle.std.specs.Prelude.{Option, Some, None, ◌&&◌, ◌||◌, nat_le, nat_lt, slice_get, slice_index_or, take}
 use Rattle.std.specs.List.{list_all}
-use Rattle.std.specs.Str.{bytes_eq}
 use Rattle.std.proofs.lemmas.Bool.{eqb-true, false≢true}
 use Rattle.std.proofs.lemmas.List.{get_or-replicate}
 use Rattle.std.proofs.lemmas.Option.{none-some}
 use Rattle.std.proofs.lemmas.Slice.Eq.{bytes_eq-Decides}
-use Rattle.world_laws.proofs.Types.{Position}
 use Rattle.geo_base.specs.Broker.{Broker, new_broker, no_broker}
 use Rattle.geo_base.specs.Client.{Acted}
 use Rattle.geo_base.specs.Cursor.{has}
@@ -17,14 +15,14 @@ use Rattle.geo_base.specs.Moments.{partly_written}
 use Rattle.geo_base.specs.Name.{is_name, most_name_bytes, name_byte}
 use Rattle.geo_base.specs.Plan.{done, halted, all_written}
 use Rattle.geo_base.specs.Planned.{Planned}
-use Rattle.geo_base.specs.Scripted.{AreDistinct, IsScripted}
+use Rattle.geo_base.specs.Scripted.{IsScripted}
 use Rattle.geo_base.specs.Seeking.{restart}
 use Rattle.geo_base.specs.Setup.{Setup}
 use Rattle.geo_base.specs.World.{LinkName, ToClient, World, node, opening_world, site, topic_at}
 use Rattle.world_laws.proofs.Building.{Building, shape_building}
 use Rattle.world_laws.proofs.ClientRoams.{all_index}
 use Rattle.world_laws.proofs.Counts.{FewAt, few_kept, few_room, next_small, stored_small}
-use Rattle.world_laws.proofs.Layers.{Both, Everywhere, Grounds, KeptWith, both_kept, kept_over, one_node}
+use Rattle.world_laws.proofs.Layers.{Both, Everywhere, Grounds, both_kept, kept_over, one_node}
 use Rattle.world_laws.proofs.Making.{MadeAfter, Making, Telling}
 use Rattle.world_laws.proofs.MakingEvents.{making_done, making_halted, making_written}
 use Rattle.world_laws.proofs.Members.{below_or}
@@ -34,7 +32,7 @@ use Rattle.world_laws.proofs.Positions.{Answered, answered_kept}
 use Rattle.world_laws.proofs.Runs.{IsKept}
 use Rattle.world_laws.proofs.Shapes.{Shape}
 use Rattle.world_laws.proofs.Short.{KeptShort, WhileShort, short_kept}
-use Rattle.world_laws.proofs.Sizes.{IsThere, Sized, node_lt, node_there, stopped_at}
+use Rattle.world_laws.proofs.Sizes.{IsThere, node_lt, node_there, stopped_at}
 use Rattle.world_laws.proofs.Walk.{left, on_if, right}
 
 -- NAMES
@@ -163,7 +161,7 @@ unfolding stops restart
 asked_stops s names w short h asked t x there =
     let b = topic_at s w t x in
     subst (MakesAt s x) (sym (stopped_at w.brokers (λ c. done s.per_ledger c restart) (node s t x) (node_there s w t x h.0.0.0.0.sized there)))
-    (making_done (site s t x) b restart (Building.Ends restart (tt, tt) refl) there.1 (h.0.0.1 t x there).numbered (telling s names w short h t x there) (asked t x there))
+    (making_done (site s t x) b restart (Building.Ends restart (tt, tt) refl (tt, tt)) there.1 (h.0.0.1 t x there).numbered (telling s names w short h t x there) (asked t x there))
 
 asked_opening : (s : Setup) → Asked s (opening_world s)
 asked_opening s t x there =

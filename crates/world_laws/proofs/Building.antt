@@ -1,16 +1,16 @@
 -- What an event does with the snapshot that is being made: whether it appends an own request, and what becomes of the builder.
-use Rattle.std.proofs.Common.{◌≡◌, ℕ, zero, suc, ◌+◌, ◌<◌, Bool, true, false, List, [], ◌∷◌, ◌++◌, length, refl, sym, ap, subst, ◌∙◌, ◌==◌}
-use Rattle.std.specs.Prelude.{Option, Some, None, ◌&&◌, ◌||◌, is_some, nat_lt, take}
+use Rattle.std.proofs.Common.{◌≡◌, ℕ, zero, suc, ◌+◌, Bool, true, false, List, [], ◌∷◌, ◌++◌, length, refl, sym, ap, subst, ◌∙◌, ◌==◌}
+use Rattle.std.specs.Prelude.{Option, Some, None, ◌&&◌, ◌||◌, is_some, nat_lt, take, slice_get}
 use Rattle.std.proofs.lemmas.Bool.{eqb-true, false≢true, ltb-true}
 use Rattle.std.proofs.lemmas.List.{append-nil}
-use Rattle.world_laws.proofs.Types.{Builder, Change, ClusterPosition, Content, Entry, Packet, Position, Progress, Write}
+use Rattle.world_laws.proofs.Types.{Builder, CachedSnapshot, Change, ClusterPosition, Content, Entry, Packet, Position, Progress, Write}
 use Rattle.world_laws.proofs.Types.change
 use Rattle.world_laws.proofs.Types.content
 use Rattle.world_laws.proofs.Types.progress
 use Rattle.world_laws.proofs.Types.write
 use Rattle.geo_base.specs.Broker.{Broker, Site, changed, cluster_name, sub_named, written}
 use Rattle.geo_base.specs.Builder.{Heard, counts, current_id, judged, on_response, snapshot_id, with_response}
-use Rattle.geo_base.specs.Entry.{is_data, with_origin}
+use Rattle.geo_base.specs.Entry.{is_data}
 use Rattle.geo_base.specs.Forwarding.{closes}
 use Rattle.geo_base.specs.Markers.{asks, request_marker}
 use Rattle.geo_base.specs.Plan.{Plan, all_changed, all_written, done, quiet_plan}
@@ -23,11 +23,11 @@ use Rattle.geo_base.specs.Updating.{handled}
 use Rattle.geo_base.specs.World.{World, site, topic_at}
 use Rattle.world_laws.proofs.Added.{appended, appended_both, appended_take, came_other, sound_data}
 use Rattle.world_laws.proofs.Answering.{is_request}
-use Rattle.world_laws.proofs.Effects.{Each, each_both, each_take}
-use Rattle.world_laws.proofs.EventWalk.{of_pair, of_target}
+use Rattle.world_laws.proofs.Effects.{Each, each_both, each_map, each_take}
+use Rattle.world_laws.proofs.EventWalk.{of_target}
 use Rattle.world_laws.proofs.NoSelf.{NoSelf}
 use Rattle.world_laws.proofs.Prefixes.{is_of}
-use Rattle.world_laws.proofs.Shapes.{Answered, Fated, Hears, IsResponse, Offers, Reads, ReadsNext, Seeks, Served, Shape, Snaps, Taken, Updates}
+use Rattle.world_laws.proofs.Shapes.{Answered, Fated, Hears, IsResponse, IsSnapshot, Offers, Reads, ReadsNext, Seeks, Served, Shape, Snaps, Taken, Updates}
 use Rattle.world_laws.proofs.Walk.{on_if}
 
 -- THE BUILDER
@@ -61,20 +61,39 @@ pub done_builder : (per : ℕ) (b : Broker) (p : Plan) → (done per b p).builde
 done_builder per b p =
     all_changed_builder (all_written per b p.writes) p.changes ∙ ap (λ (o : Option Builder). builder_then o p.changes) (all_written_builder per b p.writes)
 
+-- what comes into a cache is a snapshot that stands here
+pub record IsCached (h : Site) (b : Broker) (c : CachedSnapshot) : Type 0 where
+  pub sub : Subscription
+  pub place : ℕ
+  pub local : ℕ
+  pub entry : Entry
+  pub stands : slice_get b.entries place ≡ Some entry
+  pub is : IsSnapshot h b sub entry local c
+
+abbrev pub CacheChange : Site → Broker → Change → Type 0
+CacheChange h b (change.Cache n c) = IsCached h b c
+CacheChange h b c = Unit {0}
+
 -- a change that leaves the builder
-abbrev pub QuietChange : Change → Type 0
-QuietChange (change.Building u) = ⊥
-QuietChange change.Forget = ⊥
-QuietChange c = Unit {0}
+abbrev pub QuietChange : Site → Broker → Change → Type 0
+QuietChange h b (change.Building u) = ⊥
+QuietChange h b change.Forget = ⊥
+QuietChange h b c = CacheChange h b c
 
-quiet_one : (o : Option Builder) (c : Change) → QuietChange c → builder_changed o c ≡ o
-quiet_one o (change.Building u) h = absurd h
-quiet_one o change.Forget h = absurd h
-quiet_one o c h = refl
+quiet_one : (h : Site) (b : Broker) (o : Option Builder) (c : Change) → QuietChange h b c → builder_changed o c ≡ o
+quiet_one h b o (change.Building u) q = absurd q
+quiet_one h b o change.Forget q = absurd q
+quiet_one h b o c q = refl
 
-pub quiet_builder : (o : Option Builder) (cs : List Change) → Each QuietChange cs → builder_then o cs ≡ o
-quiet_builder o [] h = refl
-quiet_builder o (c ∷ cs) h = ap (λ (p : Option Builder). builder_then p cs) (quiet_one o c h.0) ∙ quiet_builder o cs h.1
+pub quiet_builder : (h : Site) (b : Broker) (o : Option Builder) (cs : List Change) → Each (QuietChange h b) cs → builder_then o cs ≡ o
+quiet_builder h b o [] q = refl
+quiet_builder h b o (c ∷ cs) q = ap (λ (p : Option Builder). builder_then p cs) (quiet_one h b o c q.0) ∙ quiet_builder h b o cs q.1
+
+quiet_cache : (h : Site) (b : Broker) (c : Change) → QuietChange h b c → CacheChange h b c
+quiet_cache h b (change.Building u) q = absurd q
+quiet_cache h b change.Forget q = absurd q
+quiet_cache h b (change.Cache n c) q = q
+quiet_cache h b c q = tt
 
 -- OWN REQUESTS
 
@@ -91,8 +110,8 @@ Silent own ws = Each (SilentWrite own) ws
 
 -- what an event does
 pub data Building (h : Site) (b : Broker) : Plan → Type 0 where
-  Leaves : (p : Plan) → Silent h.own p.writes → Each QuietChange p.changes → Building h b p
-  Ends : (p : Plan) → Silent h.own p.writes → builder_then b.builder p.changes ≡ None → Building h b p
+  Leaves : (p : Plan) → Silent h.own p.writes → Each (QuietChange h b) p.changes → Building h b p
+  Ends : (p : Plan) → Silent h.own p.writes → builder_then b.builder p.changes ≡ None → Each (CacheChange h b) p.changes → Building h b p
   Begins : b.builder ≡ None → Building h b (asks h b (snapshot_id (cluster_name h h.own) (next_position h.per_ledger b.ledgers)))
   Counts : (y i : ℕ) (e : Entry) (id : List ℕ) (answer : ClusterPosition) (u u' : Builder) → ReadsNext h b y i e → IsResponse h b y e id answer u
       → Hears b y i id answer u progress.Kept u' → Building h b (handled y i [] (change.Building (Some u') ∷ []))
@@ -138,37 +157,37 @@ served_building h b c p q (Served.Unsubscribes s id request v at is by last) = B
 served_building h b c p q (Served.ClosesConsumer s id request v at is by) = Building.Leaves q tt (tt, tt)
 
 -- what came from another cluster
-record Quiet (own : ℕ) (p : Plan) : Type 0 where
-  writes : Silent own p.writes
-  changes : Each QuietChange p.changes
+record Quiet (h : Site) (b : Broker) (p : Plan) : Type 0 where
+  writes : Silent h.own p.writes
+  changes : Each (QuietChange h b) p.changes
 
-taken_quiet : (h : Site) (b : Broker) (x : ℕ) (p : Packet) (q : Plan) → (x ≡ h.own → ⊥) → Taken h b x p q → Quiet h.own q
-taken_quiet h b x p q other (Taken.Stores id seq source e is at may new) =
+taken_quiet : (h : Site) (b c : Broker) (x : ℕ) (p : Packet) (q : Plan) → (x ≡ h.own → ⊥) → Taken h c x p q → Quiet h b q
+taken_quiet h b c x p q other (Taken.Stores id seq source e is at may new) =
     record { writes = (other_silent (is_request e.content) (x == h.own) (differ x h.own other), tt); changes = tt }
-taken_quiet h b x p q other (Taken.Unreadable is) = record { writes = tt; changes = (tt, tt) }
-taken_quiet h b x p q other (Taken.Opens topic id request name is opening) = record { writes = tt; changes = (tt, tt) }
-taken_quiet h b x p q other (Taken.Discards not shut) = record { writes = tt; changes = tt }
-taken_quiet h b x p q other (Taken.Refuses not at may) = record { writes = tt; changes = (tt, tt) }
-taken_quiet h b x p q other (Taken.Repeats id seq source e is at may old) = record { writes = tt; changes = tt }
+taken_quiet h b c x p q other (Taken.Unreadable is) = record { writes = tt; changes = (tt, tt) }
+taken_quiet h b c x p q other (Taken.Opens topic id request name is opening) = record { writes = tt; changes = (tt, tt) }
+taken_quiet h b c x p q other (Taken.Discards not shut) = record { writes = tt; changes = tt }
+taken_quiet h b c x p q other (Taken.Refuses not at may) = record { writes = tt; changes = (tt, tt) }
+taken_quiet h b c x p q other (Taken.Repeats id seq source e is at may old) = record { writes = tt; changes = tt }
 
-answered_quiet : (b : Broker) (own y : ℕ) (p : Packet) (q : Plan) → Answered b y p q → Quiet own q
-answered_quiet b own y p q (Answered.Stale other) = record { writes = tt; changes = tt }
-answered_quiet b own y p q (Answered.Other at other) = record { writes = tt; changes = tt }
-answered_quiet b own y p q (Answered.Opened request name at is state) = record { writes = tt; changes = (tt, tt) }
-answered_quiet b own y p q (Answered.OpenBefore request name at is state) = record { writes = tt; changes = tt }
-answered_quiet b own y p q (Answered.ClosedBefore request name at is state) = record { writes = tt; changes = tt }
-answered_quiet b own y p q (Answered.Received id n i position at is pending) = record { writes = (tt, tt); changes = (tt, tt) }
-answered_quiet b own y p q (Answered.ReceivedBefore id n position at is pending) = record { writes = tt; changes = tt }
+answered_quiet : (h : Site) (b c : Broker) (y : ℕ) (p : Packet) (q : Plan) → Answered c y p q → Quiet h b q
+answered_quiet h b c y p q (Answered.Stale other) = record { writes = tt; changes = tt }
+answered_quiet h b c y p q (Answered.Other at other) = record { writes = tt; changes = tt }
+answered_quiet h b c y p q (Answered.Opened request name at is state) = record { writes = tt; changes = (tt, tt) }
+answered_quiet h b c y p q (Answered.OpenBefore request name at is state) = record { writes = tt; changes = tt }
+answered_quiet h b c y p q (Answered.ClosedBefore request name at is state) = record { writes = tt; changes = tt }
+answered_quiet h b c y p q (Answered.Received id n i position at is pending) = record { writes = (tt, tt); changes = (tt, tt) }
+answered_quiet h b c y p q (Answered.ReceivedBefore id n position at is pending) = record { writes = tt; changes = tt }
 
-fated_quiet : (per own : ℕ) (b : Broker) (Acts : Broker → Plan → Type 0) (lost q : Plan) → ((c : Broker) (r : Plan) → Acts c r → Quiet own r) → Quiet own lost
-    → Fated per b Acts lost q → Quiet own q
-fated_quiet per own b Acts lost q acts none (Fated.Once r t) = acts b r t
-fated_quiet per own b Acts lost q acts none Fated.Lost = none
-fated_quiet per own b Acts lost q acts none (Fated.Twice r r' t t') =
-    let k = acts b r t in let k' = acts _ r' t' in
-    record { writes = each_both (SilentWrite own) r.writes r'.writes k.writes k'.writes; changes = each_both QuietChange r.changes r'.changes k.changes k'.changes }
+fated_quiet : (per : ℕ) (h : Site) (b c : Broker) (Acts : Broker → Plan → Type 0) (lost q : Plan) → ((d : Broker) (r : Plan) → Acts d r → Quiet h b r) → Quiet h b lost
+    → Fated per c Acts lost q → Quiet h b q
+fated_quiet per h b c Acts lost q acts none (Fated.Once r t) = acts c r t
+fated_quiet per h b c Acts lost q acts none Fated.Lost = none
+fated_quiet per h b c Acts lost q acts none (Fated.Twice r r' t t') =
+    let k = acts c r t in let k' = acts _ r' t' in
+    record { writes = each_both (SilentWrite h.own) r.writes r'.writes k.writes k'.writes; changes = each_both (QuietChange h b) r.changes r'.changes k.changes k'.changes }
 
-leaves : (h : Site) (b : Broker) (q : Plan) → Quiet h.own q → Building h b q
+leaves : (h : Site) (b : Broker) (q : Plan) → Quiet h b q → Building h b q
 leaves h b q k = Building.Leaves q k.writes k.changes
 
 reads_building : (h : Site) (b : Broker) (y : ℕ) (q : Plan) → Reads h b y q → Building h b q
@@ -178,7 +197,7 @@ reads_building h b y q (Reads.Skips i e next other) = Building.Leaves q (tt, tt)
 reads_building h b y q (Reads.Responds i e id source next of is) = Building.Leaves q (refl, (tt, tt)) (tt, tt)
 reads_building h b y q (Reads.Counts i e id answer u u' next is heard) = Building.Counts y i e id answer u u' next is heard
 reads_building h b y q (Reads.AsksAgain i e id answer u u' next is heard) = Building.AsksAgain y i e id answer u u' next is heard
-reads_building h b y q (Reads.Completes i e id answer u u' next is heard) = Building.Ends q (refl, (tt, tt)) refl
+reads_building h b y q (Reads.Completes i e id answer u u' next is heard) = Building.Ends q (refl, (tt, tt)) refl (tt, (tt, tt))
 reads_building h b y q (Reads.CreatesAt i j e n remote next is named) = Building.Leaves q (tt, (tt, (tt, tt))) (tt, (tt, tt))
 reads_building h b y q (Reads.PassesOver i j e n remote v ws next is named after) =
     Building.Leaves q (tt, each_both (SilentWrite h.own) ws (write.SenderAck y i ∷ []) (updates_silent h b _ ws after) (tt, tt)) (tt, (tt, tt))
@@ -191,7 +210,8 @@ offers_building : (h : Site) (b : Broker) (n : List ℕ) (q : Plan) → Offers h
 offers_building h b n q Offers.NothingToOffer = Building.Leaves q tt tt
 offers_building h b n q (Offers.Gives v i at e due is picked) = Building.Leaves q tt (tt, tt)
 offers_building h b n q (Offers.PassesBy v i e ws due is after) = Building.Leaves q (tt, updates_silent h b _ ws after) (tt, (tt, tt))
-offers_building h b n q (Offers.Caches v i j e c ws due is after) = Building.Leaves q (tt, updates_silent h b _ ws after) (tt, (tt, (tt, tt)))
+offers_building h b n q (Offers.Caches v i j e c ws due is after) =
+    Building.Leaves q (tt, updates_silent h b _ ws after) (record { sub = v; place = i; local = j; entry = e; stands = due.2; is = is }, (tt, (tt, tt)))
 
 seeks_building : (h : Site) (b : Broker) (n : List ℕ) (to : Option Position) (q : Plan) → Seeks h b n to q → Building h b q
 seeks_building h b n to q Seeks.NothingToSeek = Building.Leaves q tt tt
@@ -209,14 +229,22 @@ shape_building s w p (Shape.Take t x y q plan within next taken) none =
     let small = ltb-true _ _ (of_target s t x y within) in
     let other = came_other s w t x y q none small next in
     leaves (site s t y) (topic_at s w t y) plan
-    (fated_quiet s.per_ledger y _ _ (closes x) plan (λ c r k. taken_quiet (site s t y) c x q r other k) (record { writes = tt; changes = (tt, tt) }) taken)
+    (fated_quiet s.per_ledger (site s t y) (topic_at s w t y) _ _ (closes x) plan (λ c r k. taken_quiet (site s t y) (topic_at s w t y) c x q r other k) (record { writes = tt; changes = (tt, tt) }) taken)
 shape_building s w p (Shape.Receipt t x y q plan within next answered) none =
     leaves (site s t x) (topic_at s w t x) plan
-    (fated_quiet s.per_ledger x _ _ (quiet_plan []) plan (λ c r k. answered_quiet c x y q r k) (record { writes = tt; changes = tt }) answered)
+    (fated_quiet s.per_ledger (site s t x) (topic_at s w t x) _ _ (quiet_plan []) plan (λ c r k. answered_quiet (site s t x) (topic_at s w t x) c y q r k) (record { writes = tt; changes = tt }) answered)
 shape_building s w p (Shape.Snap t x plan within snaps) none = snaps_building _ _ plan snaps
 shape_building s w p (Shape.Offer t x n plan within offers) none = offers_building _ _ _ plan offers
 shape_building s w p (Shape.Seek t x n to plan within seeks) none = seeks_building _ _ _ to plan seeks
-shape_building s w p (Shape.Restart t x within) none = Building.Ends _ (tt, tt) refl
+shape_building s w p (Shape.Restart t x within) none = Building.Ends _ (tt, tt) refl (tt, tt)
+
+-- what comes into caches
+pub building_caches : (h : Site) (b : Broker) (p : Plan) → Building h b p → Each (CacheChange h b) p.changes
+building_caches h b p (Building.Leaves q silent quiet) = each_map (QuietChange h b) (CacheChange h b) (quiet_cache h b) p.changes quiet
+building_caches h b p (Building.Ends q silent ends caches) = caches
+building_caches h b p (Building.Begins none) = (tt, tt)
+building_caches h b p (Building.Counts y i e id answer u u' next is heard) = (tt, (tt, tt))
+building_caches h b p (Building.AsksAgain y i e id answer u u' next is heard) = (tt, (tt, tt))
 
 -- BEGINNINGS OF WRITES
 
@@ -230,7 +258,7 @@ pub data Requests (h : Site) (b : Broker) : List Write → Type 0 where
 
 pub building_requests : (h : Site) (b : Broker) (p : Plan) → Building h b p → Requests h b p.writes
 building_requests h b p (Building.Leaves q silent quiet) = Requests.NoRequest _ silent
-building_requests h b p (Building.Ends q silent ends) = Requests.NoRequest _ silent
+building_requests h b p (Building.Ends q silent ends caches) = Requests.NoRequest _ silent
 building_requests h b p (Building.Begins none) = Requests.First [] refl
 building_requests h b p (Building.Counts y i e id answer u u' next is heard) = Requests.NoRequest _ (tt, tt)
 building_requests h b p (Building.AsksAgain y i e id answer u u' next is heard) = Requests.Second y i id answer u u' is.2 heard (write.SenderAck y i ∷ []) refl

@@ -1,7 +1,7 @@
 -- How many entries and ledgers a topic can have: four more of each for every event. So in short runs the numbers of a position
 -- are below 2^64.
 use Rattle.std.proofs.Common.{◌≡◌, ℕ, zero, suc, ◌+◌, ◌-◌, ◌*◌, ◌^◌, ◌<◌, ◌≤◌, List, [], ◌∷◌, ◌++◌, length, refl, sym, ap, subst, ◌∙◌, arith}
-use Rattle.std.specs.Prelude.{Option, Some, None, is_some, nat_lt, slice_set, take}
+use Rattle.std.specs.Prelude.{Option, Some, None, is_some, nat_lt, take}
 use Rattle.std.proofs.lemmas.List.{get_or-replicate, length-set}
 use Rattle.world_laws.proofs.Types.{Change, Entry, Packet, Position, Write}
 use Rattle.world_laws.proofs.Types.change

@@ -275,10 +275,10 @@ pub record Stays (es es' : List Entry) (ls ls' : List ℕ) : Type 0 where
   pub position : (k : ℕ) → k < length es → position_at ls' k ≡ position_at ls k
   pub index : (p : Position) (i : ℕ) → index_of ls p ≡ Some i → index_of ls' p ≡ Some i
 
-grown_get : (es es' : List Entry) (ls ls' : List ℕ) (g : Stays es es' ls ls') (k : ℕ) (e : Entry) → slice_get es k ≡ Some e → slice_get es' k ≡ Some e
+pub grown_get : (es es' : List Entry) (ls ls' : List ℕ) (g : Stays es es' ls ls') (k : ℕ) (e : Entry) → slice_get es k ≡ Some e → slice_get es' k ≡ Some e
 grown_get es es' ls ls' g k e at = let P : List Entry → Type 0 = λ l. slice_get l k ≡ Some e in subst P (sym g.is) (get_left es g.more k e at)
 
-grown_old : (es es' : List Entry) (ls ls' : List ℕ) (g : Stays es es' ls ls') (k : ℕ) (e : Entry) → k < length es → slice_get es' k ≡ Some e → slice_get es k ≡ Some e
+pub grown_old : (es es' : List Entry) (ls ls' : List ℕ) (g : Stays es es' ls ls') (k : ℕ) (e : Entry) → k < length es → slice_get es' k ≡ Some e → slice_get es k ≡ Some e
 grown_old es es' ls ls' g k e lt at = let P : List Entry → Type 0 = λ l. slice_get l k ≡ Some e in sym (get_within es g.more k lt) ∙ subst P g.is at
 
 pub request_stays : (x k : ℕ) (es es' : List Entry) (ls ls' : List ℕ) (id : List ℕ) → Stays es es' ls ls' → RequestAt x es k id → RequestAt x es' k id

@@ -101,14 +101,20 @@ all_kept s P d x b [] h = h
 all_kept s P d x b (c ∷ cs) h = all_kept s P d x (changed b c) cs (d.changes x b c h)
 
 -- one node has a new broker; where its topic is not there nothing changes
-pub one_node : (s : Setup) (P : ℕ → Broker → Type 0) (w : World) (t x : ℕ) (b : Broker) → x < length s.clusters → (IsThere s t x → P x b) → Everywhere s P w
-    → (u v : ℕ) → IsThere s u v → P v (slice_index_or (slice_set w.brokers (node s t x) b) (node s u v) no_broker)
-one_node s P w t x b lt new all u v there =
-    at_set (P v) w.brokers (node s t x) (node s u v) b no_broker
+pub one_topic : (s : Setup) (P : ℕ → ℕ → Broker → Type 0) (w : World) (t x : ℕ) (b : Broker) → x < length s.clusters → (IsThere s t x → P t x b)
+    → ((u v : ℕ) → IsThere s u v → P u v (topic_at s w u v))
+    → (u v : ℕ) → IsThere s u v → P u v (slice_index_or (slice_set w.brokers (node s t x) b) (node s u v) no_broker)
+one_topic s P w t x b lt new all u v there =
+    at_set (P u v) w.brokers (node s t x) (node s u v) b no_broker
     (λ is.
     let same = same_node s t u x v lt there.1 is in
-    subst (λ (z : ℕ). P z b) same.1 (new (subst (λ (k : ℕ). k < length s.topics) (sym same.0) there.0, lt)))
+    subst (λ (z : ℕ). P u z b) same.1
+    (subst (λ (z : ℕ). P z x b) same.0 (new (subst (λ (k : ℕ). k < length s.topics) (sym same.0) there.0, lt))))
     (all u v there)
+
+pub one_node : (s : Setup) (P : ℕ → Broker → Type 0) (w : World) (t x : ℕ) (b : Broker) → x < length s.clusters → (IsThere s t x → P x b) → Everywhere s P w
+    → (u v : ℕ) → IsThere s u v → P v (slice_index_or (slice_set w.brokers (node s t x) b) (node s u v) no_broker)
+one_node s P w t x b lt new all u v there = one_topic s (λ t x b. P x b) w t x b lt new all u v there
 
 -- the facts after the writes of a plan, or after some of them
 after_writing : (s : Setup) (P : ℕ → Broker → Type 0) → IsDurable s P → (w : World) (p : Planned) (ws : List Write) → Shape s w p

@@ -74,3 +74,8 @@ pub mod Making
 pub mod MakingEvents
 pub mod Asked
 pub mod SecondRound
+pub mod Completing
+pub mod WrittenCuts
+pub mod Grows
+pub mod Caches
+pub mod Cuts

@@ -1,35 +1,31 @@
 -- What a topic knows of its own requests and of the snapshot that it makes, and that every event keeps it. All over values: the
 -- entries and ledgers of one topic, and its builder.
-use Rattle.std.proofs.Common.{◌≡◌, ℕ, zero, suc, ◌+◌, ◌-◌, ◌<◌, ◌≤◌, Bool, true, false, List, [], ◌∷◌, ◌++◌, length, refl, sym, ap, subst, ◌∙◌, arith, inl, inr, ◌⊎◌}
-use Rattle.std.specs.Prelude.{Option, Some, None, ◌&&◌, if◌then◌else◌, replicate, slice_get, slice_index_or}
+use Rattle.std.proofs.Common.{◌≡◌, ℕ, zero, suc, ◌-◌, ◌<◌, ◌≤◌, Bool, true, false, List, [], ◌∷◌, ◌++◌, length, refl, sym, ap, subst, ◌∙◌, arith, inl, inr}
+use Rattle.std.specs.Prelude.{Option, Some, None, ◌&&◌, if◌then◌else◌, slice_get, slice_index_or}
 use Rattle.std.proofs.lemmas.Bool.{false≢true}
 use Rattle.std.proofs.lemmas.List.{length-replicate}
 use Rattle.std.proofs.lemmas.Option.{none-some, same_Some, slice_get_within}
-use Rattle.world_laws.proofs.Types.{Builder, ClusterPosition, Content, Entry, Place, Position, Write}
+use Rattle.world_laws.proofs.Types.{Builder, Content, Entry, Position, Write}
 use Rattle.world_laws.proofs.Types.content
 use Rattle.world_laws.proofs.Types.marker
-use Rattle.world_laws.proofs.Types.place
 use Rattle.world_laws.proofs.Types.progress
 use Rattle.world_laws.proofs.Types.write
 use Rattle.geo_base.specs.Broker.{Broker, Site, cluster_name, written}
 use Rattle.geo_base.specs.Builder.{current_id, second_id, snapshot_id, started}
 use Rattle.geo_base.specs.Cursor.{has}
 use Rattle.geo_base.specs.Markers.{request_marker}
-use Rattle.geo_base.specs.Plan.{Plan, all_written, done}
-use Rattle.geo_base.specs.Topic.{grown, index_of, next_position, position_at}
+use Rattle.geo_base.specs.Plan.{all_written}
+use Rattle.geo_base.specs.Topic.{index_of, next_position, position_at}
 use Rattle.world_laws.proofs.Added.{after_is, appended}
-use Rattle.world_laws.proofs.Answering.{Asks, Numbered, RequestAt, Steady, is_request, old_or_new, writes_steady}
-use Rattle.world_laws.proofs.Appends.{all_changed_entries, written_entries}
-use Rattle.world_laws.proofs.Building.{Building, Requests, Silent, SilentWrite, all_written_builder, building_requests, done_builder, heard_later, quiet_builder, requests}
-use Rattle.world_laws.proofs.Counts.{all_changed_ledgers}
-use Rattle.world_laws.proofs.Effects.{Each}
+use Rattle.world_laws.proofs.Answering.{Asks, Numbered, RequestAt, is_request, old_or_new, writes_steady}
+use Rattle.world_laws.proofs.Appends.{written_entries}
+use Rattle.world_laws.proofs.Building.{Requests, Silent, heard_later, requests}
 use Rattle.world_laws.proofs.Frames.{at_copies}
-use Rattle.world_laws.proofs.Hearing.{Stays, heard_more, made_grows, request_stays}
-use Rattle.world_laws.proofs.Ids.{IsSmall, id_same, not_second, second_same}
-use Rattle.world_laws.proofs.Ledgers.{at_index, position_is, total}
-use Rattle.world_laws.proofs.NextPosition.{next_stands, next_unused}
+use Rattle.world_laws.proofs.Hearing.{Stays, request_stays}
+use Rattle.world_laws.proofs.Ids.{IsSmall}
+use Rattle.world_laws.proofs.Ledgers.{at_index, position_is}
+use Rattle.world_laws.proofs.NextPosition.{next_stands}
 use Rattle.world_laws.proofs.Prefixes.{is_of}
-use Rattle.world_laws.proofs.Shapes.{Hears, IsResponse, ReadsNext}
 use Rattle.world_laws.proofs.SnapshotFacts.{Form, Made, NotYet}
 
 abbrev pub AllForms : ℕ → List ℕ → List Entry → List ℕ → Type 0
@@ -189,7 +185,7 @@ started_made n x name es ls id k is r = record {
   empty = nothing x;
   others = λ c h. absurd (false≢true h);
   distinct = refl;
-  local = λ some. elim some [ | inl second ↦ absurd (false≢true second) | inr heard ↦ absurd (omega (arith, heard)) ];
+  local = λ some. elim some [ inl second ↦ absurd (false≢true second) | inr heard ↦ absurd (omega (arith, heard)) ];
   zero = λ round none. refl;
   first = λ y p kept. absurd (none-some p (sym (nothing y) ∙ kept));
   one = λ round c h. absurd (false≢true h);

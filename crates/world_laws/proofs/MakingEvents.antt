@@ -1,32 +1,28 @@
 -- Every event keeps what a topic knows of its own requests and of the snapshot that it makes.
-use Rattle.std.proofs.Common.{◌≡◌, ℕ, zero, suc, ◌+◌, ◌-◌, ◌<◌, ◌≤◌, Bool, true, false, List, [], ◌∷◌, ◌++◌, length, refl, sym, ap, subst, ◌∙◌, ◌==◌, arith, inl, inr}
-use Rattle.std.specs.Prelude.{Option, Some, None, ◌&&◌, slice_get, take}
+use Rattle.std.proofs.Common.{◌≡◌, ℕ, ◌-◌, ◌<◌, List, [], ◌∷◌, ◌++◌, length, refl, sym, ap, subst, ◌∙◌, arith, inl, inr}
+use Rattle.std.specs.Prelude.{Option, Some, take}
 use Rattle.std.proofs.lemmas.Bool.{eq-eqb, false≢true}
 use Rattle.std.proofs.lemmas.Option.{none-some, same_Some, slice_get_within}
-use Rattle.world_laws.proofs.Types.{Builder, ClusterPosition, Content, Entry, Position, Progress, Write}
-use Rattle.world_laws.proofs.Types.change
-use Rattle.world_laws.proofs.Types.content
-use Rattle.world_laws.proofs.Types.marker
+use Rattle.world_laws.proofs.Types.{Builder, ClusterPosition, Entry, Progress}
 use Rattle.world_laws.proofs.Types.place
 use Rattle.world_laws.proofs.Types.progress
 use Rattle.world_laws.proofs.Types.write
-use Rattle.geo_base.specs.Broker.{Broker, Site, changed, cluster_name}
-use Rattle.geo_base.specs.Builder.{Heard, current_id, on_response, second_id, snapshot_id, started}
+use Rattle.geo_base.specs.Broker.{Broker, Site, cluster_name}
+use Rattle.geo_base.specs.Builder.{Heard, current_id, second_id, snapshot_id, started}
 use Rattle.geo_base.specs.Markers.{request_marker}
 use Rattle.geo_base.specs.Plan.{Plan, all_written, done, halted}
 use Rattle.geo_base.specs.Topic.{index_of, next_position, position_at}
 use Rattle.world_laws.proofs.Added.{appended}
-use Rattle.world_laws.proofs.Answering.{Asks, Numbered, RequestAt, old_or_new}
+use Rattle.world_laws.proofs.Answering.{Numbered, RequestAt, old_or_new}
 use Rattle.world_laws.proofs.Appends.{all_changed_entries}
-use Rattle.world_laws.proofs.Building.{Building, Requests, Silent, all_written_builder, builder_then, building_requests, done_builder, heard_later, quiet_builder, requests_opened, requests_take}
+use Rattle.world_laws.proofs.Building.{Building, all_written_builder, builder_then, building_requests, done_builder, heard_later, quiet_builder, requests_opened, requests_take}
 use Rattle.world_laws.proofs.Counts.{all_changed_ledgers}
-use Rattle.world_laws.proofs.Hearing.{Stays, heard_more, made_grows}
-use Rattle.world_laws.proofs.Ids.{IsSmall, id_same, not_second, second_same}
+use Rattle.world_laws.proofs.Hearing.{heard_more, made_grows}
+use Rattle.world_laws.proofs.Ids.{id_same, not_second, second_same}
 use Rattle.world_laws.proofs.Ledgers.{at_index}
-use Rattle.world_laws.proofs.Making.{AllForms, MadeAfter, Making, NoneNew, NoneYet, Telling, asked_id, asks_requests, first_new, forms_written, not_yet_grows, only_new, silent_append, started_made, writes_stay}
+use Rattle.world_laws.proofs.Making.{AllForms, MadeAfter, Making, NoneNew, Telling, asked_id, asks_requests, first_new, forms_written, not_yet_grows, only_new, silent_append, started_made, writes_stay}
 use Rattle.world_laws.proofs.Members.{get_last}
 use Rattle.world_laws.proofs.NextPosition.{next_unused}
-use Rattle.world_laws.proofs.Prefixes.{is_of}
 use Rattle.world_laws.proofs.Shapes.{Hears, IsResponse, ReadsNext}
 use Rattle.world_laws.proofs.SnapshotFacts.{Form, Made, NotYet}
 
@@ -51,7 +47,7 @@ fresh_not_yet per x name es ls numbered tells forms k r = go (forms k (second_id
         none-some j (sym (next_unused per ls numbered.some) ∙ ap (index_of ls) there ∙ at)
 
 -- what a response makes of the builder
-heard_made : (h : Site) (b : Broker) (y i : ℕ) (e : Entry) (id : List ℕ) (answer : ClusterPosition) (u u' : Builder) (g : Progress) → h.own < length h.clusters
+pub heard_made : (h : Site) (b : Broker) (y i : ℕ) (e : Entry) (id : List ℕ) (answer : ClusterPosition) (u u' : Builder) (g : Progress) → h.own < length h.clusters
     → Numbered b.entries b.ledgers → ReadsNext h b y i e → IsResponse h b y e id answer u → Hears b y i id answer u g u'
     → MadeAfter (length h.clusters) h.own (cluster_name h h.own) b.entries b.ledgers b.builder
     → Made (length h.clusters) h.own (cluster_name h h.own) b.entries b.ledgers u'
@@ -72,12 +68,13 @@ one_made h b p (Building.Leaves q silent quiet) small numbered tells m u is =
     let n = length h.clusters in let x = h.own in let name = cluster_name h h.own in
     let c = all_written h.per_ledger b p.writes in
     let g = writes_stay h.per_ledger b p.writes numbered in
-    let was : b.builder ≡ Some u = sym (quiet_builder b.builder p.changes quiet) ∙ is in
+    let was : b.builder ≡ Some u = sym (quiet_builder h b b.builder p.changes quiet) ∙ is in
     let none : NoneNew x (appended p.writes) (second_id u.id) =
-    λ j e at of asks. false≢true (sym (silent_append x p.writes silent j e at) ∙ asks_requests x (second_id u.id) e of asks) in
-    (made_grows n x name b.entries c.entries b.ledgers c.ledgers u g (m.making.made u was),
-        not_yet_grows x b.entries c.entries b.ledgers c.ledgers u g none (m.not_yet u was))
-one_made h b p (Building.Ends q silent ends) small numbered tells m u is = absurd (none-some u (sym ends ∙ is))
+    λ j e at of asks. false≢true (sym (silent_append x p.writes silent j e at) ∙ asks_requests x (second_id u.id) e of asks) in (
+      made_grows n x name b.entries c.entries b.ledgers c.ledgers u g (m.making.made u was),
+      not_yet_grows x b.entries c.entries b.ledgers c.ledgers u g none (m.not_yet u was),
+    )
+one_made h b p (Building.Ends q silent ends caches) small numbered tells m u is = absurd (none-some u (sym ends ∙ is))
 one_made h b p (Building.Begins none) small numbered tells m u is =
     let n = length h.clusters in let x = h.own in let name = cluster_name h h.own in
     let id = snapshot_id name (next_position h.per_ledger b.ledgers) in

@@ -1,7 +1,7 @@
 -- Where the next entry goes: a position that nothing stands at yet, and that is its own once it is appended. And positions that
 -- are stored are ordered as their indexes.
-use Rattle.std.proofs.Common.{◌≡◌, ℕ, suc, ◌+◌, ◌-◌, ◌<◌, ◌≤◌, Bool, true, false, List, [], ◌∷◌, length, refl, sym, ap, subst, ◌∙◌, ◌==◌, arith}
-use Rattle.std.specs.Prelude.{Option, Some, None, if◌then◌else◌, nat_lt, slice_index}
+use Rattle.std.proofs.Common.{◌≡◌, ℕ, suc, ◌+◌, ◌-◌, ◌<◌, ◌≤◌, Bool, true, false, List, [], ◌∷◌, length, refl, sym, ap, ◌∙◌, ◌==◌, arith}
+use Rattle.std.specs.Prelude.{Some, None, if◌then◌else◌, nat_lt, slice_index}
 use Rattle.std.proofs.lemmas.Bool.{eq-eqb, eqb-true, false≢true}
 use Rattle.std.proofs.lemmas.Bool.Decides.{nat_tests}
 use Rattle.std.proofs.lemmas.Option.{none-some, same_Some}
@@ -9,7 +9,7 @@ use Rattle.world_laws.proofs.Types.{Position}
 use Rattle.geo_base.specs.Position.{position_le}
 use Rattle.geo_base.specs.Topic.{grown, index_from, index_of, last_length, next_position}
 use Rattle.world_laws.proofs.Ledgers.{found, grown_is, one_more, total}
-use Rattle.world_laws.proofs.Walk.{on_if, on_test}
+use Rattle.world_laws.proofs.Walk.{on_if}
 
 abbrev position : ℕ → ℕ → Position
 position l e = record { ledger = l; entry = e }

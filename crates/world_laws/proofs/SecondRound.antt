@@ -1,6 +1,6 @@
 -- The second round in a world: from what each topic knows, prefix and the order between topics.
-use Rattle.std.proofs.Common.{◌≡◌, ℕ, ◌*◌, ◌<◌, ◌≤◌, Bool, true, false, List, length, refl, sym, ap, subst, ◌∙◌, arith}
-use Rattle.std.specs.Prelude.{Option, Some, None, nat_lt, slice_get, slice_index_or}
+use Rattle.std.proofs.Common.{◌≡◌, ℕ, ◌*◌, ◌<◌, ◌≤◌, Bool, true, false, length, refl, sym, subst, ◌∙◌, arith}
+use Rattle.std.specs.Prelude.{Some, None, nat_lt, slice_index_or}
 use Rattle.std.proofs.lemmas.Bool.{eq-eqb, ltb-true}
 use Rattle.std.proofs.lemmas.Bool.Decides.{nat_tests}
 use Rattle.std.proofs.lemmas.List.{length-set}
@@ -31,7 +31,7 @@ use Rattle.world_laws.proofs.Pairs.{past_node, replicates_laws, written_laws}
 use Rattle.world_laws.proofs.Runs.{always}
 use Rattle.world_laws.proofs.Shapes.{Shape}
 use Rattle.world_laws.proofs.Sizes.{IsThere}
-use Rattle.world_laws.proofs.SnapshotFacts.{Form, Made, comes_after}
+use Rattle.world_laws.proofs.SnapshotFacts.{Form, comes_after}
 
 -- what is known in a world, also in the midst of an event's writes
 pub record Knows (s : Setup) (w : World) : Type 0 where

@@ -64,7 +64,7 @@ abbrev pub NotYet : ℕ → List Entry → Builder → Type 0
 NotYet x es u = u.second ≡ false → (k : ℕ) → RequestAt x es k (second_id u.id) → ⊥
 
 -- what a beginning has of y is for x
-out_there : (x y : ℕ) (near far : List Entry) → Begins y x near far → (k : ℕ) (e : Entry) → slice_get far k ≡ Some e → is_of y e ≡ true → is_outbound y x e ≡ true
+pub out_there : (x y : ℕ) (near far : List Entry) → Begins y x near far → (k : ℕ) (e : Entry) → slice_get far k ≡ Some e → is_of y e ≡ true → is_outbound y x e ≡ true
 out_there x y near far begins k e at of =
     let P : List Entry → Type 0 = λ l. Stands l e in
     (from_filter (is_outbound y x) near e (subst P (sym begins.1) (stands_left _ begins.0 e (to_filter (is_of y) far e k at of)))).passes

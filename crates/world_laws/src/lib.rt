@@ -11,5 +11,5 @@ pub mod topics;
 
 pub use histories::{law_alike, law_merge};
 pub use replication::{law_prefix, law_receipt};
-pub use snapshots::{law_position, law_second_round};
+pub use snapshots::{law_cut, law_position, law_second_round};
 pub use topics::law_once;
