@@ -67,3 +67,14 @@ pub mod SnapshotFacts
 pub mod Hearing
 pub mod Everyone
 pub mod Ids
+pub mod Rounds
+pub mod Tails
+pub mod Weights
+pub mod Counting
+pub mod CacheSums
+pub mod ReadWeights
+pub mod TakeWeights
+pub mod LinkWeights
+pub mod Lowering
+pub mod WeightBounds
+pub mod InTime
