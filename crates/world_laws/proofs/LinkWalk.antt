@@ -42,7 +42,7 @@ in_taken : (h : Site) (b : Broker) (x : ℕ) (p : Packet) → is_opening h p p.f
 in_taken h b x p other =
     on_test (Taken h b x p) (is_open (receiver_at b x) p.session) _ _ (λ at. command_taken h b x p p.frame refl other at) (λ shut. Taken.Discards other shut)
 
-frame_taken : (h : Site) (b : Broker) (x : ℕ) (p : Packet) (f : Frame) → p.frame ≡ f → Taken h b x p (take_frame h b x p f)
+pub frame_taken : (h : Site) (b : Broker) (x : ℕ) (p : Packet) (f : Frame) → p.frame ≡ f → Taken h b x p (take_frame h b x p f)
 frame_taken h b x p frame.Unreadable is = Taken.Unreadable is
 frame_taken h b x p (frame.Producer topic id request name) is =
     on_test (Taken h b x p) (bytes_eq topic h.topic && (id == p.session)) _ _ (λ opening. Taken.Opens topic id request name is opening)
@@ -50,7 +50,7 @@ frame_taken h b x p (frame.Producer topic id request name) is =
 frame_taken h b x p f is = in_taken h b x p (ap (is_opening h p) is)
 
 -- no plan of an action on a packet is idle
-taken_acts : (h : Site) (b : Broker) (x : ℕ) (p : Packet) (q : Plan) → Taken h b x p q → q.idle ≡ false
+pub taken_acts : (h : Site) (b : Broker) (x : ℕ) (p : Packet) (q : Plan) → Taken h b x p q → q.idle ≡ false
 taken_acts h b x p q (Taken.Unreadable is) = refl
 taken_acts h b x p q (Taken.Opens topic id request name is opening) = refl
 taken_acts h b x p q (Taken.Discards other shut) = refl
@@ -89,11 +89,11 @@ command_answered b y p (frame.ProducerSuccess request name) at is = opened_answe
 command_answered b y p (frame.SendReceipt id n position) at is = received_answered b y p id n position (pending_index (sender_at b y).pending n) at is refl
 command_answered b y p f at is = Answered.Other at (ap is_answer is)
 
-packet_answered : (b : Broker) (y : ℕ) (p : Packet) → Answered b y p (receipt_packet b y p)
+pub packet_answered : (b : Broker) (y : ℕ) (p : Packet) → Answered b y p (receipt_packet b y p)
 packet_answered b y p =
     on_test (Answered b y p) (p.session == (sender_at b y).session) _ _ (λ at. command_answered b y p p.frame at refl) (λ other. Answered.Stale other)
 
-answered_acts : (b : Broker) (y : ℕ) (p : Packet) (q : Plan) → Answered b y p q → q.idle ≡ false
+pub answered_acts : (b : Broker) (y : ℕ) (p : Packet) (q : Plan) → Answered b y p q → q.idle ≡ false
 answered_acts b y p q (Answered.Stale other) = refl
 answered_acts b y p q (Answered.Other at other) = refl
 answered_acts b y p q (Answered.Opened request name at is state) = refl
