@@ -67,3 +67,4 @@ pub mod SnapshotFacts
 pub mod Hearing
 pub mod Everyone
 pub mod Ids
+pub mod SubFrames
