@@ -90,3 +90,4 @@ pub mod LinkWeights
 pub mod Lowering
 pub mod WeightBounds
 pub mod InTime
+pub mod SubFrames
