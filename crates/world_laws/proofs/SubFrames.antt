@@ -297,6 +297,7 @@ only_named (a ∷ vs) n v apart named = by (bytes_eq a.name n) named (λ e. only
     by true e ih =
         subst (λ (x : Subscription). Each (Only x) (a ∷ vs)) (same_Some a v e)
         ((λ same. refl), each_map (λ (u : Subscription). bytes_eq a.name u.name ≡ false) (Only a) (other a) vs apart.0)
-    by false e ih =
-        ((λ same. absurd (false≢true (sym (found_is (λ (u : Subscription). bytes_eq a.name u.name ≡ false) (λ (u : Subscription). bytes_eq u.name n) vs v e apart.0).0 ∙ same))),
-        ih e)
+    by false e ih = (
+      (λ same. absurd (false≢true (sym (found_is (λ (u : Subscription). bytes_eq a.name u.name ≡ false) (λ (u : Subscription). bytes_eq u.name n) vs v e apart.0).0 ∙ same))),
+      ih e,
+    )
