@@ -68,3 +68,7 @@ pub mod Hearing
 pub mod Everyone
 pub mod Ids
 pub mod SubFrames
+pub mod Remembers
+pub mod Dispatched
+pub mod Recalled
+pub mod Keeping

@@ -7,9 +7,11 @@
 pub mod histories;
 pub mod replication;
 pub mod snapshots;
+pub mod subscriptions;
 pub mod topics;
 
 pub use histories::{law_alike, law_merge};
 pub use replication::{law_prefix, law_receipt};
 pub use snapshots::law_position;
+pub use subscriptions::law_kept;
 pub use topics::law_once;
