@@ -151,7 +151,7 @@ served_stay sub_kind.Failover c at ks h = set_stay c at ks h
 served_stay sub_kind.KeyShared c at ks h = set_stay c at ks h
 
 -- one with a permit is there
-permitted_there : (at : ℕ) (ks : List Consumer) → 0 < (consumer_at ks at).permits → list_any (is_of (consumer_at ks at).client) ks ≡ true
+pub permitted_there : (at : ℕ) (ks : List Consumer) → 0 < (consumer_at ks at).permits → list_any (is_of (consumer_at ks at).client) ks ≡ true
 permitted_there at [] lt = absurd (omega (arith, lt))
 permitted_there zero (k ∷ ks) lt = or_left (is_of k.client k) _ (eq-eqb k.client k.client refl)
 permitted_there (suc at) (k ∷ ks) lt = or_right (is_of (consumer_at ks at).client k) _ (permitted_there at ks lt)

@@ -72,3 +72,6 @@ pub mod Remembers
 pub mod Dispatched
 pub mod Recalled
 pub mod Keeping
+pub mod DueCounts
+pub mod Serving
+pub mod Offered

@@ -13,5 +13,5 @@ pub mod topics;
 pub use histories::{law_alike, law_merge};
 pub use replication::{law_prefix, law_receipt};
 pub use snapshots::law_position;
-pub use subscriptions::law_kept;
+pub use subscriptions::{law_kept, law_offers};
 pub use topics::law_once;
