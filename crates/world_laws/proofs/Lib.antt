@@ -91,3 +91,10 @@ pub mod Lowering
 pub mod WeightBounds
 pub mod InTime
 pub mod SubFrames
+pub mod Remembers
+pub mod Dispatched
+pub mod Recalled
+pub mod Keeping
+pub mod DueCounts
+pub mod Serving
+pub mod Offered

@@ -35,11 +35,11 @@ plan_done : (s : Setup) (P : World → Type 0) (k : IsKept s P) (w : World) (o :
 plan_done s P k w None shape p = k.idle w (w.idle + 1) p
 plan_done s P k w (Some q) shape p = k.does w q shape p
 
-plan_halted : (s : Setup) (P : World → Type 0) (k : IsKept s P) (w : World) (n : ℕ) (o : Option Planned) → HasShape s w o → P w → P (halts_planned s w n o)
+pub plan_halted : (s : Setup) (P : World → Type 0) (k : IsKept s P) (w : World) (n : ℕ) (o : Option Planned) → HasShape s w o → P w → P (halts_planned s w n o)
 plan_halted s P k w n None shape p = k.idle w (w.idle + 1) p
 plan_halted s P k w n (Some q) shape p = k.halts w n q shape p
 
-event_done : (s : Setup) (P : World → Type 0) (k : IsKept s P) (w : World) (e : Event) → P w → P (happens s w e)
+pub event_done : (s : Setup) (P : World → Type 0) (k : IsKept s P) (w : World) (e : Event) → P w → P (happens s w e)
 unfolding happens
 event_done s P k w (event.Go c) p = on_if P (has_client s c) _ _ (k.goes w c _ p) (k.idle w (w.idle + 1) p)
 event_done s P k w (event.Reconnect c) p = on_if P (has_client s c) _ _ (k.goes w c _ p) (k.idle w (w.idle + 1) p)

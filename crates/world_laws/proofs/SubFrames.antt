@@ -6,7 +6,7 @@ use Rattle.std.specs.Str.{bytes_eq}
 use Rattle.std.proofs.lemmas.Bool.{false≢true}
 use Rattle.std.proofs.lemmas.Option.{none-some, same_Some}
 use Rattle.std.proofs.lemmas.Slice.Eq.{bytes_eq-Decides}
-use Rattle.world_laws.proofs.Types.{CachedSnapshot, Change, SubKind, Write}
+use Rattle.world_laws.proofs.Types.{Change, SubKind, Write}
 use Rattle.world_laws.proofs.Types.change
 use Rattle.world_laws.proofs.Types.write
 use Rattle.geo_base.specs.Broker.{Broker, changed, sub_named, written}
@@ -17,7 +17,7 @@ use Rattle.geo_base.specs.Plan.{Plan, all_changed, all_written, done}
 use Rattle.geo_base.specs.Subscription.{Subscription, after_acks, attached, cleared, detached, new_subscription, permitted, sought, with_acks}
 use Rattle.world_laws.proofs.Effects.{Each, each_both, each_map}
 use Rattle.world_laws.proofs.PeerWalk.{each_filter}
-use Rattle.world_laws.proofs.Walk.{on_if, on_test}
+use Rattle.world_laws.proofs.Walk.{on_if}
 
 -- a fact of all subscriptions of a topic
 abbrev pub AllSubs : (Subscription → Type 0) → Broker → Type 0
@@ -225,7 +225,7 @@ apart_push (v ∷ vs) u none h = by (bytes_eq v.name u.name) refl none (λ e. ap
     by true is e ih = absurd (none-some v (sym e))
     by false is e ih = (each_both (λ (x : Subscription). bytes_eq v.name x.name ≡ false) vs (u ∷ []) h.0 (is, tt), ih e)
 
-named_same : (n : List ℕ) (f : Subscription → Subscription) → ((v : Subscription) → (f v).name ≡ v.name) → (v : Subscription) → (at_name n f v).name ≡ v.name
+pub named_same : (n : List ℕ) (f : Subscription → Subscription) → ((v : Subscription) → (f v).name ≡ v.name) → (v : Subscription) → (at_name n f v).name ≡ v.name
 named_same n f same v = on_if (λ (u : Subscription). u.name ≡ v.name) (bytes_eq v.name n) (f v) v (same v) refl
 
 apart_at : (b : Broker) (n : List ℕ) (f : Subscription → Subscription) → ((v : Subscription) → (f v).name ≡ v.name) → NamesApart b.subs → NamesApart (map (at_name n f) b.subs)
