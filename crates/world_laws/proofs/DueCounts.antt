@@ -13,8 +13,7 @@ use Rattle.geo_base.specs.Entry.{is_data}
 use Rattle.geo_base.specs.Laws.{due_from, has_permits}
 use Rattle.geo_base.specs.Subscription.{Subscription}
 use Rattle.world_laws.proofs.Ledgers.{total}
-use Rattle.world_laws.proofs.SnapshotFacts.{by_test}
-use Rattle.world_laws.proofs.Walk.{left, right}
+use Rattle.world_laws.proofs.Walk.{by_test, left, right}
 
 -- where no more is due, no more messages are
 fewer : (d a b : Bool) (x y : ℕ) → (a ≡ true → b ≡ true) → x ≤ y → (if d && a then 1 else 0) + x ≤ (if d && b then 1 else 0) + y

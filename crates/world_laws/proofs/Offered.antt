@@ -37,9 +37,8 @@ use Rattle.world_laws.proofs.Runs.{between_events, event_done, plan_halted}
 use Rattle.world_laws.proofs.ServeWalk.{updates_after}
 use Rattle.world_laws.proofs.Serving.{Lowers, Served, Serving, at_own, due_one, given_served, marker_lowers, named_at, passed_served, pushed_served}
 use Rattle.world_laws.proofs.Shapes.{Shape, Updates}
-use Rattle.world_laws.proofs.SnapshotFacts.{by_test}
 use Rattle.world_laws.proofs.SubFrames.{at_name}
-use Rattle.world_laws.proofs.Walk.{on_found, on_if, on_test, on_true}
+use Rattle.world_laws.proofs.Walk.{by_test, on_found, on_if, on_test, on_true}
 
 -- a marker without a snapshot for the cache
 plain_served : (h : Site) (b : Broker) (n : List ℕ) (m k i : ℕ) (v x : Subscription) (ws : List Write) → Serving m k n b v → least_due v (length b.entries) ≡ Some i
@@ -147,8 +146,8 @@ entry_served : (h : Site) (b : Broker) (n : List ℕ) (m k i : ℕ) (v : Subscri
 entry_served h b n m k i v e s least stands =
     on_test (Behind h b n m (suc k)) (is_data e.content) _ _
     (λ plain. on_found (Behind h b n m (suc k)) idle_plan (pick v.kind v.consumers (key_bytes e.meta.key)) _
-      (λ none. absurd (pick_some v.kind v.consumers (key_bytes e.meta.key) _ s.some (due_one v b.entries i e (least_due_is v 0 (length b.entries) i least) stands plain) s.permits none))
-      (λ at picked. record { served = given_served h b n m k i at v e s least stands plain picked }))
+    (λ none. absurd (pick_some v.kind v.consumers (key_bytes e.meta.key) _ s.some (due_one v b.entries i e (least_due_is v 0 (length b.entries) i least) stands plain) s.permits none))
+    (λ at picked. record { served = given_served h b n m k i at v e s least stands plain picked }))
     (λ other. passing (own_snapshot h b v e.ident.origin e.content))
   where
     passing : (o : Option CachedSnapshot) → Behind h b n m (suc k) (passes_by h b v i o)
@@ -170,7 +169,11 @@ offer_served h b n m k v s =
     idle u s none =
         let longer = s.longer in
         record {
-          named = s.named; some = s.some; permits = s.permits; longer = s.longer; late = s.late;
+          named = s.named;
+          some = s.some;
+          permits = s.permits;
+          longer = s.longer;
+          late = s.late;
           clear = λ j lt small. none_due u 0 (length b.entries) none j (omega arith) (omega (arith, small, longer));
         }
 
@@ -266,7 +269,7 @@ offers_served s t x n m end j k w small within (Offered.Offers k' w' o) all serv
     let nm = sub_name s t n in
     let next = offer_served (site s t x) (topic_at s w t x) nm m j served.0 served.1 in
     let now : Served m (suc j) nm (topic_at s (happens s w (event.Offer t x n)) t x) =
-      subst (Served m (suc j) nm) (sym (offer_at s w t x n served.0 small within served.1.named)) next.served in
+    subst (Served m (suc j) nm) (sym (offer_at s w t x n served.0 small within served.1.named)) next.served in
     let r = offers_served s t x n m end (suc j) k' (happens s w (event.Offer t x n)) small within o (event_done s Remembering (remembering_kept s) w (event.Offer t x n) all) now in
     let is : suc j + k' ≡ j + suc k' = omega arith in
     (r.0, subst (λ i. Served m i nm (topic_at s end t x)) is r.1)
@@ -284,10 +287,10 @@ all_out b n m k le keep served = record {
   sub = served.0;
   here = served.1.named;
   out = λ i e at plain lacks.
-    let lt = slice_get_within b.entries i e at in
-    let early : i < m = by_test (nat_lt i m) (λ is. ltb-true i m is) (λ is. absurd (unlike _ plain (served.1.late i e (grind (arith, nat_tests, is)) at))) in
-    let none = served.1.clear i (omega (arith, early, le)) early in
-    by i lacks none (why_kept served.0 i ((found_remembers b n served.0 served.1.named keep).outside i lt lacks));
+      let lt = slice_get_within b.entries i e at in
+      let early : i < m = by_test (nat_lt i m) (λ is. ltb-true i m is) (λ is. absurd (unlike _ plain (served.1.late i e (grind (arith, nat_tests, is)) at))) in
+      let none = served.1.clear i (omega (arith, early, le)) early in
+      by i lacks none (why_kept served.0 i ((found_remembers b n served.0 served.1.named keep).outside i lt lacks));
 }
   where
     due_not : (a d : Bool) → a ≡ false → (not a && d) ≡ false → d ≡ true → ⊥

@@ -12,8 +12,7 @@ use Rattle.geo_base.specs.Safe.{is_kept, is_out}
 use Rattle.geo_base.specs.Subscription.{Subscription, after_acks, is_attached, with_acks}
 use Rattle.world_laws.proofs.Cursors.{either, has_it, has_less, has_more, or_left, or_right}
 use Rattle.world_laws.proofs.Members.{below_or}
-use Rattle.world_laws.proofs.SnapshotFacts.{by_test}
-use Rattle.world_laws.proofs.Walk.{on_if, on_test, left}
+use Rattle.world_laws.proofs.Walk.{by_test, on_if, on_test, left}
 
 -- m is the number of entries
 pub record Remembers (m : ℕ) (v : Subscription) : Type 0 where

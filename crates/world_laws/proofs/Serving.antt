@@ -29,9 +29,8 @@ use Rattle.world_laws.proofs.PeerWalk.{pick_has}
 use Rattle.world_laws.proofs.Remembers.{IsLeast, before_more, has_fewer, has_out, is_false, least_due_is, undued, unlike}
 use Rattle.world_laws.proofs.ServeWalk.{updates_after}
 use Rattle.world_laws.proofs.Shapes.{Updates}
-use Rattle.world_laws.proofs.SnapshotFacts.{by_test}
 use Rattle.world_laws.proofs.SubFrames.{CreatesNone, at_name, at_name_twice, named_same, sub_after, sub_changed, sub_then, sub_written}
-use Rattle.world_laws.proofs.Walk.{on_found, on_test}
+use Rattle.world_laws.proofs.Walk.{by_test, on_found, on_test}
 
 -- a name finds the same subscription again
 named_map : (f : Subscription → Subscription) → ((u : Subscription) → (f u).name ≡ u.name) → (vs : List Subscription) (n : List ℕ) (v : Subscription) → sub_named vs n ≡ Some v
@@ -86,8 +85,8 @@ acked_due false x h = absurd (false≢true h)
 given_lowers : (v : Subscription) (i at : ℕ) → Lowers v (given i at v) i
 given_lowers v i at = record {
   less = λ j h.
-    due_parts (has v.cursor j) (has (filter (λ k. not (k == i)) v.due) j) (nat_le (max v.read_index (i + 1)) j) h (has v.cursor j) (has v.due j) (nat_le v.read_index j)
-    (λ e. e) (still_due (λ k. not (k == i)) v.due j) (read_on v.read_index i j);
+      due_parts (has v.cursor j) (has (filter (λ k. not (k == i)) v.due) j) (nat_le (max v.read_index (i + 1)) j) h (has v.cursor j) (has v.due j) (nat_le v.read_index j)
+      (λ e. e) (still_due (λ k. not (k == i)) v.due j) (read_on v.read_index i j);
   gone = not_due (has v.cursor i) _ _ (has_out (λ k. not (k == i)) v.due i (ap not (eq-eqb i i refl))) (read_past v.read_index i);
 }
 
@@ -100,8 +99,8 @@ marker_lowers v i =
     let passed = filter (λ k. not (k == i)) v.due in
     record {
       less = λ j h.
-        due_parts (has c j) (has (filter (λ k. not (has c k)) passed) j) (nat_le (max v.read_index (i + 1)) j) h (has v.cursor j) (has v.due j) (nat_le v.read_index j)
-        (before_more (i ∷ []) v.cursor j) (λ e. still_due (λ k. not (k == i)) v.due j (still_due (λ k. not (has c k)) passed j e)) (read_on v.read_index i j);
+          due_parts (has c j) (has (filter (λ k. not (has c k)) passed) j) (nat_le (max v.read_index (i + 1)) j) h (has v.cursor j) (has v.due j) (nat_le v.read_index j)
+          (before_more (i ∷ []) v.cursor j) (λ e. still_due (λ k. not (k == i)) v.due j (still_due (λ k. not (has c k)) passed j e)) (read_on v.read_index i j);
       gone = acked_due (has c i) _ (has_it v.cursor i);
     }
 
@@ -129,10 +128,10 @@ next_clear m k i more v u low e clear j lt small = is_false (is_due u j) (λ due
     by due before =
         by_test (j == i) (λ is. unlike (is_due u i) (subst (λ k. is_due u k ≡ true) (eqb-true j i is) due) low.gone)
         (λ other. by_test (nat_le j i)
-          (λ le. unlike (is_due v j) before (least.before j (omega arith) (grind (arith, nat_tests, other, le))))
-          (λ gt.
-            let early : is_due v i ≡ false = clear i (grind (arith, nat_tests, gt, lt)) (grind (arith, nat_tests, gt, small)) in
-            unlike (is_due v i) least.due early))
+        (λ le. unlike (is_due v j) before (least.before j (omega arith) (grind (arith, nat_tests, other, le))))
+        (λ gt.
+        let early : is_due v i ≡ false = clear i (grind (arith, nat_tests, gt, lt)) (grind (arith, nat_tests, gt, small)) in
+        unlike (is_due v i) least.due early))
 
 any_here : {X : Type 0} (p : X → Bool) (xs : List X) → list_any p xs ≡ true → 0 < length xs
 any_here p [] h = absurd (false≢true h)
@@ -145,17 +144,19 @@ given_served h b n m k i at v e s least stands plain picked =
     let low = given_lowers v i at in
     let l = least_due_is v 0 (length b.entries) i least in
     let here = any_here (is_of (consumer_at v.consumers at).client) (served v.kind v.consumers at)
-      (served_stay v.kind (consumer_at v.consumers at).client at v.consumers (permitted_there at v.consumers (pick_has v.kind v.consumers (key_bytes e.meta.key) at picked))) in
-    (given i at v, record {
-      named = named_at b.subs n v.name (given i at) v (λ u. refl) s.named ∙ ap (λ (x : Subscription). Some x) (at_own (given i at) v);
-      some = here;
-      permits =
-        served_permits v.kind v.consumers (key_bytes e.meta.key) at (due_from v 0 b.entries) (due_from (given i at v) 0 b.entries) picked
-        (due_falls_at v (given i at v) low.less i b.entries e stands plain l.due low.gone) s.permits;
-      longer = s.longer;
-      late = s.late;
-      clear = next_clear m k i (length b.entries) v (given i at v) low least s.clear;
-    })
+    (served_stay v.kind (consumer_at v.consumers at).client at v.consumers (permitted_there at v.consumers (pick_has v.kind v.consumers (key_bytes e.meta.key) at picked))) in (
+      given i at v,
+      record {
+        named = named_at b.subs n v.name (given i at) v (λ u. refl) s.named ∙ ap (λ (x : Subscription). Some x) (at_own (given i at) v);
+        some = here;
+        permits =
+            served_permits v.kind v.consumers (key_bytes e.meta.key) at (due_from v 0 b.entries) (due_from (given i at v) 0 b.entries) picked
+            (due_falls_at v (given i at v) low.less i b.entries e stands plain l.due low.gone) s.permits;
+        longer = s.longer;
+        late = s.late;
+        clear = next_clear m k i (length b.entries) v (given i at v) low least s.clear;
+      },
+    )
 
 -- a marker is passed: u is the subscription behind it, and the topic may have an update marker more
 kept_late : (es : List Entry) (f : Entry) (m : ℕ) → is_data f.content ≡ false → ((i : ℕ) (e : Entry) → m ≤ i → slice_get es i ≡ Some e → is_data e.content ≡ false)
@@ -173,8 +174,8 @@ passed_served b b' n m k i v u s least low kind consumers named same =
       named = named;
       some = subst (λ (ks : List Consumer). 0 < length ks) (sym consumers) s.some;
       permits =
-        subst (λ (t : SubKind). has_permits t u.consumers (due_from u 0 b'.entries) ≡ true) (sym kind)
-        (subst (λ (ks : List Consumer). has_permits v.kind ks (due_from u 0 b'.entries) ≡ true) (sym consumers) now);
+          subst (λ (t : SubKind). has_permits t u.consumers (due_from u 0 b'.entries) ≡ true) (sym kind)
+          (subst (λ (ks : List Consumer). has_permits v.kind ks (due_from u 0 b'.entries) ≡ true) (sym consumers) now);
       longer = subst (λ (es : List Entry). m ≤ length es) (sym same) s.longer;
       late = λ j e le at. s.late j e le (subst (λ (es : List Entry). slice_get es j ≡ Some e) same at);
       clear = next_clear m k i (length b.entries) v u low least s.clear;
