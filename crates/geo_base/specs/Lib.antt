@@ -4,6 +4,7 @@ pub mod Position
 pub mod Entry
 pub mod Topic
 pub mod Cursor
+pub mod Ascending
 pub mod Link
 pub mod Sizes
 pub mod FrameSizes
