@@ -99,3 +99,5 @@ pub mod DueCounts
 pub mod Serving
 pub mod Offered
 pub mod Told
+pub mod OnlyTold
+pub mod ServeTells
