@@ -101,3 +101,4 @@ pub mod Offered
 pub mod Told
 pub mod OnlyTold
 pub mod ServeTells
+pub mod ToldRuns
