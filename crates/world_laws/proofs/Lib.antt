@@ -98,3 +98,4 @@ pub mod Keeping
 pub mod DueCounts
 pub mod Serving
 pub mod Offered
+pub mod Passing
