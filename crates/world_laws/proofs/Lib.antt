@@ -99,3 +99,4 @@ pub mod DueCounts
 pub mod Serving
 pub mod Offered
 pub mod Passing
+pub mod Told
