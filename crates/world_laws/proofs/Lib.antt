@@ -100,3 +100,6 @@ pub mod Serving
 pub mod Offered
 pub mod Passing
 pub mod Told
+pub mod Announcing
+pub mod NamesTold
+pub mod QuietTells

@@ -38,18 +38,18 @@ last_passed_is mark [] cut h = absurd (none-some cut h)
 last_passed_is mark (c ∷ cs) cut h =
     by_test (any_passed mark cs)
     (λ later.
-        let p = last_passed_is mark cs cut (subst (λ (b : Bool). (if b then last_passed mark cs else (if nat_lt c.index mark then Some c.cut else None)) ≡ Some cut) later h) in
-        record { snapshot = p.snapshot; stands = record { place = suc p.stands.place; is = p.stands.is }; below = p.below; is = p.is })
+    let p = last_passed_is mark cs cut (subst (λ (b : Bool). (if b then last_passed mark cs else (if nat_lt c.index mark then Some c.cut else None)) ≡ Some cut) later h) in
+    record { snapshot = p.snapshot; stands = record { place = suc p.stands.place; is = p.stands.is }; below = p.below; is = p.is })
     (λ none.
-        let h' = subst (λ (b : Bool). (if b then last_passed mark cs else (if nat_lt c.index mark then Some c.cut else None)) ≡ Some cut) none h in
-        by_test (nat_lt c.index mark)
-        (λ lt. record {
-            snapshot = c;
-            stands = record { place = zero; is = refl };
-            below = grind (arith, nat_tests, lt);
-            is = same_Some _ _ (subst (λ (b : Bool). (if b then Some c.cut else None) ≡ Some cut) lt h');
-          })
-        (λ no. absurd (none-some cut (subst (λ (b : Bool). (if b then Some c.cut else None) ≡ Some cut) no h'))))
+    let h' = subst (λ (b : Bool). (if b then last_passed mark cs else (if nat_lt c.index mark then Some c.cut else None)) ≡ Some cut) none h in
+    by_test (nat_lt c.index mark)
+    (λ lt. record {
+      snapshot = c;
+      stands = record { place = zero; is = refl };
+      below = grind (arith, nat_tests, lt);
+      is = same_Some _ _ (subst (λ (b : Bool). (if b then Some c.cut else None) ≡ Some cut) lt h');
+    })
+    (λ no. absurd (none-some cut (subst (λ (b : Bool). (if b then Some c.cut else None) ≡ Some cut) no h'))))
 
 -- a cut's marker names each of its positions once: for cluster y none of those of later clusters
 none_for : (y c : ℕ) (ps : List (Option Position)) → y < c → positions_for y (named_from c ps) ≡ []
@@ -59,7 +59,7 @@ none_for y c (Some p ∷ ps) lt =
     let other : (y == c) ≡ false = grind (arith, nat_tests, lt) in
     subst (λ (b : Bool). (if b then p ∷ positions_for y (named_from (c + 1) ps) else positions_for y (named_from (c + 1) ps)) ≡ []) (sym other) (none_for y (c + 1) ps (omega (arith, lt)))
 
-pub named_for : (y c : ℕ) (ps : List (Option Position)) (p : Position) → slice_index_or ps y None ≡ Some p → positions_for (c + y) (named_from c ps) ≡ p ∷ []
+named_for : (y c : ℕ) (ps : List (Option Position)) (p : Position) → slice_index_or ps y None ≡ Some p → positions_for (c + y) (named_from c ps) ≡ p ∷ []
 named_for y c [] p h = absurd (none-some p h)
 named_for zero c (None ∷ ps) p h = absurd (none-some p h)
 named_for zero c (Some q ∷ ps) p h =
@@ -76,6 +76,9 @@ named_for (suc y) c (Some q ∷ ps) p h =
     subst (λ (b : Bool). (if b then q ∷ positions_for (c + suc y) (named_from (c + 1) ps) else positions_for (c + suc y) (named_from (c + 1) ps)) ≡ p ∷ []) (sym other)
     (subst (λ z. positions_for z (named_from (c + 1) ps) ≡ p ∷ []) same (named_for y (c + 1) ps p h))
 
+pub names_one : (y : ℕ) (ps : List (Option Position)) (p : Position) → slice_index_or ps y None ≡ Some p → positions_for y (named_from 0 ps) ≡ p ∷ []
+names_one y ps p h = let same : 0 + y ≡ y = omega arith in subst (λ (z : ℕ). positions_for z (named_from 0 ps) ≡ p ∷ []) same (named_for y 0 ps p h)
+
 -- what an update passes over: a marker, or what its cluster could have had, among the first n entries
 pub record IsPassedOver (y k n : ℕ) (es : List Entry) (i : ℕ) : Type 0 where
   pub place : ℕ
@@ -91,14 +94,14 @@ passed_over_is y k (suc n) [] i h = absurd (false≢true h)
 passed_over_is y k (suc n) (e ∷ es) i h =
     let next : has (passed_over y (k + 1) n es) i ≡ true → IsPassedOver y k (suc n) (e ∷ es) i =
     λ g. let p = passed_over_is y (k + 1) n es i g in
-        record { place = suc p.place; entry = p.entry; is = omega (arith, p.is); small = omega (arith, p.small); at = p.at; passed = p.passed } in
+    record { place = suc p.place; entry = p.entry; is = omega (arith, p.is); small = omega (arith, p.small); at = p.at; passed = p.passed } in
     by_test (passes y e)
     (λ t.
-        let h' : ((k == i) || has (passed_over y (k + 1) n es) i) ≡ true =
-        subst (λ (b : Bool). has (if b then k ∷ passed_over y (k + 1) n es else passed_over y (k + 1) n es) i ≡ true) t h in
-        by_test (k == i)
-        (λ here. record { place = zero; entry = e; is = omega (arith, eqb-true k i here); small = omega arith; at = refl; passed = t })
-        (λ there. next (subst (λ (b : Bool). (b || has (passed_over y (k + 1) n es) i) ≡ true) there h')))
+    let h' : ((k == i) || has (passed_over y (k + 1) n es) i) ≡ true =
+    subst (λ (b : Bool). has (if b then k ∷ passed_over y (k + 1) n es else passed_over y (k + 1) n es) i ≡ true) t h in
+    by_test (k == i)
+    (λ here. record { place = zero; entry = e; is = omega (arith, eqb-true k i here); small = omega arith; at = refl; passed = t })
+    (λ there. next (subst (λ (b : Bool). (b || has (passed_over y (k + 1) n es) i) ≡ true) there h')))
     (λ f. next (subst (λ (b : Bool). has (if b then k ∷ passed_over y (k + 1) n es else passed_over y (k + 1) n es) i ≡ true) f h))
 
 -- the one index that an update names, where it names one position
