@@ -35,7 +35,7 @@ use Rattle.world_laws.proofs.Cursors.{either, or_left, or_right}
 use Rattle.world_laws.proofs.Ledgers.{of_index}
 use Rattle.world_laws.proofs.OfferWalk.{seek_shape}
 use Rattle.world_laws.proofs.OnlyTold.{has_below, same_name, second_included}
-use Rattle.world_laws.proofs.Remembers.{any_right}
+use Rattle.world_laws.proofs.QuietTells.{gains_none, updates_gain}
 use Rattle.world_laws.proofs.ServeWalk.{frame_served}
 use Rattle.world_laws.proofs.Sizes.{IsThere}
 use Rattle.world_laws.proofs.Shapes.{InSession, MayJoin, Seeks, Served, Updates}
@@ -215,10 +215,6 @@ creation_names b h c p s topic n kind id request consumer earliest replicated at
         and_both (new && nat_lt (length b.subs) 32) (not (list_any (is_attached c) b.subs))
         (and_both new (nat_lt (length b.subs) 32) (and_both (bytes_eq topic h.topic && is_name n) (is_none (sub_named b.subs n)) of_topic absent) room) (ap not may.1)
 
-pub updates_tell : (told : SettledSoFar) (t per : ℕ) (h : Site) (c b : Broker) (v : Subscription) (ws : List Write) → Updates h c v ws → Tells told t per b ws
-updates_tell told t per h c b v ws Updates.NoUpdate = tt
-updates_tell told t per h c b v ws (Updates.Update cut replicated passed) = (tt, tt)
-
 served_tells : (told : SettledSoFar) (t per : ℕ) (h : Site) (b : Broker) (c : ℕ) (p : Packet) (q : Plan) → Served h b c p q → Numbered b.entries b.ledgers
     → PacketTold told t b h.topic c (Some p) → Tells told t per b q.writes
 served_tells told t per h b c p q (Served.Acknowledges s id kind ps v i is ws at sent by of after) numbered all =
@@ -227,7 +223,7 @@ served_tells told t per h b c p q (Served.Acknowledges s id kind ps v i is ws at
     λ j inside. ack_within b.entries b.ledgers numbered v.kind kind ps j (subst (λ (l : List ℕ). has l j ≡ true) (sym of ∙ acks_same b.ledgers v.kind ps kind) inside) in
     (
       λ j inside. all v.name j (subst (λ (l : List ℕ). has l j ≡ true) (sym named) inside) (stored j inside),
-      updates_tell told t per h b _ _ ws after,
+      gains_none told t per _ ws (updates_gain h b _ ws after),
     )
 served_tells told t per h b c p q (Served.Creates s topic n kind id request consumer earliest replicated at is may none) numbered all = (
   λ i late lt.
@@ -274,7 +270,7 @@ seeks_tell told t per h b n to q (Seeks.SeeksTo v i ws named at after) numbered 
       let le = seek_within b to i numbered at in
       same_name told t b.entries v.name n j (named_is b.subs n v named)
       (all j (subst (λ (l : List ℕ). has l j ≡ true) (sym is) (has_first i j lt)) (omega (arith, lt, le))),
-  updates_tell told t per h b _ _ ws after,
+  gains_none told t per _ ws (updates_gain h b _ ws after),
 )
 
 -- WORLDS

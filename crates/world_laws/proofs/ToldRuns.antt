@@ -21,18 +21,14 @@ use Rattle.geo_base.specs.World.{World, opening_world}
 use Rattle.world_laws.proofs.Effects.{Each, each_take}
 use Rattle.world_laws.proofs.EventWalk.{HasShape, planned_shape}
 use Rattle.world_laws.proofs.OnlyTold.{first_included, tells_take}
+use Rattle.world_laws.proofs.QuietTells.{settles_none}
 use Rattle.world_laws.proofs.Shapes.{Shape}
 use Rattle.world_laws.proofs.Told.{Includes, IsToldKept, Tells, TellsAll, TellsAt, nothing_told, told_too}
 use Rattle.world_laws.proofs.Walk.{on_elim, on_if}
 
 -- WHAT EVENTS SETTLE
 
--- any event but a packet of a client and a seek
-abbrev pub settles_none : Event → Bool
-settles_none (event.Serve x c) = false
-settles_none (event.Seek t x n to) = false
-settles_none e = true
-
+-- any event but a packet of a client and a seek settles nothing
 pub none_settled : (s : Setup) (w : World) (t : ℕ) (n : List ℕ) (e : Event) → settles_none e ≡ true → settled_event s w t n e ≡ []
 unfolding settled_event
 none_settled s w t n (event.Serve x c) h = absurd (false≢true h)
