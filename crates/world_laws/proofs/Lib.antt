@@ -106,3 +106,4 @@ pub mod Announcing
 pub mod NamesTold
 pub mod QuietTells
 pub mod ToldRuns
+pub mod ToldWorlds
