@@ -107,3 +107,4 @@ pub mod NamesTold
 pub mod QuietTells
 pub mod ToldRuns
 pub mod ToldWorlds
+pub mod ToldLaws

@@ -1,10 +1,10 @@
 -- Only what is told is acknowledged, of the subscriptions of one topic: kept by all writes that gain nothing else, and by every
 -- change in memory.
-use Rattle.std.proofs.Common.{◌≡◌, ℕ, zero, suc, ◌+◌, ◌≤◌, ◌<◌, Bool, true, false, List, [], ◌∷◌, ◌++◌, length, map, refl, sym, ap, subst, ◌∙◌, ◌==◌, arith, inl, inr, not}
-use Rattle.std.specs.Prelude.{Some, if◌then◌else◌, is_some, take, slice_get}
-use Rattle.std.specs.List.{list_any, range_with_len}
+use Rattle.std.proofs.Common.{◌≡◌, ℕ, zero, suc, ◌+◌, ◌<◌, Bool, true, false, List, [], ◌∷◌, ◌++◌, length, map, refl, sym, subst, ◌==◌, arith, inl, inr, not}
+use Rattle.std.specs.Prelude.{if◌then◌else◌, is_some, take}
+use Rattle.std.specs.List.{range_with_len}
 use Rattle.std.specs.Str.{bytes_eq}
-use Rattle.std.proofs.lemmas.Bool.{eqb-true, eq-eqb, false≢true}
+use Rattle.std.proofs.lemmas.Bool.{eqb-true, false≢true}
 use Rattle.std.proofs.lemmas.Slice.Eq.{bytes_eq-Decides}
 use Rattle.world_laws.proofs.Types.{Change, Entry, SubKind, Write}
 use Rattle.world_laws.proofs.Types.change
@@ -13,18 +13,18 @@ use Rattle.geo_base.specs.Broker.{Broker, changed, sub_named, written}
 use Rattle.geo_base.specs.Cache.{cached}
 use Rattle.geo_base.specs.Cursor.{below, has}
 use Rattle.geo_base.specs.Dispatcher.{given, passed_index}
-use Rattle.geo_base.specs.Entry.{is_data, same_ident}
+use Rattle.geo_base.specs.Entry.{same_ident}
 use Rattle.geo_base.specs.Plan.{all_changed, all_written}
-use Rattle.geo_base.specs.Settled.{IsSettled, SettledSoFar}
+use Rattle.geo_base.specs.Settled.{SettledSoFar}
 use Rattle.geo_base.specs.Subscription.{Subscription, after_acks, attached, cleared, detached, new_subscription, permitted, sought, with_acks}
-use Rattle.world_laws.proofs.Cursors.{either, or_left, or_right}
+use Rattle.world_laws.proofs.Cursors.{either}
 use Rattle.world_laws.proofs.Effects.{each_both, each_map}
 use Rattle.world_laws.proofs.Members.{get_left}
 use Rattle.world_laws.proofs.PeerWalk.{each_filter}
 use Rattle.world_laws.proofs.Remembers.{any_left, any_right, has_either}
 use Rattle.world_laws.proofs.SubFrames.{AllSubs, at_name, each_to}
-use Rattle.world_laws.proofs.Told.{Includes, IsTold, OnlyTold, Tells, TellsWrite, nothing_told, told_too}
-use Rattle.world_laws.proofs.Walk.{by_test, on_if, on_test}
+use Rattle.world_laws.proofs.Told.{Includes, IsTold, OnlyTold, Tells, TellsWrite, told_too}
+use Rattle.world_laws.proofs.Walk.{on_if, on_test}
 
 -- WHAT IS TOLD STAYS SO
 

@@ -1,33 +1,32 @@
 -- What the writes of an ACK, of a SUBSCRIBE and of a seek gain is what these name: settled is told from what came, so this is
 -- where the machine is held against it.
 use Rattle.std.proofs.Common.{◌≡◌, ℕ, zero, suc, ◌+◌, ◌≤◌, ◌<◌, Bool, true, false, List, [], ◌∷◌, ◌++◌, length, refl, sym, ap, subst, ◌∙◌, ◌==◌, arith, inl, inr, ◌⊎◌, not}
-use Rattle.std.specs.Prelude.{Option, Some, None, if◌then◌else◌, ◌&&◌, ◌||◌, find, is_none, is_some, nat_lt, slice_get}
+use Rattle.std.specs.Prelude.{Option, Some, None, if◌then◌else◌, ◌&&◌, ◌||◌, is_none, is_some, nat_lt, slice_get}
 use Rattle.std.specs.List.{list_any, range_with_len}
 use Rattle.std.specs.Str.{bytes_eq}
 use Rattle.std.proofs.lemmas.Bool.{eq-eqb, eqb-true, false≢true, lt-ltb}
 use Rattle.std.proofs.lemmas.Bool.Decides.{nat_tests}
 use Rattle.std.proofs.lemmas.Option.{none-some, same_Some, slice_get_cases}
 use Rattle.std.proofs.lemmas.Slice.Eq.{bytes_eq-Decides}
-use Rattle.world_laws.proofs.Types.{AckKind, Entry, Event, Frame, Ident, Packet, Position, Session, SubKind, Write}
+use Rattle.world_laws.proofs.Types.{AckKind, Entry, Event, Frame, Ident, Packet, Position, Session, SubKind}
 use Rattle.world_laws.proofs.Types.ack_kind
 use Rattle.world_laws.proofs.Types.event
 use Rattle.world_laws.proofs.Types.frame
 use Rattle.world_laws.proofs.Types.sub_kind
-use Rattle.world_laws.proofs.Types.write
 use Rattle.geo_base.specs.Acknowledging.{acked_indexes, allows_cumulative, cumulative_indexes, stored_indexes, up_to, with_stored}
-use Rattle.geo_base.specs.Broker.{Broker, Site, session_at, sub_named}
+use Rattle.geo_base.specs.Broker.{Broker, Site, sub_named}
 use Rattle.geo_base.specs.Cursor.{has}
 use Rattle.geo_base.specs.Entry.{is_data, same_ident, same_stream}
 use Rattle.geo_base.specs.Link.{next_packet}
 use Rattle.geo_base.specs.Name.{is_name}
 use Rattle.geo_base.specs.Plan.{Plan}
-use Rattle.geo_base.specs.Planned.{Planned, has_client, in_range, planned, planned_in}
-use Rattle.geo_base.specs.Seeking.{seek, seek_index}
+use Rattle.geo_base.specs.Planned.{in_range, planned, planned_in}
+use Rattle.geo_base.specs.Seeking.{seek_index}
 use Rattle.geo_base.specs.Serving.{serve}
 use Rattle.geo_base.specs.Settled.{IsSettled, SettledSoFar, acked_on, at_index, at_positions, below_index, first_indexes, is_created, is_session, messages_at, named_by_ack, serves_one, settled_by_command, settled_by_packet, settled_by_seek, settled_event, up_to_index, with_message}
 use Rattle.geo_base.specs.Setup.{Setup, declared_at, sub_name, topic_name}
 use Rattle.geo_base.specs.Subscribing.{consumed_by, has_room}
-use Rattle.geo_base.specs.Subscription.{Subscription, has_consumer, is_attached}
+use Rattle.geo_base.specs.Subscription.{Subscription, is_attached}
 use Rattle.geo_base.specs.Topic.{index_of}
 use Rattle.geo_base.specs.World.{ToBroker, World, link_at, site, topic_at}
 use Rattle.world_laws.proofs.Answering.{Numbered}
@@ -38,9 +37,9 @@ use Rattle.world_laws.proofs.OnlyTold.{has_below, same_name, second_included}
 use Rattle.world_laws.proofs.QuietTells.{gains_none, updates_gain}
 use Rattle.world_laws.proofs.ServeWalk.{frame_served}
 use Rattle.world_laws.proofs.Sizes.{IsThere}
-use Rattle.world_laws.proofs.Shapes.{InSession, MayJoin, Seeks, Served, Updates}
-use Rattle.world_laws.proofs.Told.{IsTold, Tells, TellsAll, TellsAt, ToldOver, told_now, told_too}
-use Rattle.world_laws.proofs.Walk.{by_test, left, on_if, on_test, on_true, right}
+use Rattle.world_laws.proofs.Shapes.{InSession, MayJoin, Seeks, Served}
+use Rattle.world_laws.proofs.Told.{IsTold, Tells, TellsAll, ToldOver, told_now, told_too}
+use Rattle.world_laws.proofs.Walk.{by_test, left, on_if, on_true, right}
 
 -- TESTS
 
@@ -220,8 +219,7 @@ served_tells : (told : SettledSoFar) (t per : ℕ) (h : Site) (b : Broker) (c : 
 served_tells told t per h b c p q (Served.Acknowledges s id kind ps v i is ws at sent by of after) numbered all =
     let named = ack_names b h.topic c p s id kind ps v at sent by ∙ of in
     let stored : (j : ℕ) → has (i ∷ is) j ≡ true → j < length b.entries =
-    λ j inside. ack_within b.entries b.ledgers numbered v.kind kind ps j (subst (λ (l : List ℕ). has l j ≡ true) (sym of ∙ acks_same b.ledgers v.kind ps kind) inside) in
-    (
+    λ j inside. ack_within b.entries b.ledgers numbered v.kind kind ps j (subst (λ (l : List ℕ). has l j ≡ true) (sym of ∙ acks_same b.ledgers v.kind ps kind) inside) in (
       λ j inside. all v.name j (subst (λ (l : List ℕ). has l j ≡ true) (sym named) inside) (stored j inside),
       gains_none told t per _ ws (updates_gain h b _ ws after),
     )

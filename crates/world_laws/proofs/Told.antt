@@ -2,8 +2,7 @@
 -- together over the cut: only what is told is acknowledged, and an update names only what is told.
 use Rattle.std.proofs.Common.{◌≡◌, ℕ, ◌<◌, ◌≤◌, true, List, [], ◌∷◌, ◌++◌, length}
 use Rattle.std.specs.Prelude.{◌≢◌, Option, Some, None, slice_get, take}
-use Rattle.std.specs.List.{list_any}
-use Rattle.world_laws.proofs.Types.{ClusterPosition, Entry, Event, Ident, Position, Write}
+use Rattle.world_laws.proofs.Types.{ClusterPosition, Entry, Event, Position, Write}
 use Rattle.world_laws.proofs.Types.content
 use Rattle.world_laws.proofs.Types.marker
 use Rattle.world_laws.proofs.Types.write
@@ -25,7 +24,6 @@ use Rattle.world_laws.proofs.NoSelf.{NoSelf}
 use Rattle.world_laws.proofs.Prefixes.{is_of}
 use Rattle.world_laws.proofs.SecondRound.{Knows, knows_now}
 use Rattle.world_laws.proofs.Shapes.{Shape}
-use Rattle.world_laws.proofs.Short.{WhileShort}
 use Rattle.world_laws.proofs.Sizes.{IsThere}
 use Rattle.world_laws.proofs.SubFrames.{AllSubs}
 

@@ -1,14 +1,13 @@
 -- The induction over runs that carries what is settled so far: each step first settles what it settles, and then happens. What the
 -- opening world has with nothing told, and every event keeps, holds at every moment with what is settled by then.
-use Rattle.std.proofs.Common.{◌≡◌, ℕ, zero, suc, ◌+◌, ◌<◌, Bool, true, false, List, [], ◌∷◌, ◌++◌, refl, sym, subst, ◌∙◌, ◌==◌, arith}
+use Rattle.std.proofs.Common.{◌≡◌, ℕ, zero, suc, ◌+◌, Bool, true, false, List, [], ◌∷◌, ◌++◌, refl, sym, subst, ◌∙◌, ◌==◌, arith}
 use Rattle.std.specs.Prelude.{Option, Some, None, if◌then◌else◌, ◌||◌, is_some, nat_lt, take}
 use Rattle.std.specs.List.{list_any}
 use Rattle.std.proofs.lemmas.Bool.{false≢true, lt-ltb}
 use Rattle.std.proofs.lemmas.List.{append-nil, append_assoc}
-use Rattle.world_laws.proofs.Types.{Event, Ident, Step, Write}
+use Rattle.world_laws.proofs.Types.{Event, Ident, Step}
 use Rattle.world_laws.proofs.Types.event
 use Rattle.world_laws.proofs.Types.step
-use Rattle.geo_base.specs.Broker.{Broker}
 use Rattle.geo_base.specs.Entry.{same_ident}
 use Rattle.geo_base.specs.Happening.{does_planned, happens, halts_planned}
 use Rattle.geo_base.specs.Laws.{Always}
@@ -23,7 +22,7 @@ use Rattle.world_laws.proofs.EventWalk.{HasShape, planned_shape}
 use Rattle.world_laws.proofs.OnlyTold.{first_included, tells_take}
 use Rattle.world_laws.proofs.QuietTells.{settles_none}
 use Rattle.world_laws.proofs.Shapes.{Shape}
-use Rattle.world_laws.proofs.Told.{Includes, IsToldKept, Tells, TellsAll, TellsAt, nothing_told, told_too}
+use Rattle.world_laws.proofs.Told.{Includes, IsToldKept, TellsAll, TellsAt, nothing_told, told_too}
 use Rattle.world_laws.proofs.Walk.{on_elim, on_if}
 
 -- WHAT EVENTS SETTLE
