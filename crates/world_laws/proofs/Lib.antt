@@ -98,3 +98,13 @@ pub mod Keeping
 pub mod DueCounts
 pub mod Serving
 pub mod Offered
+pub mod Passing
+pub mod Told
+pub mod OnlyTold
+pub mod ServeTells
+pub mod Announcing
+pub mod NamesTold
+pub mod QuietTells
+pub mod ToldRuns
+pub mod ToldWorlds
+pub mod ToldLaws
