@@ -90,6 +90,7 @@ pub mod LinkWeights
 pub mod Lowering
 pub mod WeightBounds
 pub mod InTime
+pub mod Fitting
 pub mod SubFrames
 pub mod Remembers
 pub mod Dispatched
