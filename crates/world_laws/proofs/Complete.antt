@@ -11,14 +11,15 @@ use Rattle.geo_base.specs.Broker.{receiver_at, sender_at}
 use Rattle.geo_base.specs.Cursor.{has}
 use Rattle.geo_base.specs.Entry.{is_outbound}
 use Rattle.geo_base.specs.Happening.{happens}
-use Rattle.geo_base.specs.Laws.{ArePair, BetweenEvents, IsComplete, IsShort, SettlesAll, after_settling, of_origin, outbound}
+use Rattle.geo_base.specs.Laws.{ArePair, BetweenEvents, IsComplete, IsShort, LawBudget, SettlesAll, after_settling, of_origin, outbound}
 use Rattle.geo_base.specs.Moments.{Settling, world_between}
 use Rattle.geo_base.specs.Run.{Limits, is_quiet, no_limits, pairs, resets_of, run, run_under}
 use Rattle.geo_base.specs.Setup.{Setup, topic_name}
 use Rattle.geo_base.specs.World.{Back, Forward, World, link_at, node, topic_at}
 use Rattle.world_laws.proofs.Effects.{Each}
 use Rattle.world_laws.proofs.Fitting.{Fits}
-use Rattle.world_laws.proofs.InTime.{settles_in_time, start_within}
+use Rattle.world_laws.proofs.FittingRuns.{Fitting, fits_of, fitting_kept}
+use Rattle.world_laws.proofs.InTime.{always_in_time, settles_in_time, start_within}
 use Rattle.world_laws.proofs.Layers.{Both, both_kept, kept_with}
 use Rattle.world_laws.proofs.Live.{Live}
 use Rattle.world_laws.proofs.LiveFrames.{LiveIn}
@@ -143,7 +144,11 @@ settles_all s F k fits w base short t x y lt pair =
     complete s (after_settling s w) t x y lt pair h.0.0 (h.1 short t x y lt pair) (settles_in_time s w).quiet
 
 -- so it is from whatever world a run comes to, where settling ends in a short one
-pub always_complete : (s : Setup) (F : World → Type 0) → IsKept s F → ((w : World) → F w → IsShort w → Fits s w)
+always_complete : (s : Setup) (F : World → Type 0) → IsKept s F → ((w : World) → F w → IsShort w → Fits s w)
     → BetweenEvents s (λ w. IsShort (after_settling s w) → SettlesAll s w)
 always_complete s F k fits =
     between_events s (Base s F) (λ w. IsShort (after_settling s w) → SettlesAll s w) (base_kept s F k) (λ w base. settles_all s F k fits w base)
+
+-- of setups that a script can declare own entries fit
+pub budget_always : LawBudget
+budget_always = record { in_time = always_in_time; complete = λ s scripted. always_complete s (Fitting s) (fitting_kept s scripted) (fits_of s) }

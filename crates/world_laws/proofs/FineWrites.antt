@@ -1,7 +1,7 @@
 -- What events write is never too large for a link: the entries that a cluster stores first, and what its markers are made of, the
 -- names of subscriptions and the snapshots in their caches.
 use Rattle.std.proofs.Common.{◌≡◌, ℕ, zero, suc, ◌+◌, ◌-◌, ◌^◌, ◌<◌, ◌≤◌, Bool, true, false, List, [], ◌∷◌, ◌++◌, length, map, refl, sym, ap, subst, ◌∙◌, ◌==◌, arith, inl, inr}
-use Rattle.std.specs.Prelude.{Option, Some, None, ◌&&◌, if◌then◌else◌, find, nat_le, nat_lt, not, replicate, slice_get, slice_index_or, slice_set}
+use Rattle.std.specs.Prelude.{Option, Some, None, ◌&&◌, if◌then◌else◌, find, is_none, nat_le, nat_lt, not, replicate, slice_get, slice_index_or, slice_set}
 use Rattle.std.specs.List.{list_all}
 use Rattle.std.specs.Str.{bytes_eq}
 use Rattle.std.proofs.lemmas.Bool.{leb-true, ltb-true, false≢true}
@@ -49,7 +49,7 @@ use Rattle.world_laws.proofs.NoSelf.{NoSelf, remote_other}
 use Rattle.world_laws.proofs.Shapes.{Answered, Fated, Hears, IsResponse, IsSnapshot, Offers, Reads, ReadsNext, Seeks, Served, Shape, Snaps, Taken, Updates}
 use Rattle.world_laws.proofs.SnapshotFacts.{Form, Made}
 use Rattle.world_laws.proofs.SubFrames.{AllSubs, found_is}
-use Rattle.world_laws.proofs.Walk.{left, on_if}
+use Rattle.world_laws.proofs.Walk.{left, on_if, right}
 
 -- a subscription with a name of a subscription, and a cached snapshot with no more places than there are clusters
 abbrev pub HasShortName : Subscription → Type 0
@@ -164,10 +164,9 @@ snapshot_narrow h b v e j c is =
 -- EVENTS
 
 sized : (h : Site) (n : List ℕ) (seq : ℕ) (source : Option Place) (e : Entry) → is_sound h n seq source e ≡ true → entry_size h.clusters e ≤ most_entry_size
-sized h n seq source e sound = leb-true _ _ (fifth _ _ _ _ _ sound)
-  where
-    fifth : (a b c d e : Bool) → (a && b && c && d && e) ≡ true → e ≡ true
-    fifth a b c d e h = grind (arith, h)
+sized h n seq source e sound =
+    leb-true _ _
+    (right (bytes_eq n e.ident.producer && (seq == e.ident.seq) && is_none source && is_data e.content) (nat_le (entry_size h.clusters e) most_entry_size) sound)
 
 served_fine : (h : Site) (b : Broker) → Known h b → (c : ℕ) (p : Packet) (q : Plan) → Served h b c p q → Each (FineWrite h) q.writes
 served_fine h b known c p q (Served.Stores s id seq source e at sound new) = ((λ _. sized h sound.1.0 seq source e sound.1.2), tt)

@@ -100,10 +100,10 @@ pub mod LiveFrames
 pub mod LiveRounds
 pub mod LiveStarts
 pub mod Quiet
-pub mod Complete
 pub mod Measures
 pub mod FineWrites
 pub mod FittingRuns
+pub mod Complete
 pub mod SubFrames
 pub mod Remembers
 pub mod Dispatched

@@ -16,5 +16,5 @@ pub fn law_settles_in_time()
 /// than 2^62 events with the settling (beyond, an id may be too long for an entry that is stored); it holds from the same worlds
 /// as the first.
 pub fn law_budget()
-    ensures { LawBudget }
+    ensures budget { LawBudget }
 {}
