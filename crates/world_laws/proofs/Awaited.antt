@@ -64,10 +64,10 @@ pub push_differ : (ps : List Pending) (q : Pending) → Differ ps → Lacks q.nu
 push_differ [] q h new = ((λ d s is. none-some d s.is), tt)
 push_differ (p ∷ ps) q h new = (
   (λ d s is.
-  elim (get_push ps q s.place d s.is) [
-    | inl k ↦ h.0 d (record { place = s.place; is = k.1 }) is
-    | inr k ↦ new p (record { place = zero; is = refl }) (sym is ∙ ap (λ (r : Pending). r.number) (sym k.1))
-  ]),
+      elim (get_push ps q s.place d s.is) [
+        | inl k ↦ h.0 d (record { place = s.place; is = k.1 }) is
+        | inr k ↦ new p (record { place = zero; is = refl }) (sym is ∙ ap (λ (r : Pending). r.number) (sym k.1))
+      ]),
   push_differ ps q h.1 (λ d s is. new d (stands_next p ps d s) is),
 )
 

@@ -1,27 +1,26 @@
 -- What comes back on a link is of a session that its sender began, of no later one: so it is in every world of every run.
-use Rattle.std.proofs.Common.{◌≡◌, ℕ, zero, suc, ◌+◌, ◌*◌, ◌<◌, ◌≤◌, Bool, true, false, List, [], ◌∷◌, length, map, refl, sym, ap, subst, ◌∙◌, ◌==◌, arith, length-append}
-use Rattle.std.specs.Prelude.{Option, Some, None, ◌&&◌, nat_lt, min, replicate, slice_get, slice_index_or, slice_set, take}
+use Rattle.std.proofs.Common.{◌≡◌, ℕ, zero, suc, ◌+◌, ◌*◌, ◌<◌, ◌≤◌, true, List, [], ◌∷◌, length, map, refl, sym, ap, subst, ◌∙◌, ◌==◌, arith, length-append}
+use Rattle.std.specs.Prelude.{Option, Some, None, nat_lt, replicate, slice_index_or, slice_set, take}
 use Rattle.std.specs.Str.{bytes_eq}
 use Rattle.std.proofs.lemmas.Bool.{eqb-true, ltb-true}
 use Rattle.std.proofs.lemmas.List.{get_or-replicate, length-replicate}
 use Rattle.std.proofs.lemmas.Option.{none-some}
-use Rattle.world_laws.proofs.Types.{Change, Out, Packet, Peer, Write}
+use Rattle.world_laws.proofs.Types.{Change, Out, Packet, Peer}
 use Rattle.world_laws.proofs.Types.change
 use Rattle.world_laws.proofs.Types.peer
-use Rattle.world_laws.proofs.Types.sender_state
 use Rattle.world_laws.proofs.Types.write
 use Rattle.geo_base.specs.Broker.{Broker, Site, no_broker, sender_at}
 use Rattle.geo_base.specs.Client.{Acted}
 use Rattle.geo_base.specs.Forwarding.{closes, resets}
 use Rattle.geo_base.specs.Happening.{broker_does, broker_halts, client_does, stops}
 use Rattle.geo_base.specs.Laws.{ArePair}
-use Rattle.geo_base.specs.Link.{Link, discarded, next_packet, no_link, sent_on, took}
+use Rattle.geo_base.specs.Link.{Link, discarded, no_link, took}
 use Rattle.geo_base.specs.Plan.{Plan, done, halted}
 use Rattle.geo_base.specs.Planned.{Planned, has_pair}
 use Rattle.geo_base.specs.Seeking.{restart}
-use Rattle.geo_base.specs.Sender.{Sender, sender_restarted}
+use Rattle.geo_base.specs.Sender.{Sender}
 use Rattle.geo_base.specs.Setup.{Setup, declared_at}
-use Rattle.geo_base.specs.World.{Back, Forward, LinkName, Links, ToBroker, ToClient, World, cell, delivered, from_broker, from_client, link_at, node, opening_world, site, stamped, taken_from, topic_at}
+use Rattle.geo_base.specs.World.{Back, Forward, LinkName, Links, ToBroker, ToClient, World, cell, delivered, from_broker, link_at, node, opening_world, site, stamped, taken_from, topic_at}
 use Rattle.world_laws.proofs.Effects.{Each, done_sender, each_both, each_map, each_take, halted_sender, sender_after, sender_changed, sender_then}
 use Rattle.world_laws.proofs.EventWalk.{of_node, of_pair, of_target}
 use Rattle.world_laws.proofs.Frames.{at_set, cell_set}

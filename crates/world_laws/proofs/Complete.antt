@@ -1,22 +1,20 @@
 -- When settling has ended, all has come over: each sender is open and has acknowledged all of its topic, and every entry that a
 -- cluster is to have stands there.
-use Rattle.std.proofs.Common.{◌≡◌, ℕ, zero, suc, ◌+◌, ◌<◌, ◌≤◌, Bool, true, false, List, [], ◌∷◌, ◌++◌, length, refl, sym, ap, subst, ◌∙◌, ◌==◌, arith, inl, inr, ◌⊎◌}
-use Rattle.std.specs.Prelude.{Some, None, nat_lt, slice_get}
-use Rattle.std.proofs.lemmas.Bool.{ltb-true, false≢true, eq-eqb, eqb-true}
+use Rattle.std.proofs.Common.{◌≡◌, ℕ, zero, ◌+◌, ◌<◌, Bool, true, false, List, [], ◌∷◌, ◌++◌, length, refl, sym, subst, ◌∙◌, ◌==◌, arith, inl, inr}
+use Rattle.std.specs.Prelude.{Some, nat_lt, slice_get}
+use Rattle.std.proofs.lemmas.Bool.{ltb-true, eqb-true}
 use Rattle.std.proofs.lemmas.Bool.Decides.{nat_tests}
 use Rattle.std.proofs.lemmas.List.{append-nil}
 use Rattle.std.proofs.lemmas.Option.{slice_get_within}
-use Rattle.world_laws.proofs.Types.{Entry, Event, Step}
-use Rattle.geo_base.specs.Broker.{receiver_at, sender_at}
+use Rattle.world_laws.proofs.Types.{Entry, Event}
+use Rattle.geo_base.specs.Broker.{sender_at}
 use Rattle.geo_base.specs.Cursor.{has}
 use Rattle.geo_base.specs.Entry.{is_outbound}
 use Rattle.geo_base.specs.Happening.{happens}
 use Rattle.geo_base.specs.Laws.{ArePair, BetweenEvents, IsComplete, IsShort, LawBudget, SettlesAll, after_settling, of_origin, outbound}
-use Rattle.geo_base.specs.Moments.{Settling, world_between}
-use Rattle.geo_base.specs.Run.{Limits, is_quiet, no_limits, pairs, resets_of, run, run_under}
-use Rattle.geo_base.specs.Setup.{Setup, topic_name}
+use Rattle.geo_base.specs.Run.{is_quiet, no_limits, pairs, resets_of}
+use Rattle.geo_base.specs.Setup.{Setup}
 use Rattle.geo_base.specs.World.{Back, Forward, World, link_at, node, topic_at}
-use Rattle.world_laws.proofs.Effects.{Each}
 use Rattle.world_laws.proofs.Fitting.{Fits}
 use Rattle.world_laws.proofs.FittingRuns.{Fitting, fits_of, fitting_kept}
 use Rattle.world_laws.proofs.InTime.{always_in_time, settles_in_time, start_within}
@@ -32,7 +30,7 @@ use Rattle.world_laws.proofs.Prefixes.{Begins, InOrder, filter_order, is_of, not
 use Rattle.world_laws.proofs.Quiet.{IsStill, pair_still}
 use Rattle.world_laws.proofs.Rounds.{IsLowered, Works, after, all_reset, at, settled_has}
 use Rattle.world_laws.proofs.Runs.{IsKept, all_settled, between_events, event_done}
-use Rattle.world_laws.proofs.Waiting.{Comes, Waiting, none_waits}
+use Rattle.world_laws.proofs.Waiting.{none_waits}
 use Rattle.world_laws.proofs.Weights.{weight}
 
 -- where all entries for y stand at y, nothing is left behind the beginning that y has

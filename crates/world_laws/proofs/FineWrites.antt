@@ -1,53 +1,49 @@
 -- What events write is never too large for a link: the entries that a cluster stores first, and what its markers are made of, the
 -- names of subscriptions and the snapshots in their caches.
-use Rattle.std.proofs.Common.{◌≡◌, ℕ, zero, suc, ◌+◌, ◌-◌, ◌^◌, ◌<◌, ◌≤◌, Bool, true, false, List, [], ◌∷◌, ◌++◌, length, map, refl, sym, ap, subst, ◌∙◌, ◌==◌, arith, inl, inr}
-use Rattle.std.specs.Prelude.{Option, Some, None, ◌&&◌, if◌then◌else◌, find, is_none, nat_le, nat_lt, not, replicate, slice_get, slice_index_or, slice_set}
+use Rattle.std.proofs.Common.{◌≡◌, ℕ, zero, suc, ◌-◌, ◌^◌, ◌<◌, ◌≤◌, Bool, true, false, List, [], ◌∷◌, length, refl, sym, ap, subst, ◌∙◌, ◌==◌, arith}
+use Rattle.std.specs.Prelude.{Option, Some, None, ◌&&◌, if◌then◌else◌, find, is_none, nat_le, nat_lt, not, replicate, slice_get, slice_set}
 use Rattle.std.specs.List.{list_all}
 use Rattle.std.specs.Str.{bytes_eq}
-use Rattle.std.proofs.lemmas.Bool.{leb-true, ltb-true, false≢true}
+use Rattle.std.proofs.lemmas.Bool.{leb-true, ltb-true}
 use Rattle.std.proofs.lemmas.List.{length-replicate, length-set}
 use Rattle.std.proofs.lemmas.Option.{none-some, same_Some, slice_get_within}
-use Rattle.world_laws.proofs.Types.{Builder, CachedSnapshot, Change, ClusterPosition, Content, Cut, Entry, Packet, Place, Position, Write}
-use Rattle.world_laws.proofs.Types.change
+use Rattle.world_laws.proofs.Types.{Builder, CachedSnapshot, ClusterPosition, Cut, Entry, Packet, Place, Position, Write}
 use Rattle.world_laws.proofs.Types.content
 use Rattle.world_laws.proofs.Types.marker
 use Rattle.world_laws.proofs.Types.place
 use Rattle.world_laws.proofs.Types.progress
 use Rattle.world_laws.proofs.Types.targets
 use Rattle.world_laws.proofs.Types.write
-use Rattle.geo_base.specs.Broker.{Broker, Site, changed, cluster_name, sub_named, written}
+use Rattle.geo_base.specs.Broker.{Broker, Site, cluster_name}
 use Rattle.geo_base.specs.Builder.{current_id, named, second_id, snapshot_id}
-use Rattle.geo_base.specs.Cache.{any_passed, cached, cut_of, last_passed, with_place, with_places}
-use Rattle.geo_base.specs.Cursor.{below, mark}
-use Rattle.geo_base.specs.Dispatcher.{given, passed_index}
-use Rattle.geo_base.specs.Entry.{is_data, with_origin}
+use Rattle.geo_base.specs.Cache.{any_passed, cut_of, last_passed, with_place, with_places}
+use Rattle.geo_base.specs.Cursor.{mark}
+use Rattle.geo_base.specs.Entry.{is_data}
 use Rattle.geo_base.specs.Forwarding.{closes}
-use Rattle.geo_base.specs.Markers.{request_marker, response_marker, snapshot_marker}
+use Rattle.geo_base.specs.Markers.{request_marker}
 use Rattle.geo_base.specs.Name.{is_name, most_name_bytes, name_byte}
-use Rattle.geo_base.specs.Plan.{Plan, all_changed, all_written, quiet_plan}
+use Rattle.geo_base.specs.Plan.{Plan, quiet_plan}
 use Rattle.geo_base.specs.Planned.{Planned}
 use Rattle.geo_base.specs.Producing.{is_sound}
 use Rattle.geo_base.specs.Seeking.{restart}
-use Rattle.geo_base.specs.Setup.{Setup, declared_at}
+use Rattle.geo_base.specs.Setup.{Setup}
 use Rattle.geo_base.specs.Sizes.{entry_size, most_entry_size}
-use Rattle.geo_base.specs.Subscribing.{consumed_by, has_room}
-use Rattle.geo_base.specs.Subscription.{Subscription, after_acks, attached, cleared, detached, new_subscription, permitted, sought, with_acks}
+use Rattle.geo_base.specs.Subscribing.{has_room}
+use Rattle.geo_base.specs.Subscription.{Subscription, with_acks}
 use Rattle.geo_base.specs.Topic.{next_position, position_at}
 use Rattle.geo_base.specs.World.{World, site, topic_at}
 use Rattle.world_laws.proofs.Added.{came_other}
-use Rattle.world_laws.proofs.Answering.{Numbered, RequestAt}
+use Rattle.world_laws.proofs.Answering.{Numbered}
 use Rattle.world_laws.proofs.Building.{heard_later}
 use Rattle.world_laws.proofs.Caches.{AllCached, AllIn, Cached, cached_all}
-use Rattle.world_laws.proofs.Effects.{Each, each_both, each_map}
+use Rattle.world_laws.proofs.Effects.{Each, each_both}
 use Rattle.world_laws.proofs.EventWalk.{of_target}
-use Rattle.world_laws.proofs.Ids.{IsSmall}
 use Rattle.world_laws.proofs.Ledgers.{at_index}
 use Rattle.world_laws.proofs.Making.{MadeAfter, Telling}
 use Rattle.world_laws.proofs.MakingEvents.{heard_made}
 use Rattle.world_laws.proofs.Measures.{AreShort, id_short, marker_fits, no_target, one_target, request_most, response_most, second_short, snapshot_most, update_most}
 use Rattle.world_laws.proofs.NoSelf.{NoSelf, remote_other}
-use Rattle.world_laws.proofs.Shapes.{Answered, Fated, Hears, IsResponse, IsSnapshot, Offers, Reads, ReadsNext, Seeks, Served, Shape, Snaps, Taken, Updates}
-use Rattle.world_laws.proofs.SnapshotFacts.{Form, Made}
+use Rattle.world_laws.proofs.Shapes.{Answered, Fated, IsSnapshot, Offers, Reads, Seeks, Served, Shape, Snaps, Taken, Updates}
 use Rattle.world_laws.proofs.SubFrames.{AllSubs, found_is}
 use Rattle.world_laws.proofs.Walk.{left, on_if, right}
 
@@ -140,8 +136,8 @@ updates_fine h b known v ws fine (Updates.Update cut replicated passed) =
     let few = known.few in
     let narrow = passed_narrow (length h.clusters) (mark v.cursor) v.cache cut passed fine.cache in (
       (λ _.
-      marker_fits h.clusters h b (marker.Update v.name (named cut)) targets.All [] no_target
-      (update_most h.clusters v.name cut known.short fine.name (omega (arith, few, narrow)))),
+          marker_fits h.clusters h b (marker.Update v.name (named cut)) targets.All [] no_target
+          (update_most h.clusters v.name cut known.short fine.name (omega (arith, few, narrow)))),
       tt,
     )
 
@@ -163,13 +159,13 @@ snapshot_narrow h b v e j c is =
 
 -- EVENTS
 
-sized : (h : Site) (n : List ℕ) (seq : ℕ) (source : Option Place) (e : Entry) → is_sound h n seq source e ≡ true → entry_size h.clusters e ≤ most_entry_size
-sized h n seq source e sound =
+sound_sized : (h : Site) (n : List ℕ) (seq : ℕ) (source : Option Place) (e : Entry) → is_sound h n seq source e ≡ true → entry_size h.clusters e ≤ most_entry_size
+sound_sized h n seq source e sound =
     leb-true _ _
     (right (bytes_eq n e.ident.producer && (seq == e.ident.seq) && is_none source && is_data e.content) (nat_le (entry_size h.clusters e) most_entry_size) sound)
 
 served_fine : (h : Site) (b : Broker) → Known h b → (c : ℕ) (p : Packet) (q : Plan) → Served h b c p q → Each (FineWrite h) q.writes
-served_fine h b known c p q (Served.Stores s id seq source e at sound new) = ((λ _. sized h sound.1.0 seq source e sound.1.2), tt)
+served_fine h b known c p q (Served.Stores s id seq source e at sound new) = ((λ _. sound_sized h sound.1.0 seq source e sound.1.2), tt)
 served_fine h b known c p q (Served.Creates s topic n kind id request consumer earliest replicated at is may named) =
     (name_short n (middle (bytes_eq topic h.topic) (is_name n) (has_room b n) may.0), tt)
 served_fine h b known c p q (Served.Acknowledges s id kind ps v i is ws at sent by of after) =
@@ -229,8 +225,8 @@ reads_fine h b known y q (Reads.Responds i e id source next of is) =
     let le = known.requests y i e id source (ltb-true _ _ (left (nat_lt y (length h.clusters)) (not (y == h.own)) next.0)) (remote_other h y next.0) next.2 of.1 is in
     let at = position_at b.ledgers (length b.entries - 1) in (
       (λ _.
-      marker_fits h.clusters h b (marker.Response id (record { cluster = place.Known h.own; position = at })) (targets.Only (2 ^ y)) (cluster_name h y ∷ [])
-      (one_target h.clusters y known.short) (response_most h.clusters id h.own at known.short le)),
+          marker_fits h.clusters h b (marker.Response id (record { cluster = place.Known h.own; position = at })) (targets.Only (2 ^ y)) (cluster_name h y ∷ [])
+          (one_target h.clusters y known.short) (response_most h.clusters id h.own at known.short le)),
       (tt, tt),
     )
 reads_fine h b known y q (Reads.Counts i e id answer u u' next is heard) = (tt, tt)
@@ -248,8 +244,8 @@ reads_fine h b known y q (Reads.Completes i e id answer u u' next is heard) =
     let few = known.few in
     let places = made.places in (
       (λ _.
-      marker_fits h.clusters h b (marker.Snapshot u'.id u'.cut.local (named u'.cut)) (targets.Only (2 ^ h.own)) (cluster_name h h.own ∷ [])
-      (one_target h.clusters h.own known.short) (snapshot_most h.clusters u'.id u'.cut known.short (omega (arith, le, size)) (omega (arith, few, places)))),
+          marker_fits h.clusters h b (marker.Snapshot u'.id u'.cut.local (named u'.cut)) (targets.Only (2 ^ h.own)) (cluster_name h h.own ∷ [])
+          (one_target h.clusters h.own known.short) (snapshot_most h.clusters u'.id u'.cut known.short (omega (arith, le, size)) (omega (arith, few, places)))),
       (tt, tt),
     )
 reads_fine h b known y q (Reads.CreatesAt i j e n remote next is named) = (name_short n (left (is_name n) (has_room b n) is.3), (tt, (tt, tt)))

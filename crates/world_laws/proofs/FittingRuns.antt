@@ -1,16 +1,14 @@
 -- In every world of a short run each own entry is small enough for a link, where names of clusters are short and there are few.
-use Rattle.std.proofs.Common.{◌≡◌, ℕ, zero, suc, ◌*◌, ◌<◌, ◌≤◌, Bool, true, false, List, [], ◌∷◌, ◌++◌, length, map, refl, sym, ap, subst, ◌∙◌, ◌==◌, arith, inl, inr}
-use Rattle.std.specs.Prelude.{Option, Some, None, if◌then◌else◌, not, slice_get, slice_index_or, take}
+use Rattle.std.proofs.Common.{◌≡◌, ℕ, ◌*◌, ◌<◌, ◌≤◌, List, [], ◌∷◌, ◌++◌, length, map, sym, ap, subst, ◌∙◌, arith, inl, inr}
+use Rattle.std.specs.Prelude.{Option, Some, None, not, slice_get, slice_index_or, take}
 use Rattle.std.specs.Str.{bytes_eq}
 use Rattle.std.proofs.lemmas.List.{get_or-replicate, get_or_past}
 use Rattle.std.proofs.lemmas.Option.{none-some, slice_get_within}
-use Rattle.world_laws.proofs.Types.{CachedSnapshot, Change, Entry, Place, SubKind, Write}
+use Rattle.world_laws.proofs.Types.{CachedSnapshot, Change, Entry, Write}
 use Rattle.world_laws.proofs.Types.change
-use Rattle.world_laws.proofs.Types.content
-use Rattle.world_laws.proofs.Types.marker
 use Rattle.world_laws.proofs.Types.write
-use Rattle.geo_base.specs.Broker.{Broker, Site, changed, cluster_name, new_broker, no_broker, written}
-use Rattle.geo_base.specs.Builder.{second_id, snapshot_id}
+use Rattle.geo_base.specs.Broker.{Broker, Site, changed, new_broker, no_broker, written}
+use Rattle.geo_base.specs.Builder.{snapshot_id}
 use Rattle.geo_base.specs.Cache.{cached}
 use Rattle.geo_base.specs.Client.{Acted}
 use Rattle.geo_base.specs.Dispatcher.{given, passed_index}
@@ -28,20 +26,18 @@ use Rattle.geo_base.specs.Topic.{position_at}
 use Rattle.geo_base.specs.World.{LinkName, ToClient, World, node, opening_world, site, topic_at}
 use Rattle.world_laws.proofs.Answering.{Numbered, RequestAt}
 use Rattle.world_laws.proofs.Appends.{after_writes, all_changed_entries, written_entries}
-use Rattle.world_laws.proofs.Asked.{Asked, Knowing, Named, Standing, knowing_kept, named, telling}
+use Rattle.world_laws.proofs.Asked.{Knowing, knowing_kept, named, telling}
 use Rattle.world_laws.proofs.Building.{CacheChange, building_caches, shape_building}
 use Rattle.world_laws.proofs.Caches.{AllCached, Brings, all_changed_cached, all_written_cached}
 use Rattle.world_laws.proofs.ClientRoams.{all_index}
 use Rattle.world_laws.proofs.Effects.{Each, each_both, each_map, each_take}
 use Rattle.world_laws.proofs.FineWrites.{FineWrite, HasShortName, IsNarrow, Known, name_short, shape_fine, snapshot_narrow}
 use Rattle.world_laws.proofs.Fitting.{Fits, FitsAt}
-use Rattle.world_laws.proofs.Ids.{IsSmall}
 use Rattle.world_laws.proofs.Layers.{Both, Everywhere, both_kept, one_node}
 use Rattle.world_laws.proofs.Ledgers.{at_index}
 use Rattle.world_laws.proofs.Making.{Telling}
 use Rattle.world_laws.proofs.Measures.{AreShort, id_short, second_short}
 use Rattle.world_laws.proofs.Members.{below_or, get_push}
-use Rattle.world_laws.proofs.NoSelf.{NoSelf}
 use Rattle.world_laws.proofs.Order.{of_source}
 use Rattle.world_laws.proofs.PairRoles.{shape_within}
 use Rattle.world_laws.proofs.PeerWalk.{each_filter}

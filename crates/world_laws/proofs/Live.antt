@@ -1,37 +1,36 @@
 -- The session that settling begins lives until all is quiet: it is asked for, then it is answered, then it runs. The facts are of
 -- five values of a pair of clusters: the sender at x, the session that is open at y, both links, and the topic's name.
-use Rattle.std.proofs.Common.{◌≡◌, ℕ, zero, suc, ◌+◌, ◌<◌, ◌≤◌, Bool, true, false, List, [], ◌∷◌, ◌++◌, length, refl, sym, ap, subst, ◌∙◌, ◌==◌, arith, inl, inr, ◌⊎◌, length-append}
-use Rattle.std.specs.Prelude.{Option, Some, None, ◌&&◌, if◌then◌else◌, slice_get, min, nat_le}
+use Rattle.std.proofs.Common.{◌≡◌, ℕ, ◌+◌, ◌<◌, ◌≤◌, Bool, true, false, List, [], ◌∷◌, length, refl, sym, ap, subst, ◌∙◌, ◌==◌, arith, inl, inr, ◌⊎◌, length-append}
+use Rattle.std.specs.Prelude.{Option, Some, ◌&&◌, slice_get, nat_le}
 use Rattle.std.specs.Str.{bytes_eq}
 use Rattle.std.proofs.lemmas.Bool.{eqb-true, eq-eqb, eqb-false, false≢true}
 use Rattle.std.proofs.lemmas.Bool.Decides.{nat_tests}
-use Rattle.std.proofs.lemmas.Option.{none-some, same_Some, slice_get_within}
+use Rattle.std.proofs.lemmas.Option.{same_Some, slice_get_within}
 use Rattle.std.proofs.lemmas.Slice.Eq.{bytes_eq-Decides}
-use Rattle.world_laws.proofs.Types.{Entry, Frame, Out, Packet, Pending, Place, Position, SenderState}
+use Rattle.world_laws.proofs.Types.{Entry, Frame, Out, Packet, Pending, Place, Position}
 use Rattle.world_laws.proofs.Types.frame
 use Rattle.world_laws.proofs.Types.peer
 use Rattle.world_laws.proofs.Types.place
 use Rattle.world_laws.proofs.Types.sender_state
-use Rattle.geo_base.specs.Broker.{Broker, Site, receiver_at, sender_at}
-use Rattle.geo_base.specs.Cursor.{has, with_index}
+use Rattle.geo_base.specs.Broker.{Broker, Site, receiver_at}
+use Rattle.geo_base.specs.Cursor.{has}
 use Rattle.geo_base.specs.Forwarding.{link_producer}
 use Rattle.geo_base.specs.Link.{Link, next_packet, sent_on, took}
 use Rattle.geo_base.specs.Plan.{Plan}
 use Rattle.geo_base.specs.Position.{nowhere}
-use Rattle.geo_base.specs.Receiver.{is_from, is_open}
-use Rattle.geo_base.specs.Sender.{Sender, pending_index, sender_sent, without_number}
+use Rattle.geo_base.specs.Receiver.{is_open}
+use Rattle.geo_base.specs.Sender.{Sender}
 use Rattle.geo_base.specs.Sizes.{entry_size, most_entry_size}
 use Rattle.geo_base.specs.Topic.{next_position}
 use Rattle.geo_base.specs.World.{stamped}
-use Rattle.world_laws.proofs.Awaited.{Differ, Lacks, awaited_found, awaited_index, push_differ, without_differ, without_gone, without_keeps, without_less}
-use Rattle.world_laws.proofs.Cursors.{has_it, has_more}
-use Rattle.world_laws.proofs.Effects.{Each, session_then, sender_after, sender_then}
+use Rattle.world_laws.proofs.Awaited.{Differ}
+use Rattle.world_laws.proofs.Effects.{Each, session_then}
 use Rattle.world_laws.proofs.Members.{Stands, get_last, get_push}
 use Rattle.world_laws.proofs.Packets.{Receives}
 use Rattle.world_laws.proofs.SenderEvents.{chosen}
-use Rattle.world_laws.proofs.SessionFacts.{forgetful, pending_is}
-use Rattle.world_laws.proofs.Shapes.{Answered, InLink, Taken, is_answer, is_opening, may_store}
-use Rattle.world_laws.proofs.Waiting.{AllSent, Comes, Waiting, all_sent, more_sent, new_waits, next_waits, sent_comes, sent_waits, still_comes, still_waits, took_waits, waits_sent}
+use Rattle.world_laws.proofs.SessionFacts.{forgetful}
+use Rattle.world_laws.proofs.Shapes.{Taken, is_opening, may_store}
+use Rattle.world_laws.proofs.Waiting.{AllSent, Comes, Waiting, all_sent, more_sent, new_waits, next_waits, sent_comes, still_waits, took_waits}
 
 -- the packet that opens session m, its answer, and a SEND of it from x under a number
 pub record IsOpening (topic : List ℕ) (m : ℕ) (p : Packet) : Type 0 where
@@ -52,8 +51,9 @@ pub record IsSent (x m n : ℕ) (p : Packet) : Type 0 where
   pub entry : Entry
   pub is : p.frame ≡ frame.Send id n (Some (place.Known x)) entry
 
-pub record IsReceived (m n : ℕ) (p : Packet) : Type 0 where
-  pub receives : Receives p m n
+-- and a receipt of it for a number
+abbrev pub IsReceiptOf : ℕ → ℕ → Packet → Type 0
+IsReceiptOf m n p = Receives p m n
 
 -- a sender that waits for its session
 pub record IsFresh (s : Sender) : Type 0 where
@@ -95,7 +95,7 @@ pub record Running (x : ℕ) (s : Sender) (r : Option ℕ) (f k : Link) : Type 0
   pub sends : (u : Packet) → Waiting f u → (n : ℕ) × IsSent x s.session n u
   pub differ : Differ s.pending
   pub below : (d : Pending) → Stands s.pending d → d.number < s.next
-  pub awaited : (d : Pending) → Stands s.pending d → Comes f (IsSent x s.session d.number) ⊎ Comes k (IsReceived s.session d.number)
+  pub awaited : (d : Pending) → Stands s.pending d → Comes f (IsSent x s.session d.number) ⊎ Comes k (IsReceiptOf s.session d.number)
   pub read : (j : ℕ) → j < s.read_index → (has s.cursor j ≡ true) ⊎ IsAwaited s j
 
 pub data Live (x : ℕ) (topic : List ℕ) (s : Sender) (r : Option ℕ) (f k : Link) : Type 0 where
@@ -103,8 +103,8 @@ pub data Live (x : ℕ) (topic : List ℕ) (s : Sender) (r : Option ℕ) (f k : 
   Opens : Opening s r f k → Live x topic s r f k
   Runs : Running x s r f k → Live x topic s r f k
 
--- kinds of frames are told apart
-abbrev kind : Frame → ℕ
+-- kinds of frames are told apart, and two frames that are one have one number
+abbrev pub kind : Frame → ℕ
 kind (frame.Send id n source e) = 1
 kind (frame.Producer topic id request name) = 2
 kind (frame.ProducerSuccess request name) = 3
@@ -112,16 +112,16 @@ kind (frame.SendReceipt id n position) = 4
 kind frame.Unreadable = 5
 kind f = 0
 
-other_kind : (f g h : Frame) → f ≡ g → f ≡ h → (kind g ≡ kind h → ⊥) → ⊥
+pub other_kind : (f g h : Frame) → f ≡ g → f ≡ h → (kind g ≡ kind h → ⊥) → ⊥
 other_kind f g h a b other = other (sym (ap kind a) ∙ ap kind b)
 
-abbrev number_of : Frame → ℕ
+abbrev pub number_of : Frame → ℕ
 number_of (frame.Send id n source e) = n
 number_of (frame.Producer topic id request name) = id
 number_of (frame.SendReceipt id n position) = n
 number_of f = 0
 
-same_number : (f g h : Frame) → f ≡ g → f ≡ h → number_of g ≡ number_of h
+pub same_number : (f g h : Frame) → f ≡ g → f ≡ h → number_of g ≡ number_of h
 same_number f g h a b = sym (ap number_of a) ∙ ap number_of b
 
 -- RESET
@@ -242,10 +242,10 @@ receipt_goes x s r f k p n seq position stamp o next le sent session is number h
     reply = stamped stamp o
 
     awaited : (d : Pending) → Stands s.pending d
-        → Comes (took f) (IsSent x s.session d.number) ⊎ Comes (sent_on k (stamped stamp o)) (IsReceived s.session d.number)
+        → Comes (took f) (IsSent x s.session d.number) ⊎ Comes (sent_on k (stamped stamp o)) (IsReceiptOf s.session d.number)
     awaited d stands =
         elim (h.awaited d stands) [
-          | inr c ↦ inr (sent_comes k (IsReceived s.session d.number) reply c)
+          | inr c ↦ inr (sent_comes k (IsReceiptOf s.session d.number) reply c)
           | inl c ↦ elim (still_waits f p c.packet next c.waits) [
             | inr w ↦ inl (record { packet = c.packet; waits = w; is = c.is })
             | inl one ↦
@@ -255,7 +255,7 @@ receipt_goes x s r f k p n seq position stamp o next le sent session is number h
                 (record {
                   packet = reply;
                   waits = new_waits k reply le;
-                  is = record { receives = record { session = session; id = p.session; position = position; is = subst R (number ∙ mine) is } };
+                  is = record { session = session; id = p.session; position = position; is = subst R (number ∙ mine) is };
                 })
           ]
         ]

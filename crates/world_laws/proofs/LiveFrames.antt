@@ -4,8 +4,7 @@ use Rattle.std.proofs.Common.{◌≡◌, ℕ, ◌<◌, Bool, true, false, List, 
 use Rattle.std.specs.Prelude.{Option, Some, None, ◌&&◌, if◌then◌else◌, slice_index_or, slice_set}
 use Rattle.std.proofs.lemmas.Bool.{eqb-true, eq-eqb, false≢true}
 use Rattle.std.proofs.lemmas.List.{get_or-set_same}
-use Rattle.world_laws.proofs.Types.{Change, Out, Packet, Peer, Write}
-use Rattle.world_laws.proofs.Types.change
+use Rattle.world_laws.proofs.Types.{Out, Packet, Peer, Write}
 use Rattle.world_laws.proofs.Types.peer
 use Rattle.world_laws.proofs.Types.write
 use Rattle.geo_base.specs.Broker.{Broker, Site, no_broker, receiver_at, sender_at}
@@ -64,15 +63,15 @@ by_pair s u v z t x y lv lx G here elsewhere =
     subst (λ (c : ℕ). G t x c) one (subst (λ (b : ℕ). G t b z) same.1 (subst (λ (a : ℕ). G a v z) same.0 here)))
     elsewhere
 
-it_is : (a b : Bool) → a ≡ true → b ≡ true → (a && b) ≡ false → ⊥
-it_is true b h k other = false≢true (sym other ∙ k)
-it_is false b h k other = false≢true h
+not_both : (a b : Bool) → a ≡ true → b ≡ true → (a && b) ≡ false → ⊥
+not_both true b h k other = false≢true (sym other ∙ k)
+not_both false b h k other = false≢true h
 
 -- LINKS
 
 other_cell : (m : List (List Link)) (i v x y : ℕ) (l : Link) → ((i == x) && (v == y)) ≡ false → cell (with_cell m i v l) x y ≡ cell m x y
 other_cell m i v x y l other =
-    cell_set (λ (k : Link). k ≡ cell m x y) m i v l x y (λ h k. absurd (it_is (i == x) (v == y) (eq-eqb i x h) (eq-eqb v y k) other)) refl
+    cell_set (λ (k : Link). k ≡ cell m x y) m i v l x y (λ h k. absurd (not_both (i == x) (v == y) (eq-eqb i x h) (eq-eqb v y k) other)) refl
 
 with_other : (ls : Links) (j : LinkName) (l : Link) (k : LinkName) → same_link j k ≡ false → link_at (with_link ls j l) k ≡ link_at ls k
 with_other ls (Forward n y) l (Forward m z) other = other_cell ls.forward n y m z l other
@@ -236,7 +235,7 @@ outward_else s w p z stamp t x y o forward back sized lt pair other live =
     (link_at w.links (Back (node s t x) y)) _
     (sender_kept s w p t x y sized (lt, pair.0) pair.1
     (λ is.
-    let apart : z ≡ y → ⊥ = λ one. it_is (node s p.topic p.cluster == node s t x) (z == y) (eq-eqb _ _ is) (eq-eqb z y one) other in (
+    let apart : z ≡ y → ⊥ = λ one. not_both (node s p.topic p.cluster == node s t x) (z == y) (eq-eqb _ _ is) (eq-eqb z y one) other in (
       each_map (OutgoingWrite p.cluster z) (LeavesCursor y) (out_write p.cluster y z apart) p.plan.writes o.writes,
       each_map (OutgoingChange z) (LeavesSender y) (out_change y z apart) p.plan.changes o.changes,
     )))
@@ -282,7 +281,7 @@ inward_else s w p z stamp t x y i takes sized lt pair within other live =
     (λ is.
     let same = same_node s p.topic t p.cluster y within pair.1 is in
     let apart : z ≡ x → ⊥ = λ one.
-    it_is (node s p.topic z == node s t x) (p.cluster == y) (eq-eqb _ _ (ap (λ (k : ℕ). node s k z) same.0 ∙ ap (node s t) one)) (eq-eqb p.cluster y same.1) other in
+    not_both (node s p.topic z == node s t x) (p.cluster == y) (eq-eqb _ _ (ap (λ (k : ℕ). node s k z) same.0 ∙ ap (node s t) one)) (eq-eqb p.cluster y same.1) other in
     each_map (IncomingChange z) (LeavesSession x) (from_change x z apart) p.plan.changes i.changes))
     (taken_other p.takes (after_sent s w p stamp) (Forward (node s t x) y)
     (subst (λ (k : Option LinkName). TakesOther k (Forward (node s t x) y)) (sym takes) other)

@@ -1,21 +1,20 @@
 -- Each session that settling began lives on, whatever event of a round is done.
-use Rattle.std.proofs.Common.{◌≡◌, ℕ, ◌+◌, ◌<◌, ◌≤◌, Bool, true, false, List, [], ◌∷◌, length, refl, sym, ap, subst, ◌∙◌, ◌==◌, arith}
-use Rattle.std.specs.Prelude.{Option, Some, None, ◌&&◌, if◌then◌else◌, nat_le, slice_get}
+use Rattle.std.proofs.Common.{◌≡◌, ℕ, ◌<◌, true, false, List, length, refl, sym, ap, subst, ◌∙◌}
+use Rattle.std.specs.Prelude.{Option, Some, None}
 use Rattle.std.proofs.lemmas.Bool.{eqb-false, eqb-true, false≢true, le-leb}
-use Rattle.world_laws.proofs.Types.{Entry, Event, Out, Packet, Place}
+use Rattle.world_laws.proofs.Types.{Event, Out, Packet}
 use Rattle.world_laws.proofs.Types.event
 use Rattle.world_laws.proofs.Types.fate
-use Rattle.world_laws.proofs.Types.frame
 use Rattle.geo_base.specs.Broker.{receiver_at, sender_at}
-use Rattle.geo_base.specs.Forwarding.{receipt, receipt_packet, take_frame, take_packet}
-use Rattle.geo_base.specs.Happening.{broker_does, does_planned, happens, next_stamp}
+use Rattle.geo_base.specs.Forwarding.{receipt, take_packet}
+use Rattle.geo_base.specs.Happening.{broker_does, does_planned, happens}
 use Rattle.geo_base.specs.Laws.{ArePair}
 use Rattle.geo_base.specs.Link.{Link, next_packet, took}
 use Rattle.geo_base.specs.Plan.{Plan}
 use Rattle.geo_base.specs.Planned.{Planned, in_range, planned, planned_in}
 use Rattle.geo_base.specs.Reading.{read}
 use Rattle.geo_base.specs.Setup.{Setup, topic_name}
-use Rattle.geo_base.specs.World.{Back, Forward, Links, World, delivered, from_broker, link_at, node, site, taken_from, topic_at}
+use Rattle.geo_base.specs.World.{Back, Forward, World, from_broker, link_at, node, site, taken_from, topic_at}
 use Rattle.world_laws.proofs.Backs.{Backs}
 use Rattle.world_laws.proofs.Effects.{sender_after, sender_then}
 use Rattle.world_laws.proofs.Fitting.{Fits}
@@ -24,10 +23,9 @@ use Rattle.world_laws.proofs.LinkFrames.{pushed}
 use Rattle.world_laws.proofs.LinkTables.{delivered_has}
 use Rattle.world_laws.proofs.LinkWalk.{frame_taken, packet_answered}
 use Rattle.world_laws.proofs.Live.{FitsLink, Live, live_takes}
-use Rattle.world_laws.proofs.LiveFrames.{LiveAt, LiveIn, after_done, after_sent, by_pair, delivered_other, inward_else, inward_here, is_it, outs_back, outward_else, outward_here, taken_one}
+use Rattle.world_laws.proofs.LiveFrames.{LiveAt, LiveIn, after_done, after_sent, by_pair, delivered_other, inward_else, inward_here, outs_back, outward_else, outward_here, taken_one}
 use Rattle.world_laws.proofs.LiveSender.{live_answered, live_reads}
 use Rattle.world_laws.proofs.Lowering.{InRound, IsPair}
-use Rattle.world_laws.proofs.PairFacts.{IsPlaced}
 use Rattle.world_laws.proofs.Packets.{IsSend}
 use Rattle.world_laws.proofs.Pairs.{Replicates}
 use Rattle.world_laws.proofs.Prefixes.{of_out}
@@ -47,10 +45,6 @@ Lives s w = (t x y : ℕ) → t < length s.topics → ArePair s x y → LiveIn s
 
 pub are_pair : (s : Setup) (t x y : ℕ) → IsPair s t x y → ArePair s x y
 are_pair s t x y p = (p.source, p.target, eqb-false x y p.other)
-
--- one pair's session, before and after
-abbrev Lasts : Setup → World → World → ℕ → ℕ → ℕ → Type 0
-Lasts s w v t x y = t < length s.topics → ArePair s x y → LiveIn s w t x y → LiveIn s v t x y
 
 -- what an event that is done comes to
 done_lasts : (s : Setup) (w : World) (p : Planned) (t x y : ℕ) → LiveIn s w t x y

@@ -1,13 +1,12 @@
 -- What the sender's own events do to its session: receipts and reads.
-use Rattle.std.proofs.Common.{◌≡◌, ℕ, zero, suc, ◌+◌, ◌-◌, ◌<◌, ◌≤◌, Bool, true, false, List, [], ◌∷◌, ◌++◌, length, refl, sym, ap, subst, ◌∙◌, ◌==◌, arith, inl, inr, ◌⊎◌}
-use Rattle.std.specs.Prelude.{Option, Some, None, if◌then◌else◌, nat_lt, slice_get}
+use Rattle.std.proofs.Common.{◌≡◌, ℕ, ◌+◌, ◌-◌, ◌<◌, ◌≤◌, Bool, true, false, List, [], ◌∷◌, ◌++◌, length, refl, sym, ap, subst, ◌∙◌, ◌==◌, arith, inl, inr, ◌⊎◌}
+use Rattle.std.specs.Prelude.{Option, Some, None, nat_lt}
 use Rattle.std.proofs.lemmas.Bool.{eqb-true, eq-eqb, eqb-false, false≢true, ltb-true}
 use Rattle.std.proofs.lemmas.Bool.Decides.{nat_tests}
-use Rattle.std.proofs.lemmas.Option.{none-some, same_Some, slice_get_within}
-use Rattle.world_laws.proofs.Types.{Change, Entry, Frame, Packet, Pending, Position, SenderState, Write}
+use Rattle.std.proofs.lemmas.Option.{none-some, slice_get_within}
+use Rattle.world_laws.proofs.Types.{Change, Entry, Packet, Pending, Position, SenderState, Write}
 use Rattle.world_laws.proofs.Types.change
 use Rattle.world_laws.proofs.Types.frame
-use Rattle.world_laws.proofs.Types.peer
 use Rattle.world_laws.proofs.Types.place
 use Rattle.world_laws.proofs.Types.sender_state
 use Rattle.world_laws.proofs.Types.sub_kind
@@ -22,16 +21,15 @@ use Rattle.geo_base.specs.Sender.{Sender, index_to_read, pending_index, sender_s
 use Rattle.geo_base.specs.Subscription.{Subscription}
 use Rattle.geo_base.specs.Updating.{handled, passed_over}
 use Rattle.world_laws.proofs.Awaited.{Differ, awaited_found, awaited_index, push_differ, without_differ, without_gone, without_keeps, without_less}
-use Rattle.world_laws.proofs.Cursors.{IsNextOpen, has_it, has_more, next_is}
+use Rattle.world_laws.proofs.Cursors.{has_it, has_more, next_is}
 use Rattle.world_laws.proofs.Effects.{Each, sender_after, sender_changed, sender_then, sender_written}
 use Rattle.world_laws.proofs.LinkFrames.{pushed}
-use Rattle.world_laws.proofs.Live.{Asking, IsAwaited, IsFresh, IsReceived, IsSent, IsSuccess, Live, Opening, Running}
+use Rattle.world_laws.proofs.Live.{Asking, IsAwaited, IsReceiptOf, IsSent, IsSuccess, Live, Opening, Running, other_kind, same_number}
 use Rattle.world_laws.proofs.Members.{Stands, get_push, stands_here, stands_left}
-use Rattle.world_laws.proofs.Packets.{Receives}
 use Rattle.world_laws.proofs.SenderEvents.{chosen, then_both}
-use Rattle.world_laws.proofs.SenderSide.{LeavesSender, left_all}
-use Rattle.world_laws.proofs.Shapes.{Answered, InLink, Reads, ReadsNext, Updates, is_answer}
-use Rattle.world_laws.proofs.Waiting.{Comes, Waiting, new_waits, sent_comes, sent_waits, still_comes, waits_sent}
+use Rattle.world_laws.proofs.SenderSide.{LeavesSender, left_all, not_it}
+use Rattle.world_laws.proofs.Shapes.{Answered, Reads, ReadsNext, Updates, is_answer}
+use Rattle.world_laws.proofs.Waiting.{Waiting, new_waits, sent_comes, still_comes, waits_sent}
 
 abbrev state_number : SenderState → ℕ
 state_number sender_state.Open = 1
@@ -41,18 +39,6 @@ state_number sender_state.Closed = 3
 other_state : (u v w : SenderState) → u ≡ v → u ≡ w → (state_number v ≡ state_number w → ⊥) → ⊥
 other_state u v w a b other = other (sym (ap state_number a) ∙ ap state_number b)
 
-abbrev kind : Frame → ℕ
-kind (frame.ProducerSuccess request name) = 1
-kind (frame.SendReceipt id n position) = 2
-kind f = 0
-
-other_kind : (f g h : Frame) → f ≡ g → f ≡ h → (kind g ≡ kind h → ⊥) → ⊥
-other_kind f g h a b other = other (sym (ap kind a) ∙ ap kind b)
-
-abbrev receipt_number : Frame → ℕ
-receipt_number (frame.SendReceipt id n position) = n
-receipt_number f = 0
-
 -- RECEIPT
 
 -- an answer that has no effect, as it is none of those under way
@@ -60,7 +46,7 @@ opening_waits : (s : Sender) (r : Option ℕ) (f k : Link) (p : Packet) → next
 opening_waits s r f k p next other o = record { fresh = o.fresh; open_there = o.open_there; taken = o.taken; success = still_comes k (IsSuccess s.session) p next other o.success }
 
 running_waits : (x : ℕ) (s : Sender) (r : Option ℕ) (f k : Link) (p : Packet) → next_packet k ≡ Some p
-    → ((d : Pending) → Stands s.pending d → IsReceived s.session d.number p → ⊥) → Running x s r f k → Running x s r f (took k)
+    → ((d : Pending) → Stands s.pending d → IsReceiptOf s.session d.number p → ⊥) → Running x s r f k → Running x s r f (took k)
 running_waits x s r f k p next other h = record {
   state = h.state;
   open_there = h.open_there;
@@ -70,14 +56,18 @@ running_waits x s r f k p next other h = record {
   awaited = λ d stands.
       elim (h.awaited d stands) [
         | inl c ↦ inl c
-        | inr c ↦ inr (still_comes k (IsReceived s.session d.number) p next (other d stands) c)
+        | inr c ↦ inr (still_comes k (IsReceiptOf s.session d.number) p next (other d stands) c)
       ];
   read = h.read;
 }
 
--- a stale packet and one that is no answer
-not_stale : (s : Sender) (p : Packet) (m : ℕ) → (p.session == s.session) ≡ false → m ≡ s.session → p.session ≡ m → ⊥
-not_stale s p m stale is same = false≢true (sym stale ∙ eq-eqb p.session s.session (same ∙ is))
+-- a stale packet is of another session
+not_stale : (s : Sender) (p : Packet) → (p.session == s.session) ≡ false → p.session ≡ s.session → ⊥
+not_stale s p stale same = false≢true (sym stale ∙ eq-eqb p.session s.session same)
+
+-- none comes back before the session is open
+none_current : (topic : List ℕ) (s : Sender) (f k : Link) (p : Packet) → next_packet k ≡ Some p → (p.session == s.session) ≡ true → Asking topic s f k → ⊥
+none_current topic s f k p next at a = let lt = a.back k.taken p next in let is = eqb-true p.session s.session at in omega (arith, lt, is)
 
 asking_answered : (x y : ℕ) (topic : List ℕ) (b : Broker) (r : Option ℕ) (f k : Link) (p : Packet) (q : Plan) → next_packet k ≡ Some p → Answered b y p q
     → Asking topic (sender_at b y) f k → Live x topic (sender_then y (sender_after y (sender_at b y) q.writes) q.changes) r f (took k)
@@ -94,20 +84,12 @@ asking_answered x y topic b r f k p q next (Answered.Stale other) a =
       before = a.before;
       back = a.back;
     })
-asking_answered x y topic b r f k p q next (Answered.Other at other) a = absurd (none_current b y k p topic f next at a)
-  where
-    none_current : (b : Broker) (y : ℕ) (k : Link) (p : Packet) (topic : List ℕ) (f : Link) → next_packet k ≡ Some p → InLink b y p → Asking topic (sender_at b y) f k → ⊥
-    none_current b y k p topic f next at a = let lt = a.back k.taken p next in let is = eqb-true p.session (sender_at b y).session at in omega (arith, lt, is)
-asking_answered x y topic b r f k p q next (Answered.Opened request name at is state) a =
-    let lt = a.back k.taken p next in let same = eqb-true p.session (sender_at b y).session at in absurd (omega (arith, lt, same))
-asking_answered x y topic b r f k p q next (Answered.OpenBefore request name at is state) a =
-    let lt = a.back k.taken p next in let same = eqb-true p.session (sender_at b y).session at in absurd (omega (arith, lt, same))
-asking_answered x y topic b r f k p q next (Answered.ClosedBefore request name at is state) a =
-    let lt = a.back k.taken p next in let same = eqb-true p.session (sender_at b y).session at in absurd (omega (arith, lt, same))
-asking_answered x y topic b r f k p q next (Answered.Received id n i position at is pending) a =
-    let lt = a.back k.taken p next in let same = eqb-true p.session (sender_at b y).session at in absurd (omega (arith, lt, same))
-asking_answered x y topic b r f k p q next (Answered.ReceivedBefore id n position at is pending) a =
-    let lt = a.back k.taken p next in let same = eqb-true p.session (sender_at b y).session at in absurd (omega (arith, lt, same))
+asking_answered x y topic b r f k p q next (Answered.Other at other) a = absurd (none_current topic (sender_at b y) f k p next at a)
+asking_answered x y topic b r f k p q next (Answered.Opened request name at is state) a = absurd (none_current topic (sender_at b y) f k p next at a)
+asking_answered x y topic b r f k p q next (Answered.OpenBefore request name at is state) a = absurd (none_current topic (sender_at b y) f k p next at a)
+asking_answered x y topic b r f k p q next (Answered.ClosedBefore request name at is state) a = absurd (none_current topic (sender_at b y) f k p next at a)
+asking_answered x y topic b r f k p q next (Answered.Received id n i position at is pending) a = absurd (none_current topic (sender_at b y) f k p next at a)
+asking_answered x y topic b r f k p q next (Answered.ReceivedBefore id n position at is pending) a = absurd (none_current topic (sender_at b y) f k p next at a)
 
 -- the answer comes: the session runs, and nothing is read or awaited yet
 begins_running : (x : ℕ) (s : Sender) (r : Option ℕ) (f k : Link) → Opening s r f k → Running x (record s { state = sender_state.Open }) r f (took k)
@@ -130,7 +112,7 @@ begins_running x s r f k o = record {
 opening_answered : (x y : ℕ) (topic : List ℕ) (b : Broker) (r : Option ℕ) (f k : Link) (p : Packet) (q : Plan) → next_packet k ≡ Some p → Answered b y p q
     → Opening (sender_at b y) r f k → Live x topic (sender_then y (sender_after y (sender_at b y) q.writes) q.changes) r f (took k)
 opening_answered x y topic b r f k p q next (Answered.Stale other) o =
-    Live.Opens (opening_waits (sender_at b y) r f k p next (λ is. not_stale (sender_at b y) p (sender_at b y).session other refl is.session) o)
+    Live.Opens (opening_waits (sender_at b y) r f k p next (λ is. not_stale (sender_at b y) p other is.session) o)
 opening_answered x y topic b r f k p q next (Answered.Other at other) o =
     Live.Opens (opening_waits (sender_at b y) r f k p next (λ is. false≢true (sym other ∙ ap is_answer is.is)) o)
 opening_answered x y topic b r f k p q next (Answered.Opened request name at is state) o =
@@ -159,7 +141,7 @@ running_received x s r f k p id n i position next is pending h = record {
   awaited = λ d stands.
       elim (h.awaited d (without_less s.pending n d stands)) [
         | inl c ↦ inl c
-        | inr c ↦ inr (still_comes k (IsReceived s.session d.number) p next (λ got. without_gone s.pending n h.differ d stands (sym (number d got))) c)
+        | inr c ↦ inr (still_comes k (IsReceiptOf s.session d.number) p next (λ got. without_gone s.pending n h.differ d stands (sym (number d got))) c)
       ];
   read = λ j lt.
       elim (h.read j lt) [
@@ -168,8 +150,8 @@ running_received x s r f k p id n i position next is pending h = record {
       ];
 }
   where
-    number : (d : Pending) → IsReceived s.session d.number p → n ≡ d.number
-    number d got = sym (ap receipt_number is) ∙ ap receipt_number got.receives.is
+    number : (d : Pending) → IsReceiptOf s.session d.number p → n ≡ d.number
+    number d got = same_number p.frame _ _ is got.is
 
     by : (j : ℕ) (w : IsAwaited s j) → (b : Bool) → (w.element.number == n) ≡ b
         → (has (with_index s.cursor i) j ≡ true) ⊎ IsAwaited (record s { cursor = with_index s.cursor i; pending = without_number s.pending n }) j
@@ -181,13 +163,13 @@ running_received x s r f k p id n i position next is pending h = record {
 running_answered : (x y : ℕ) (topic : List ℕ) (b : Broker) (r : Option ℕ) (f k : Link) (p : Packet) (q : Plan) → next_packet k ≡ Some p → Answered b y p q
     → Running x (sender_at b y) r f k → Live x topic (sender_then y (sender_after y (sender_at b y) q.writes) q.changes) r f (took k)
 running_answered x y topic b r f k p q next (Answered.Stale other) h =
-    Live.Runs (running_waits x (sender_at b y) r f k p next (λ d stands got. not_stale (sender_at b y) p (sender_at b y).session other refl got.receives.session) h)
+    Live.Runs (running_waits x (sender_at b y) r f k p next (λ d stands got. not_stale (sender_at b y) p other got.session) h)
 running_answered x y topic b r f k p q next (Answered.Other at other) h =
-    Live.Runs (running_waits x (sender_at b y) r f k p next (λ d stands got. false≢true (sym other ∙ ap is_answer got.receives.is)) h)
+    Live.Runs (running_waits x (sender_at b y) r f k p next (λ d stands got. false≢true (sym other ∙ ap is_answer got.is)) h)
 running_answered x y topic b r f k p q next (Answered.Opened request name at is state) h =
     absurd (other_state (sender_at b y).state _ _ state h.state (λ e. omega (arith, e)))
 running_answered x y topic b r f k p q next (Answered.OpenBefore request name at is state) h =
-    Live.Runs (running_waits x (sender_at b y) r f k p next (λ d stands got. other_kind p.frame _ _ is got.receives.is (λ e. omega (arith, e))) h)
+    Live.Runs (running_waits x (sender_at b y) r f k p next (λ d stands got. other_kind p.frame _ _ is got.is (λ e. omega (arith, e))) h)
 running_answered x y topic b r f k p q next (Answered.ClosedBefore request name at is state) h =
     absurd (other_state (sender_at b y).state _ _ state h.state (λ e. omega (arith, e)))
 running_answered x y topic b r f k p q next (Answered.Received id n i position at is pending) h =
@@ -200,7 +182,7 @@ running_answered x y topic b r f k p q next (Answered.Received id n i position a
 running_answered x y topic b r f k p q next (Answered.ReceivedBefore id n position at is pending) h =
     Live.Runs
     (running_waits x (sender_at b y) r f k p next
-    (λ d stands got. awaited_found (sender_at b y).pending n d stands (sym (ap receipt_number got.receives.is) ∙ ap receipt_number is) pending) h)
+    (λ d stands got. awaited_found (sender_at b y).pending n d stands (same_number p.frame _ _ got.is is) pending) h)
 
 pub live_answered : (x y : ℕ) (topic : List ℕ) (b : Broker) (r : Option ℕ) (f k : Link) (p : Packet) (q : Plan) → next_packet k ≡ Some p → Answered b y p q
     → Live x topic (sender_at b y) r f k → Live x topic (sender_then y (sender_after y (sender_at b y) q.writes) q.changes) r f (took k)
@@ -215,13 +197,6 @@ abbrev pub LeavesCursor : ℕ → Write → Type 0
 LeavesCursor y (write.SenderAck z i) = z ≡ y → ⊥
 LeavesCursor y (write.SessionNumber z n) = z ≡ y → ⊥
 LeavesCursor y w = Unit {0}
-
-not_it : (z y : ℕ) (s t : Sender) → (z ≡ y → ⊥) → (if z == y then t else s) ≡ s
-not_it z y s t other = by (z == y) refl
-  where
-    by : (b : Bool) → (z == y) ≡ b → (if b then t else s) ≡ s
-    by true e = absurd (other (eqb-true z y e))
-    by false e = refl
 
 left_write : (y : ℕ) (s : Sender) (w : Write) → LeavesCursor y w → sender_written y s w ≡ s
 left_write y s (write.SenderAck z i) h = not_it z y s _ h

@@ -2,20 +2,19 @@
 use Rattle.std.proofs.Common.{◌≡◌, ℕ, zero, suc, ◌+◌, ◌<◌, ◌≤◌, Bool, true, false, List, [], ◌∷◌, ◌++◌, length, refl, sym, ap, subst, ◌∙◌, ◌==◌, arith, inl, inr, ◌⊎◌}
 use Rattle.std.specs.Prelude.{Option, Some, None, ◌&&◌, if◌then◌else◌, nat_lt, not, slice_get}
 use Rattle.std.specs.List.{range_with_len}
-use Rattle.std.proofs.lemmas.Bool.{eqb-true, eqb-false, eq-eqb, lt-ltb}
+use Rattle.std.proofs.lemmas.Bool.{eqb-true, eqb-false, lt-ltb}
 use Rattle.std.proofs.lemmas.Bool.Decides.{nat_tests}
 use Rattle.std.proofs.lemmas.Option.{none-some, same_Some}
 use Rattle.world_laws.proofs.Types.{Event, Packet}
 use Rattle.world_laws.proofs.Types.event
 use Rattle.world_laws.proofs.Types.frame
-use Rattle.world_laws.proofs.Types.sender_state
 use Rattle.geo_base.specs.Broker.{receiver_at, sender_at}
 use Rattle.geo_base.specs.Forwarding.{is_remote, link_producer, reset, resets}
 use Rattle.geo_base.specs.Happening.{broker_does, does_planned, happens}
 use Rattle.geo_base.specs.Laws.{ArePair}
 use Rattle.geo_base.specs.Link.{Link, sent_on}
 use Rattle.geo_base.specs.Plan.{Plan, idle_plan}
-use Rattle.geo_base.specs.Planned.{Planned, has_node, has_pair, in_range, planned, planned_in}
+use Rattle.geo_base.specs.Planned.{Planned, has_pair, in_range, planned, planned_in}
 use Rattle.geo_base.specs.Run.{Pair, all_settle, no_limits, pairs, pairs_from, pairs_of, pairs_to, resets_of}
 use Rattle.geo_base.specs.Sender.{Sender}
 use Rattle.geo_base.specs.Setup.{Setup, topic_name}
@@ -33,7 +32,6 @@ use Rattle.world_laws.proofs.Reach.{Outgoing, resets_out}
 use Rattle.world_laws.proofs.Rounds.{after, at}
 use Rattle.world_laws.proofs.Runs.{IsKept, event_done}
 use Rattle.world_laws.proofs.SenderEvents.{chosen, reset_sender}
-use Rattle.world_laws.proofs.SessionFacts.{forgetful}
 use Rattle.world_laws.proofs.Walk.{on_true}
 
 pub ground_kept : (s : Setup) → IsKept s (Ground s)

@@ -1,15 +1,15 @@
 -- How large an own marker may be: all that it is made of are numbers, names, an id and positions, so it is far below the largest
 -- entry that a receiving side stores.
-use Rattle.std.proofs.Common.{◌≡◌, ℕ, zero, suc, ◌+◌, ◌*◌, ◌<◌, ◌≤◌, ◌^◌, Bool, true, false, List, [], ◌∷◌, ◌++◌, length, refl, sym, ap, subst, ◌∙◌, arith, length-append}
-use Rattle.std.specs.Prelude.{Option, Some, None, ◌/◌, if◌then◌else◌, nat_lt, decimal, slice_index_or}
+use Rattle.std.proofs.Common.{◌≡◌, ℕ, zero, suc, ◌+◌, ◌*◌, ◌<◌, ◌≤◌, ◌^◌, List, [], ◌∷◌, ◌++◌, length, refl, arith, length-append}
+use Rattle.std.specs.Prelude.{Option, Some, None, ◌/◌, nat_lt, decimal, slice_index_or}
 use Rattle.std.proofs.lemmas.Fmt.{length-decimal-le}
-use Rattle.world_laws.proofs.Types.{ClusterPosition, Cut, Marker, Place, Position, Targets}
+use Rattle.world_laws.proofs.Types.{Cut, Marker, Position, Targets}
 use Rattle.world_laws.proofs.Types.marker
 use Rattle.world_laws.proofs.Types.place
 use Rattle.geo_base.specs.Broker.{Broker, Site}
 use Rattle.geo_base.specs.Builder.{named, named_from, second_id, snapshot_id}
 use Rattle.geo_base.specs.Entry.{marker_producer}
-use Rattle.geo_base.specs.Sizes.{bytes_field, cluster_position_size, cluster_positions, entry_size, marker_size, marker_type, metadata_size, most_entry_size, number_field, place_name, position_size, repeated_text, tag_size, text_field, varint_groups, varint_size}
+use Rattle.geo_base.specs.Sizes.{bytes_field, cluster_position_size, cluster_positions, entry_size, marker_size, marker_type, most_entry_size, number_field, position_size, repeated_text, varint_groups, varint_size}
 use Rattle.geo_base.specs.Storing.{own_marker}
 use Rattle.geo_base.specs.Topic.{next_marker}
 use Rattle.world_laws.proofs.Ids.{IsSmall}

@@ -5,7 +5,7 @@ use Rattle.std.specs.List.{list_all}
 use Rattle.std.proofs.lemmas.Bool.{eqb-true, false≢true}
 use Rattle.std.proofs.lemmas.Bool.Decides.{nat_tests}
 use Rattle.std.proofs.lemmas.Option.{none-some, same_Some}
-use Rattle.world_laws.proofs.Types.{Builder, ClusterPosition, Content, Entry, Event, Marker, Packet, Progress, SenderState}
+use Rattle.world_laws.proofs.Types.{Builder, ClusterPosition, Content, Entry, Marker, Packet, Progress, SenderState}
 use Rattle.world_laws.proofs.Types.change
 use Rattle.world_laws.proofs.Types.content
 use Rattle.world_laws.proofs.Types.event
@@ -17,27 +17,26 @@ use Rattle.geo_base.specs.Broker.{Broker, Site, sender_at, sub_named}
 use Rattle.geo_base.specs.Builder.{on_response}
 use Rattle.geo_base.specs.Cursor.{has, next_open}
 use Rattle.geo_base.specs.Entry.{is_outbound, is_place}
-use Rattle.geo_base.specs.Forwarding.{is_remote, receipt, receipt_packet, take_frame, take_packet}
+use Rattle.geo_base.specs.Forwarding.{is_remote, receipt, take_packet}
 use Rattle.geo_base.specs.Happening.{broker_does, does_planned, happens, idles}
 use Rattle.geo_base.specs.Laws.{ArePair}
 use Rattle.geo_base.specs.Link.{next_packet}
 use Rattle.geo_base.specs.Markers.{after_response, heard_from, read_content, read_marker, read_response}
 use Rattle.geo_base.specs.Name.{is_name}
 use Rattle.geo_base.specs.Plan.{Plan, idle_plan}
-use Rattle.geo_base.specs.Planned.{Planned, planned, planned_in}
+use Rattle.geo_base.specs.Planned.{Planned}
 use Rattle.geo_base.specs.Reading.{forwards, read, read_at, read_entry}
 use Rattle.geo_base.specs.Run.{Pair, is_idle, is_quiet, pairs, round_of}
-use Rattle.geo_base.specs.Sender.{Sender, index_to_read}
+use Rattle.geo_base.specs.Sender.{index_to_read}
 use Rattle.geo_base.specs.Setup.{Setup}
 use Rattle.geo_base.specs.Subscribing.{has_room}
 use Rattle.geo_base.specs.Topic.{position_at}
 use Rattle.geo_base.specs.Updating.{handled, only_index, passed_over, passing, positions_for, read_update}
 use Rattle.geo_base.specs.World.{Back, Forward, World, link_at, node, site, topic_at}
-use Rattle.world_laws.proofs.Cursors.{IsNextOpen, next_is}
+use Rattle.world_laws.proofs.Cursors.{next_is}
 use Rattle.world_laws.proofs.LinkWalk.{answered_acts, frame_taken, packet_answered, taken_acts}
 use Rattle.world_laws.proofs.LiveStarts.{pair_in_range, pair_of, pair_stands, planned_is, remote}
 use Rattle.world_laws.proofs.Lowering.{IsPair}
-use Rattle.world_laws.proofs.Members.{Stands}
 use Rattle.world_laws.proofs.Waiting.{past_end}
 use Rattle.world_laws.proofs.Walk.{left, on_found, on_if, on_true, right}
 
