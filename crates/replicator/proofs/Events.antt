@@ -1,0 +1,107 @@
+-- The machine's events are what a sender and a receiver answer, branch by branch.
+use Rattle.std.proofs.Common.{◌≡◌, ℕ, ◌==◌, Bool, true, false, List, [], ◌∷◌, length, refl, ap, sym, ◌∙◌}
+use Rattle.std.specs.Prelude.{◌≢◌, ◌&&◌, if◌then◌else◌, Option, Some, None, slice_get}
+use Rattle.std.specs.Str.{bytes_eq}
+use Rattle.geo_base.specs.declared.change.Change.TheVariants as change
+use Rattle.geo_base.specs.declared.entry.Content.{Content}
+use Rattle.geo_base.specs.declared.entry.Content.TheVariants as content
+use Rattle.geo_base.specs.declared.entry.Entry.{Entry}
+use Rattle.geo_base.specs.declared.frame.Frame.{Frame}
+use Rattle.geo_base.specs.declared.frame.Frame.TheVariants as frame
+use Rattle.geo_base.specs.declared.packet.Packet.{Packet}
+use Rattle.geo_base.specs.declared.position.Position.{Position}
+use Rattle.geo_base.specs.declared.sender.SenderState.{SenderState}
+use Rattle.geo_base.specs.declared.sender.SenderState.TheVariants as sender_state
+use Rattle.geo_base.specs.Broker.{Broker, Site, receiver_at, sender_at}
+use Rattle.geo_base.specs.Entry.{goes_to}
+use Rattle.geo_base.specs.Forwarding.{is_remote, opens, receipt_command, receipt_packet, receives, take_command, take_frame, take_in}
+use Rattle.geo_base.specs.Markers.{read_content}
+use Rattle.geo_base.specs.Plan.{Plan, idle_plan, quiet_plan, unless_found}
+use Rattle.geo_base.specs.Reading.{forwards, read, read_at, read_entry}
+use Rattle.geo_base.specs.Receiver.{is_open}
+use Rattle.geo_base.specs.Sender.{index_to_read, pending_index}
+use Rattle.replicator.specs.declared.reading.ReadOut.{ReadOut}
+use Rattle.replicator.specs.declared.reading.ReadOut.TheVariants as reads
+use Rattle.replicator.specs.declared.receiver.Taken.{Taken}
+use Rattle.replicator.specs.declared.receiver.Taken.TheVariants as takes
+use Rattle.replicator.specs.Answering.{awaited, is_opening}
+use Rattle.replicator.specs.Events.{is_to_open, plan_of_read, plan_of_success, plan_of_take}
+use Rattle.replicator.specs.Reading.{read_out, read_out_at, read_out_entry, read_out_other}
+use Rattle.replicator.specs.Taking.{taken}
+
+-- plans and answers by the same test
+by_test : {X : Type 0} (f : X → Plan) (t : Bool) (p q : Plan) (x y : X) → p ≡ f x → q ≡ f y → (if t then p else q) ≡ f (if t then x else y)
+by_test f true p q x y h k = h
+by_test f false p q x y h k = k
+
+-- the plan for the entry at an index
+at_entry : (o : Option Entry) (e : Entry) (f : Entry → Plan) → o ≡ Some e → f e ≡ unless_found idle_plan o f
+at_entry o e f at = sym (ap (λ (o : Option Entry). unless_found idle_plan o f) at)
+
+read_as_content : (h : Site) (b : Broker) (y i : ℕ) (e : Entry) (c : Content) → slice_get b.entries i ≡ Some e → e.content ≡ c → read_content h b y i c ≡ plan_of_read h b y (read_out_other i c)
+read_as_content h b y i e content.Data at is = refl
+read_as_content h b y i e (content.Unread k) at is = refl
+read_as_content h b y i e (content.Marked m) at is =
+    sym (ap (λ (c : Content). read_content h b y i c) is) ∙ at_entry (slice_get b.entries i) e (λ (e : Entry). read_content h b y i e.content) at
+
+read_as_entry : (h : Site) (b : Broker) (y i : ℕ) (o : Option Entry) → slice_get b.entries i ≡ o → read_entry h b y i o ≡ plan_of_read h b y (read_out_entry h.own y (sender_at b y).next i o)
+read_as_entry h b y i None at = refl
+read_as_entry h b y i (Some e) at =
+    by_test (plan_of_read h b y) ((e.ident.origin == h.own) && goes_to y e.to) _ _ (reads.Send i (sender_at b y).next) (if e.ident.origin == y then read_out_other i e.content else reads.Skip i)
+    (at_entry (slice_get b.entries i) e (λ (e : Entry). forwards h y (sender_at b y) i e) at)
+    (by_test (plan_of_read h b y) (e.ident.origin == y) _ _ (read_out_other i e.content) (reads.Skip i) (read_as_content h b y i e e.content at refl) refl)
+
+read_as_index : (h : Site) (b : Broker) (y : ℕ) (o : Option ℕ) → read_at h b y o ≡ plan_of_read h b y (read_out_at h.own y (sender_at b y).next b.entries o)
+read_as_index h b y None = refl
+read_as_index h b y (Some i) = read_as_entry h b y i (slice_get b.entries i) refl
+
+pub read_as_answered : (h : Site) (b : Broker) (y : ℕ) → is_remote h y ≡ true → read h b y ≡ plan_of_read h b y (read_out h.own y (sender_at b y) b.entries)
+unfolding read
+read_as_answered h b y remote = rw remote (read_as_index h b y (index_to_read (sender_at b y).state (sender_at b y) (length b.entries)))
+
+-- what does not open a session counts in the one that is open
+in_session : (h : Site) (b : Broker) (x : ℕ) (p : Packet) (f : Frame) → p.frame ≡ f → take_in h b x p ≡ plan_of_take h b x p.session f (if is_open (receiver_at b x) p.session then takes.Process else takes.Discard)
+in_session h b x p f is =
+    by_test (plan_of_take h b x p.session f) (is_open (receiver_at b x) p.session) _ _ takes.Process takes.Discard (ap (λ (f : Frame). take_command h b x p.session f) is) refl
+
+take_as_frame : (h : Site) (b : Broker) (x : ℕ) (p : Packet) (f : Frame) → p.frame ≡ f → f ≢ frame.Unreadable → take_frame h b x p f ≡ plan_of_take h b x p.session f (taken (receiver_at b x) p.session (is_to_open h p.session f))
+take_as_frame h b x p frame.Unreadable is other = absurd (other refl)
+take_as_frame h b x p (frame.Producer topic id request name) is other =
+    by_test (plan_of_take h b x p.session (frame.Producer topic id request name)) (bytes_eq topic h.topic && (id == p.session)) _ _ takes.Opened (if is_open (receiver_at b x) p.session then takes.Process else takes.Discard)
+    refl (in_session h b x p (frame.Producer topic id request name) is)
+take_as_frame h b x p frame.Connect is other = in_session h b x p frame.Connect is
+take_as_frame h b x p frame.Connected is other = in_session h b x p frame.Connected is
+take_as_frame h b x p (frame.Subscribe topic sub kind id request consumer earliest replicated) is other = in_session h b x p (frame.Subscribe topic sub kind id request consumer earliest replicated) is
+take_as_frame h b x p (frame.Send id seq source entry) is other = in_session h b x p (frame.Send id seq source entry) is
+take_as_frame h b x p (frame.SendReceipt id seq position) is other = in_session h b x p (frame.SendReceipt id seq position) is
+take_as_frame h b x p (frame.SendError id seq code) is other = in_session h b x p (frame.SendError id seq code) is
+take_as_frame h b x p (frame.Message id position source entry) is other = in_session h b x p (frame.Message id position source entry) is
+take_as_frame h b x p (frame.Ack id kind positions) is other = in_session h b x p (frame.Ack id kind positions) is
+take_as_frame h b x p (frame.Flow id permits) is other = in_session h b x p (frame.Flow id permits) is
+take_as_frame h b x p (frame.Unsubscribe id request) is other = in_session h b x p (frame.Unsubscribe id request) is
+take_as_frame h b x p (frame.Success request) is other = in_session h b x p (frame.Success request) is
+take_as_frame h b x p (frame.Error request code) is other = in_session h b x p (frame.Error request code) is
+take_as_frame h b x p (frame.CloseProducer id request) is other = in_session h b x p (frame.CloseProducer id request) is
+take_as_frame h b x p (frame.CloseConsumer id request) is other = in_session h b x p (frame.CloseConsumer id request) is
+take_as_frame h b x p (frame.ProducerSuccess request name) is other = in_session h b x p (frame.ProducerSuccess request name) is
+take_as_frame h b x p frame.Ping is other = in_session h b x p frame.Ping is
+take_as_frame h b x p frame.Pong is other = in_session h b x p frame.Pong is
+
+pub take_as_answered : (h : Site) (b : Broker) (x : ℕ) (p : Packet) → p.frame ≢ frame.Unreadable → take_frame h b x p p.frame ≡ plan_of_take h b x p.session p.frame (taken (receiver_at b x) p.session (is_to_open h p.session p.frame))
+take_as_answered h b x p other = take_as_frame h b x p p.frame refl other
+
+opens_as_state : (y : ℕ) (s : SenderState) → opens y s ≡ plan_of_success y (is_opening s)
+opens_as_state y sender_state.Opening = refl
+opens_as_state y sender_state.Open = refl
+opens_as_state y sender_state.Closed = refl
+
+success_of : (y : ℕ) (current : Bool) (s : SenderState) → (if current then opens y s else quiet_plan []) ≡ plan_of_success y (current && is_opening s)
+success_of y true s = opens_as_state y s
+success_of y false s = refl
+
+pub success_as_answered : (b : Broker) (y request : ℕ) (name : List ℕ) (p : Packet) → p.frame ≡ frame.ProducerSuccess request name → receipt_packet b y p ≡ plan_of_success y ((p.session == (sender_at b y).session) && is_opening (sender_at b y).state)
+success_as_answered b y request name p is = rw is (success_of y (p.session == (sender_at b y).session) (sender_at b y).state)
+
+pub receipt_as_answered : (b : Broker) (y id number : ℕ) (position : Option Position) (p : Packet) → p.frame ≡ frame.SendReceipt id number position → receipt_packet b y p ≡ receives y number (awaited p.session number (sender_at b y))
+receipt_as_answered b y id number position p is =
+    by_test (receives y number) (p.session == (sender_at b y).session) _ _ (pending_index (sender_at b y).pending number) None (ap (λ (f : Frame). receipt_command y (sender_at b y) f) is) refl

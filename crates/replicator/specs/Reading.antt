@@ -1,0 +1,58 @@
+-- What the sender of a cluster to another does with the entry that it reads next.
+use Rattle.std.specs.Prelude.{ℕ, ◌+◌, ◌-◌, ◌≤◌, ◌<◌, ◌^◌, ◌==◌, ◌&&◌, if◌then◌else◌, List, length, Option, Some, None, slice_get, ⊤}
+use Rattle.geo_base.specs.declared.entry.Content.{Content}
+use Rattle.geo_base.specs.declared.entry.Content.TheVariants as content
+use Rattle.geo_base.specs.declared.entry.Entry.{Entry}
+use Rattle.geo_base.specs.Entry.{goes_to}
+use Rattle.geo_base.specs.Sender.{Sender, index_to_read, sender_sent}
+use Rattle.replicator.specs.declared.reading.ReadOut.{ReadOut}
+use Rattle.replicator.specs.declared.reading.ReadOut.TheVariants as reads
+
+-- of an entry that the other cluster stored first, a marker is acted on, and all else is passed over
+abbrev pub read_out_other : ℕ → Content → ReadOut
+read_out_other i content.Data = reads.Skip i
+read_out_other i (content.Marked m) = reads.Mark i
+read_out_other i (content.Unread k) = reads.Skip i
+
+-- what the own cluster stored first and is to go there is sent under the next number; a replicated entry is never sent again
+abbrev pub read_out_entry : ℕ → ℕ → ℕ → ℕ → Option Entry → ReadOut
+read_out_entry own y next i None = reads.Idle
+read_out_entry own y next i (Some e) =
+    if (e.ident.origin == own) && goes_to y e.to then reads.Send i next
+    else if e.ident.origin == y then read_out_other i e.content
+    else reads.Skip i
+
+abbrev pub read_out_at : ℕ → ℕ → ℕ → List Entry → Option ℕ → ReadOut
+read_out_at own y next es None = reads.Idle
+read_out_at own y next es (Some i) = read_out_entry own y next i (slice_get es i)
+
+-- the entry at the least index that the cursor lacks, from where reading goes on, while the session is open
+abbrev pub read_out : ℕ → ℕ → Sender → List Entry → ReadOut
+read_out own y s es = read_out_at own y s.next es (index_to_read s.state s (length es))
+
+-- reading goes on behind the entry; what is sent awaits a receipt
+abbrev pub after_read : ReadOut → Sender → Sender
+after_read reads.Idle s = s
+after_read (reads.Skip i) s = record s { read_index = i + 1 }
+after_read (reads.Mark i) s = record s { read_index = i + 1 }
+after_read (reads.Send i number) s = sender_sent i s
+
+-- only what is sent takes room
+abbrev pub room_after : ReadOut → ℕ → ℕ
+room_after reads.Idle room = room
+room_after (reads.Skip i) room = room
+room_after (reads.Mark i) room = room
+room_after (reads.Send i number) room = room - 1
+
+-- an index that is read stands in a topic of so many entries, no more entries were sent than read, and the index behind it is
+-- a 64-bit number
+pub record IndexFits (next len i : ℕ) : Type 0 where
+  pub within : i < len
+  pub sent : next ≤ i
+  pub fits : i + 1 < 2 ^ 64
+
+abbrev pub ReadFits : ℕ → ℕ → ReadOut → Type 0
+ReadFits next len reads.Idle = ⊤
+ReadFits next len (reads.Skip i) = IndexFits next len i
+ReadFits next len (reads.Mark i) = IndexFits next len i
+ReadFits next len (reads.Send i number) = IndexFits next len i

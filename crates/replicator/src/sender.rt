@@ -1,0 +1,198 @@
+//! The sending end of a forward link: its value, and the steps that change it.
+ghost use Rattle.std.specs.Prelude.{◌≡◌, ◌<◌, ◌≤◌, ◌+◌, ◌-◌, ◌^◌, [], length, OnOk, OnErr, IfSome};
+ghost use Rattle.geo_base.specs.declared.sender.SenderState.TheVariants as sender_state;
+ghost use Rattle.geo_base.specs.Sender.{new_sender, pending_index, sender_reset, sender_restarted, sender_sent, without_number};
+ghost use Rattle.replicator.specs.Sending.{sender_with, sending_of};
+
+use crate::pending::PendingTable;
+use geo_base::memory::Memory;
+use geo_base::sender::{Pending, SenderState};
+use std::alloc::Global;
+use std::marker::Model;
+
+/// The session in which a cluster sends its topic to another one, where reading goes on, and what awaits a receipt. The cursor
+/// over the topic is its owner's, who keeps it durably, as the session's number.
+///
+/// Contracts see it as the machine has it, and beside it how many more entries may await a receipt without memory.
+#[derive(Debug, Drop)]
+pub struct Sender {
+    own: u32,
+    remote: u32,
+    session: u64,
+    state: SenderState,
+    read_index: u64,
+    next: u64,
+    pending: PendingTable,
+    room: usize,
+}
+
+impl Model for Sender {
+    ghost use Rattle.replicator.specs.Sending.{SenderBook, SenderHolds};
+
+    ghost Value = { SenderBook };
+
+    ghost view = { λ s. record {
+      sending = record { session = s.session; state = s.state; read_index = s.read_index; next = s.next; pending = s.pending.items };
+      own = s.own;
+      remote = s.remote;
+      room = s.room;
+    } };
+
+    ghost invariant = { λ s. SenderHolds s.room s.next s.read_index s.pending };
+}
+
+impl Sender {
+    /// The sender of cluster `own` to cluster `remote`, before its first session; takes no memory.
+    pub fn new(alloc: Global, own: u32, remote: u32) -> Sender
+        ensures { result ≡ record { sending = sending_of new_sender; own = own; remote = remote; room = 0 } }
+    {
+        Sender {
+            own,
+            remote,
+            session: 0,
+            state: SenderState::Closed,
+            read_index: 0,
+            next: 0,
+            pending: PendingTable::new(alloc),
+            room: 0,
+        }
+    }
+
+    /// Makes room for `n` more entries that await a receipt. It is the one call that takes memory; unchanged where that is wanting.
+    pub fn reserve(&mut self, n: usize) -> Result<(), Memory>
+        ensures ok { OnOk result (self.new ≡ record self.old { room = n }) }
+        ensures err { OnErr result (self.new ≡ self.old) }
+    {
+        self.pending.reserve(n)?;
+        self.room = n;
+        Ok(())
+    }
+
+    /// The number of the own cluster.
+    pub fn own(&self) -> u32
+        ensures { result ≡ self.now.own }
+    {
+        self.own
+    }
+
+    /// The number of the cluster to which entries are sent.
+    pub fn remote(&self) -> u32
+        ensures { result ≡ self.now.remote }
+    {
+        self.remote
+    }
+
+    /// The session's number; 0 before the first.
+    pub fn session(&self) -> u64
+        ensures { result ≡ self.now.sending.session }
+    {
+        self.session
+    }
+
+    /// Whether the session was begun, and whether the other side has opened it.
+    pub fn state(&self) -> SenderState
+        ensures { result ≡ self.now.sending.state }
+    {
+        self.state
+    }
+
+    /// The index from which reading goes on.
+    pub fn read_index(&self) -> u64
+        ensures index { result ≡ self.now.sending.read_index }
+        ensures next { self.now.sending.next ≤ result }
+    {
+        self.read_index
+    }
+
+    /// The number that the session's next entry gets, from 0.
+    pub fn next(&self) -> u64
+        ensures { result ≡ self.now.sending.next }
+    {
+        self.next
+    }
+
+    /// How many entries await a receipt.
+    pub fn pending_len(&self) -> usize
+        ensures { result ≡ length self.now.sending.pending }
+    {
+        self.pending.len()
+    }
+
+    /// The index that was sent under a number of this session and awaits its receipt.
+    pub fn pending_index(&self, number: u64) -> Option<u64>
+        ensures index { result ≡ pending_index self.now.sending.pending number }
+        ensures fits { IfSome result (λ i. i + 1 < 2 ^ 64) }
+    {
+        self.pending.index_of(number)
+    }
+
+    /// The session has this number.
+    pub fn set_session(&mut self, session: u64)
+        ensures { self.new ≡ record self.old { sending = record self.old.sending { session = session } } }
+    {
+        self.session = session;
+    }
+
+    /// The session begins: everything that the cursor lacks is to be sent again, from number 0.
+    pub fn begin(&mut self)
+        ensures { self.new ≡ record self.old { sending = sending_of (sender_reset (sender_with [] self.old.sending)) } }
+    {
+        self.state = SenderState::Opening;
+        self.start_over();
+    }
+
+    /// The other side has opened the session.
+    pub fn opened(&mut self)
+        ensures { self.new ≡ record self.old { sending = record self.old.sending { state = sender_state.Open } } }
+    {
+        self.state = SenderState::Open;
+    }
+
+    /// The entry at an index was sent under the next number, and awaits its receipt. It takes one of room.
+    pub fn pend(&mut self, index: u64)
+        requires room { 0 < self.old.room }
+        requires next { self.old.sending.next ≤ index }
+        requires index { index + 1 < 2 ^ 64 }
+        ensures { self.new ≡ record self.old { sending = sending_of (sender_sent index (sender_with [] self.old.sending)); room = self.old.room - 1 } }
+    {
+        self.room -= 1;
+        self.pending.push(Pending {
+            number: self.next,
+            index,
+        });
+        self.read_index = index + 1;
+        self.next += 1;
+    }
+
+    /// Reading goes on at an index.
+    pub fn read_to(&mut self, index: u64)
+        requires { self.old.sending.next ≤ index }
+        ensures { self.new ≡ record self.old { sending = record self.old.sending { read_index = index } } }
+    {
+        self.read_index = index;
+    }
+
+    /// The receipt came for a number.
+    pub fn unpend(&mut self, number: u64)
+        ensures { self.new ≡ record self.old { sending = record self.old.sending { pending = without_number self.old.sending.pending number } } }
+    {
+        self.pending.remove(number);
+    }
+
+    /// The broker starts again: what is in memory is lost, the session's number is not.
+    pub fn restart(&mut self)
+        ensures { self.new ≡ record self.old { sending = sending_of (sender_restarted (sender_with [] self.old.sending)) } }
+    {
+        self.state = SenderState::Closed;
+        self.start_over();
+    }
+
+    /// Nothing is read, numbered or awaited.
+    fn start_over(&mut self)
+        ensures { self.new ≡ record self.old { sending = record self.old.sending { read_index = 0; next = 0; pending = [] } } }
+    {
+        self.read_index = 0;
+        self.next = 0;
+        self.pending.clear();
+    }
+}
