@@ -1,0 +1,3 @@
+pub mod Consumers
+pub mod Dues
+pub mod Keeping
