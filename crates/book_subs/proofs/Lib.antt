@@ -1,0 +1,5 @@
+pub mod Held
+pub mod Told
+pub mod Picked
+pub mod Mapped
+pub mod Places

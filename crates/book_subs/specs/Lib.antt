@@ -1,0 +1,4 @@
+pub mod SubBook
+pub mod Fresh
+pub mod Steps
+pub mod Table
