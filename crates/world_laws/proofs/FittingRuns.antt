@@ -164,6 +164,7 @@ form_short name es ls x k per id short numbered telling lt (Form.Second j below 
     let le = second_short first (id_short name (position_at ls j) short (telling.stored (position_at ls j) j (at_index ls j (omega (arith, lt, below, whole))))) in
     let e = ap (λ (l : List ℕ). length l) is in omega (arith, le, e)
 
+-- of all topics; what a topic knows of its own and of others' requests follows from what stands below
 abbrev pub AllFit : Setup → World → Type 0
 AllFit s w = Everywhere s (Fit s) w
 

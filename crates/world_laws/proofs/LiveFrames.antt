@@ -41,6 +41,7 @@ LiveAt s bs ls t x y =
 abbrev pub LiveIn : Setup → World → ℕ → ℕ → ℕ → Type 0
 LiveIn s w t x y = LiveAt s w.brokers w.links t x y
 
+-- the same values by other names
 live_moved : (x : ℕ) (topic : List ℕ) (s s' : Sender) (r r' : Option ℕ) (f f' k k' : Link) → s' ≡ s → r' ≡ r → f' ≡ f → k' ≡ k → Live x topic s r f k → Live x topic s' r' f' k'
 live_moved x topic s s' r r' f f' k k' a b c d h =
     let S : Sender → Type 0 = λ v. Live x topic v r f k in
@@ -53,6 +54,7 @@ live_moved x topic s s' r r' f f' k k' a b c d h =
 abbrev pub is_it : Setup → ℕ → ℕ → ℕ → ℕ → ℕ → ℕ → Bool
 is_it s u v z t x y = (node s u v == node s t x) && (z == y)
 
+-- what holds of the one and, where they differ, of the other
 pub by_pair : (s : Setup) (u v z t x y : ℕ) → v < length s.clusters → x < length s.clusters → (G : ℕ → ℕ → ℕ → Type 0) → G u v z
     → (is_it s u v z t x y ≡ false → G t x y) → G t x y
 by_pair s u v z t x y lv lx G here elsewhere =
@@ -63,12 +65,14 @@ by_pair s u v z t x y lv lx G here elsewhere =
     subst (λ (c : ℕ). G t x c) one (subst (λ (b : ℕ). G t b z) same.1 (subst (λ (a : ℕ). G a v z) same.0 here)))
     elsewhere
 
+-- of two tests that hold both do
 not_both : (a b : Bool) → a ≡ true → b ≡ true → (a && b) ≡ false → ⊥
 not_both true b h k other = false≢true (sym other ∙ k)
 not_both false b h k other = false≢true h
 
 -- LINKS
 
+-- another link than the one that is new
 other_cell : (m : List (List Link)) (i v x y : ℕ) (l : Link) → ((i == x) && (v == y)) ≡ false → cell (with_cell m i v l) x y ≡ cell m x y
 other_cell m i v x y l other =
     cell_set (λ (k : Link). k ≡ cell m x y) m i v l x y (λ h k. absurd (not_both (i == x) (v == y) (eq-eqb i x h) (eq-eqb v y k) other)) refl

@@ -131,6 +131,7 @@ ground_after s w e h = let k = ground_kept s in k.idle (happens s w e) w.idle (e
 abbrev pub pair_of : ℕ → ℕ → ℕ → Pair
 pair_of t x y = record { topic = t; source = x; target = y }
 
+-- behind the resets of some pairs the sessions of these live, and those that lived before
 resets_live : (s : Setup) (ps : List Pair) (w : World) → Each (λ p. IsPair s p.topic p.source p.target) ps → Ground s w → (t x y : ℕ) → t < length s.topics → ArePair s x y
     → Stands ps (pair_of t x y) ⊎ LiveIn s w t x y → LiveIn s (all_settle no_limits s (at w) (resets_of ps)).world t x y
 resets_live s [] w all ground t x y lt pair (inl stands) = absurd (none-some (pair_of t x y) stands.is)
@@ -148,6 +149,7 @@ resets_live s (p ∷ ps) w all ground t x y lt pair (inl stands) =
 
 -- EVERY PAIR
 
+-- every number of a range, and so every pair
 range_stands : (k m i : ℕ) → k ≤ i → i < k + m → Stands (range_with_len k m) i
 range_stands k zero i le lt = absurd (omega (arith, le, lt))
 range_stands k (suc m) i le lt = by (k == i) refl (λ more. range_stands (k + 1) m i more (omega (arith, lt)))
