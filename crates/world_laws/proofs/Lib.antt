@@ -122,3 +122,4 @@ pub mod QuietTells
 pub mod ToldRuns
 pub mod ToldWorlds
 pub mod ToldLaws
+pub mod LimitedRuns

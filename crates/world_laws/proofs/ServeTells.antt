@@ -34,18 +34,15 @@ use Rattle.world_laws.proofs.Cursors.{either, or_left, or_right}
 use Rattle.world_laws.proofs.Ledgers.{of_index}
 use Rattle.world_laws.proofs.OfferWalk.{seek_shape}
 use Rattle.world_laws.proofs.OnlyTold.{has_below, same_name, second_included}
+use Rattle.world_laws.proofs.Prefixes.{same_self}
 use Rattle.world_laws.proofs.QuietTells.{gains_none, updates_gain}
 use Rattle.world_laws.proofs.ServeWalk.{frame_served}
 use Rattle.world_laws.proofs.Sizes.{IsThere}
 use Rattle.world_laws.proofs.Shapes.{InSession, MayJoin, Seeks, Served}
 use Rattle.world_laws.proofs.Told.{IsTold, Tells, TellsAll, ToldOver, told_now, told_too}
-use Rattle.world_laws.proofs.Walk.{by_test, left, on_if, on_true, right}
+use Rattle.world_laws.proofs.Walk.{both, by_test, left, on_if, on_true, right}
 
 -- TESTS
-
-and_both : (a b : Bool) → a ≡ true → b ≡ true → (a && b) ≡ true
-and_both true b h k = k
-and_both false b h k = h
 
 -- a name finds a subscription of that name
 named_is : (vs : List Subscription) (n : List ℕ) (v : Subscription) → sub_named vs n ≡ Some v → bytes_eq v.name n ≡ true
@@ -129,12 +126,8 @@ ack_within es ls numbered k ack_kind.Cumulative (p ∷ q ∷ ps) i h = absurd (f
 
 -- MESSAGES
 
-pub same_self : (i : Ident) → same_ident i i ≡ true
-same_self i =
-    let a : (i.origin == i.origin) ≡ true = eq-eqb i.origin i.origin refl in
-    let b : bytes_eq i.producer i.producer ≡ true = (bytes_eq-Decides i.producer i.producer).1 refl in
-    let c : (i.seq == i.seq) ≡ true = eq-eqb i.seq i.seq refl in
-    and_both (same_stream i i) (i.seq == i.seq) (and_both (i.origin == i.origin) (bytes_eq i.producer i.producer) a b) c
+same_itself : (i : Ident) → same_ident i i ≡ true
+same_itself i = both (same_stream i i) (i.seq == i.seq) (same_self i) (eq-eqb i.seq i.seq refl)
 
 -- a message at one of some indexes is one of the messages there
 with_kept : (o : Option Entry) (is : List Ident) (i : Ident) → list_any (same_ident i) is ≡ true → list_any (same_ident i) (with_message o is) ≡ true
@@ -150,7 +143,7 @@ message_among es (k ∷ is) i e h at message =
           subst (λ (o : Option Entry). list_any (same_ident e.ident) (with_message o (messages_at es is)) ≡ true)
           (sym (ap (λ (j : ℕ). slice_get es j) (eqb-true k i same) ∙ at))
           (subst (λ (l : List Ident). list_any (same_ident e.ident) l ≡ true) (sym (on_true (is_data e.content) (e.ident ∷ messages_at es is) (messages_at es is) message))
-          (or_left (same_ident e.ident e.ident) _ (same_self e.ident)))
+          (or_left (same_ident e.ident e.ident) _ (same_itself e.ident)))
       | inr later ↦ with_kept (slice_get es k) (messages_at es is) e.ident (message_among es is i e later at message)
     ]
 
@@ -195,7 +188,7 @@ pub creation_names : (b : Broker) (h : Site) (c : ℕ) (p : Packet) (s : Session
 creation_names b h c p s topic n kind id request consumer earliest replicated at is may none late =
     in_session n b h.topic c p s (frame.Subscribe topic n kind id request consumer earliest replicated) at is
     ∙ on_true (bytes_eq n n && not earliest && is_created b h.topic c topic n) (first_indexes (length b.entries)) []
-    (and_both (bytes_eq n n && not earliest) _ (and_both (bytes_eq n n) (not earliest) (names_itself n) late) created)
+    (both (bytes_eq n n && not earliest) _ (both (bytes_eq n n) (not earliest) (names_itself n) late) created)
   where
     of_topic : (bytes_eq topic h.topic && is_name n) ≡ true
     of_topic = left (bytes_eq topic h.topic && is_name n) (has_room b n) may.0
@@ -211,8 +204,8 @@ creation_names b h c p s topic n kind id request consumer earliest replicated at
     created : is_created b h.topic c topic n ≡ true
     created =
         let new = bytes_eq topic h.topic && is_name n && is_none (sub_named b.subs n) in
-        and_both (new && nat_lt (length b.subs) 32) (not (list_any (is_attached c) b.subs))
-        (and_both new (nat_lt (length b.subs) 32) (and_both (bytes_eq topic h.topic && is_name n) (is_none (sub_named b.subs n)) of_topic absent) room) (ap not may.1)
+        both (new && nat_lt (length b.subs) 32) (not (list_any (is_attached c) b.subs))
+        (both new (nat_lt (length b.subs) 32) (both (bytes_eq topic h.topic && is_name n) (is_none (sub_named b.subs n)) of_topic absent) room) (ap not may.1)
 
 served_tells : (told : SettledSoFar) (t per : ℕ) (h : Site) (b : Broker) (c : ℕ) (p : Packet) (q : Plan) → Served h b c p q → Numbered b.entries b.ledgers
     → PacketTold told t b h.topic c (Some p) → Tells told t per b q.writes
@@ -284,9 +277,9 @@ unfolding settled_event
 seek_settles s w t x m to there =
     let n = sub_name s t m in
     let is_t = t == t in let has_t = nat_lt t (length s.topics) in let has_x = nat_lt x (length s.clusters) in
-    let one : (is_t && has_t) ≡ true = and_both is_t has_t (eq-eqb t t refl) (lt-ltb t (length s.topics) there.0) in
-    let two : (is_t && has_t && has_x) ≡ true = and_both (is_t && has_t) has_x one (lt-ltb x (length s.clusters) there.1) in
-    on_true (is_t && has_t && has_x && bytes_eq n n) _ [] (and_both (is_t && has_t && has_x) (bytes_eq n n) two (names_itself n))
+    let one : (is_t && has_t) ≡ true = both is_t has_t (eq-eqb t t refl) (lt-ltb t (length s.topics) there.0) in
+    let two : (is_t && has_t && has_x) ≡ true = both (is_t && has_t) has_x one (lt-ltb x (length s.clusters) there.1) in
+    on_true (is_t && has_t && has_x && bytes_eq n n) _ [] (both (is_t && has_t && has_x) (bytes_eq n n) two (names_itself n))
 
 -- what an event settles, added to what is told
 abbrev Now : Setup → SettledSoFar → World → Event → SettledSoFar
