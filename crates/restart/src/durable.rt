@@ -12,7 +12,7 @@ use crate::subs::DurableSubs;
 use cursor_acks::Cursor;
 use geo_base::frame::SubKind;
 use geo_base::memory::Memory;
-use geo_base::name::SubName;
+use geo_base::name::{NameFault, SubName};
 use std::alloc::Global;
 use topic_ledger::TopicLedger;
 
@@ -40,6 +40,19 @@ impl DurableSub {
         }
     }
 
+    /// A copy.
+    pub fn copy(&self, alloc: Global) -> Result<DurableSub, Memory>
+        ensures { IfOk result (λ d. sub_of d ≡ sub_of self.now) }
+    {
+        Ok(DurableSub {
+            name: copy_name(alloc, &self.name)?,
+            kind: self.kind,
+            replicated: self.replicated,
+            cursor: self.cursor.copy(alloc)?,
+            seeks: self.seeks,
+        })
+    }
+
     /// A part is another one.
     pub(crate) fn set(&mut self, part: SubPart)
         ensures { sub_of self.new ≡ with_part part (sub_of self.old) }
@@ -55,6 +68,17 @@ impl DurableSub {
                 self.seeks = seeks;
             }
         }
+    }
+}
+
+/// A copy of a name; nothing but memory can be wanting, since a name's text is one.
+fn copy_name(alloc: Global, name: &SubName) -> Result<SubName, Memory>
+    ensures { IfOk result (λ c. c ≡ name.now) }
+{
+    match SubName::read(alloc, name.as_str()) {
+        Ok(copy) => Ok(copy),
+        Err(NameFault::Memory) => Err(Memory),
+        Err(NameFault::Empty | NameFault::TooLong | NameFault::BadByte) => unreachable!(),
     }
 }
 
@@ -82,6 +106,16 @@ impl DurableSender {
             session: 0,
             cursor: Cursor::none(alloc),
         }
+    }
+
+    /// A copy.
+    pub fn copy(&self, alloc: Global) -> Result<DurableSender, Memory>
+        ensures { IfOk result (λ d. sender_of d ≡ sender_of self.now) }
+    {
+        Ok(DurableSender {
+            session: self.session,
+            cursor: self.cursor.copy(alloc)?,
+        })
     }
 }
 

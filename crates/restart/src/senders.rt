@@ -48,6 +48,13 @@ impl DurableSenders {
         DurableSenders { senders }
     }
 
+    /// The replicators as a vector, in order; takes no memory.
+    pub fn into_vec(self) -> Vec<DurableSender>
+        ensures { senders_of result.items ≡ self }
+    {
+        self.senders
+    }
+
     /// The replicators in order.
     pub fn as_slice(&self) -> &[DurableSender]
         ensures { senders_of result.now ≡ self.now }

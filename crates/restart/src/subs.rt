@@ -7,7 +7,7 @@ ghost use Rattle.geo_base.specs.Broker.{sub_named};
 ghost use Rattle.geo_base.specs.Subscription.{Subscription};
 ghost use Rattle.restart.specs.declared.durable.DurableSub.{DurableSub};
 ghost use Rattle.restart.specs.Changed.{with_part};
-ghost use Rattle.restart.specs.Parts.{sub_of, subs_of};
+ghost use Rattle.restart.specs.Parts.{AreNamedApart, sub_of, subs_of};
 
 use crate::durable::{DurableSub, SubPart};
 use geo_base::memory::Memory;
@@ -48,6 +48,14 @@ impl DurableSubs {
         ensures { subs_of result.now ≡ self.now }
     {
         self.subs.as_slice()
+    }
+
+    /// The subscriptions as a vector, in order; takes no memory.
+    pub fn into_vec(self) -> Vec<DurableSub>
+        ensures subs { subs_of result.items ≡ self }
+        ensures apart { AreNamedApart self }
+    {
+        self.subs
     }
 
     /// The subscription of a name; `None` exactly where there is none.
