@@ -98,3 +98,13 @@ pub mod Keeping
 pub mod DueCounts
 pub mod Serving
 pub mod Offered
+pub mod Fitting
+pub mod OwnSizes
+pub mod Widths
+pub mod FittingRuns
+pub mod NewEntries
+pub mod OwnPlain
+pub mod Sizing
+pub mod Sending
+pub mod ClientSends
+pub mod Carrying

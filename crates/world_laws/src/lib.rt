@@ -5,6 +5,7 @@
 #![tactic(auto)]
 
 pub mod histories;
+pub mod links;
 pub mod replication;
 pub mod settling;
 pub mod snapshots;
@@ -12,6 +13,7 @@ pub mod subscriptions;
 pub mod topics;
 
 pub use histories::{law_alike, law_merge};
+pub use links::{law_fits, law_plain};
 pub use replication::{law_prefix, law_receipt};
 pub use settling::law_settles_in_time;
 pub use snapshots::{law_cut, law_position, law_second_round};
