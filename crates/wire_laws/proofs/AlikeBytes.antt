@@ -14,7 +14,7 @@ use Rattle.world_laws.proofs.Origins.{alike_without_origin}
 use Rattle.world_laws.specs.ByteHistories.{AreByteHistories, ByteEvent}
 
 -- what the wire format leaves out is what no event looks at
-bare_is : (f : Frame) → bare f ≡ without_origin f
+pub bare_is : (f : Frame) → bare f ≡ without_origin f
 bare_is frame.Connect = refl
 bare_is frame.Connected = refl
 bare_is (frame.Subscribe topic sub kind id request consumer earliest replicated) = refl

@@ -1,1 +1,4 @@
 pub mod AlikeBytes
+pub mod Plain
+pub mod Tellings
+pub mod Bare

@@ -1,1 +1,2 @@
 pub mod BytePackets
+pub mod Telling

@@ -33,7 +33,7 @@ client_more n k w =
 -- links
 
 -- a table of links with another link in one place, looked at at any place
-link_set : (P : Link → Type 0) (ls : Links) (k j : LinkName) (l : Link) → P l → P (link_at ls j) → P (link_at (with_link ls k l) j)
+pub link_set : (P : Link → Type 0) (ls : Links) (k j : LinkName) (l : Link) → P l → P (link_at ls j) → P (link_at (with_link ls k l) j)
 link_set P ls (Forward n y) (Forward m z) l p q = cell_set P ls.forward n y l m z (λ _ _. p) q
 link_set P ls (Back n y) (Back m z) l p q = cell_set P ls.back n y l m z (λ _ _. p) q
 link_set P ls (ToBroker n y) (ToBroker m z) l p q = cell_set P ls.to_broker n y l m z (λ _ _. p) q
@@ -246,10 +246,13 @@ new_clients_within (d ∷ ds) (suc c) k w = new_clients_within ds c k w
 unsent_within : StampsWithin 0 no_link
 unsent_within i p at = absurd (none-some p at)
 
+-- a table of empty links
+pub table_has : (P : Link → Type 0) (rows columns i j : ℕ) → P no_link → P (cell (table rows columns) i j)
+table_has P rows columns i j h =
+    at_copies (λ (r : List Link). P (slice_index_or r j no_link)) rows i (replicate columns no_link) [] (at_copies P columns j no_link no_link h h) h
+
 table_within : (rows columns i j : ℕ) → StampsWithin 0 (cell (table rows columns) i j)
-table_within rows columns i j =
-    at_copies (λ (r : List Link). StampsWithin 0 (slice_index_or r j no_link)) rows i (replicate columns no_link) []
-    (at_copies (StampsWithin 0) columns j no_link no_link unsent_within unsent_within) unsent_within
+table_within rows columns i j = table_has (StampsWithin 0) rows columns i j unsent_within
 
 opening_stamps : (s : Setup) (k : LinkName) → StampsWithin 0 (link_at (opening_world s).links k)
 opening_stamps s (Forward n y) = table_within (length s.topics * length s.clusters) (length s.clusters) n y

@@ -1,254 +1,190 @@
--- In every world of a short run each own entry is small enough for a link, where names of clusters are short and there are few.
-use Rattle.std.proofs.Common.{◌≡◌, ℕ, ◌*◌, ◌<◌, ◌≤◌, List, [], ◌∷◌, ◌++◌, length, map, sym, ap, subst, ◌∙◌, arith, inl, inr}
-use Rattle.std.specs.Prelude.{Option, Some, None, not, slice_get, slice_index_or, take}
-use Rattle.std.specs.Str.{bytes_eq}
-use Rattle.std.proofs.lemmas.List.{get_or-replicate, get_or_past}
-use Rattle.std.proofs.lemmas.Option.{none-some, slice_get_within}
-use Rattle.world_laws.proofs.Types.{CachedSnapshot, Change, Entry, Write}
-use Rattle.world_laws.proofs.Types.change
+-- Every entry that is stored in a short run is small enough to be stored anywhere: what came was judged, and own markers are small.
+use Rattle.std.proofs.Common.{◌≡◌, ℕ, ◌*◌, ◌<◌, ◌≤◌, Bool, true, false, List, [], ◌∷◌, ◌++◌, length, refl, sym, subst, ◌∙◌, arith}
+use Rattle.std.specs.Prelude.{Option, Some, None, ◌==◌, slice_get, take}
+use Rattle.std.proofs.lemmas.Bool.{eq-eqb, eqb-true, false≢true}
+use Rattle.std.proofs.lemmas.List.{get_or-replicate}
+use Rattle.std.proofs.lemmas.Option.{slice_get_within}
+use Rattle.world_laws.proofs.Types.{Entry, Place, Write}
+use Rattle.world_laws.proofs.Types.content
+use Rattle.world_laws.proofs.Types.marker
 use Rattle.world_laws.proofs.Types.write
-use Rattle.geo_base.specs.Broker.{Broker, Site, changed, new_broker, no_broker, written}
+use Rattle.geo_base.specs.Broker.{Broker, Site, new_broker, no_broker}
 use Rattle.geo_base.specs.Builder.{snapshot_id}
-use Rattle.geo_base.specs.Cache.{cached}
-use Rattle.geo_base.specs.Client.{Acted}
-use Rattle.geo_base.specs.Dispatcher.{given, passed_index}
 use Rattle.geo_base.specs.Happening.{broker_does, broker_halts, client_does, stops}
+use Rattle.geo_base.specs.Client.{Acted}
 use Rattle.geo_base.specs.Laws.{IsShort}
-use Rattle.geo_base.specs.Name.{is_name}
-use Rattle.geo_base.specs.Plan.{all_changed, all_written, done, halted}
+use Rattle.geo_base.specs.Moments.{partly_written}
+use Rattle.geo_base.specs.Plan.{all_written, done, halted}
 use Rattle.geo_base.specs.Planned.{Planned}
 use Rattle.geo_base.specs.Scripted.{IsScripted}
 use Rattle.geo_base.specs.Seeking.{restart}
 use Rattle.geo_base.specs.Setup.{Setup}
-use Rattle.geo_base.specs.Sizes.{entry_size, most_entry_size}
-use Rattle.geo_base.specs.Subscription.{Subscription, after_acks, attached, cleared, detached, permitted, sought, with_acks}
 use Rattle.geo_base.specs.Topic.{position_at}
 use Rattle.geo_base.specs.World.{LinkName, ToClient, World, node, opening_world, site, topic_at}
-use Rattle.world_laws.proofs.Answering.{Numbered, RequestAt}
-use Rattle.world_laws.proofs.Appends.{after_writes, all_changed_entries, written_entries}
-use Rattle.world_laws.proofs.Asked.{Knowing, knowing_kept, named, telling}
-use Rattle.world_laws.proofs.Building.{CacheChange, building_caches, shape_building}
-use Rattle.world_laws.proofs.Caches.{AllCached, Brings, all_changed_cached, all_written_cached}
-use Rattle.world_laws.proofs.ClientRoams.{all_index}
-use Rattle.world_laws.proofs.Effects.{Each, each_both, each_map, each_take}
-use Rattle.world_laws.proofs.FineWrites.{FineWrite, HasShortName, IsNarrow, Known, name_short, shape_fine, snapshot_narrow}
-use Rattle.world_laws.proofs.Fitting.{Fits, FitsAt}
-use Rattle.world_laws.proofs.Layers.{Both, Everywhere, both_kept, one_node}
-use Rattle.world_laws.proofs.Ledgers.{at_index}
-use Rattle.world_laws.proofs.Making.{Telling}
-use Rattle.world_laws.proofs.Measures.{AreShort, id_short, second_short}
-use Rattle.world_laws.proofs.Members.{below_or, get_push}
+use Rattle.world_laws.proofs.Added.{after_is, appended}
+use Rattle.world_laws.proofs.Appends.{all_changed_entries, written_entries}
+use Rattle.world_laws.proofs.Asked.{Knowing, knowing_kept, name_of, named}
+use Rattle.world_laws.proofs.Counts.{next_small}
+use Rattle.world_laws.proofs.Effects.{Each, each_both, each_take}
+use Rattle.world_laws.proofs.Fitting.{Fits}
+use Rattle.world_laws.proofs.Ids.{id_short, second_short}
+use Rattle.world_laws.proofs.Layers.{Both, Everywhere, Grounds, both_kept, kept_over, one_node}
+use Rattle.world_laws.proofs.Members.{Stands}
+use Rattle.world_laws.proofs.NewEntries.{Brief, IsFit, NewEntry, NewWrite, TakenEntry, all_appended, shape_new}
 use Rattle.world_laws.proofs.Order.{of_source}
+use Rattle.world_laws.proofs.OwnSizes.{AreShort, names_short, own_size}
 use Rattle.world_laws.proofs.PairRoles.{shape_within}
-use Rattle.world_laws.proofs.PeerWalk.{each_filter}
 use Rattle.world_laws.proofs.Runs.{IsKept}
+use Rattle.world_laws.proofs.SecondRound.{Knows, knows_now, small_at}
 use Rattle.world_laws.proofs.Shapes.{Shape}
 use Rattle.world_laws.proofs.Short.{KeptShort, WhileShort, short_kept}
 use Rattle.world_laws.proofs.Sizes.{IsThere, node_lt, node_there, stopped_at}
 use Rattle.world_laws.proofs.SnapshotFacts.{Form}
-use Rattle.world_laws.proofs.SubFrames.{AllSubs, at_name, created_subs, each_to}
+use Rattle.world_laws.proofs.SubFrames.{each_at_place}
 use Rattle.world_laws.proofs.Walk.{on_if}
+use Rattle.world_laws.proofs.Widths.{AllWide, wide_kept}
 
--- of the topic at x: its own entries, and what its updates are made of
-pub record Fit (s : Setup) (x : ℕ) (b : Broker) : Type 0 where
-  pub entries : FitsAt s x b
-  pub names : AllSubs HasShortName b
-  pub caches : AllCached (IsNarrow (length s.clusters)) b.subs
+-- WORLDS
 
--- WRITES AND CHANGES
+abbrev pub FitAt : Setup → ℕ → Broker → Type 0
+FitAt s x b = Each (IsFit s.clusters) b.entries
 
--- of the entries after some writes
-after_fits : (h : Site) (es : List Entry) (ws : List Write) → Each (FineWrite h) ws
-    → ((i : ℕ) (e : Entry) → slice_get es i ≡ Some e → e.ident.origin ≡ h.own → entry_size h.clusters e ≤ most_entry_size)
-    → (i : ℕ) (e : Entry) → slice_get (after_writes es ws) i ≡ Some e → e.ident.origin ≡ h.own → entry_size h.clusters e ≤ most_entry_size
-after_fits h es [] fine all = all
-after_fits h es (write.Append f ∷ ws) fine all =
-    after_fits h (es ++ f ∷ []) ws fine.1
-    (λ i e at own.
-    elim (get_push es f i e at) [
-      | inl old ↦ all i e old.1 own
-      | inr new ↦
-          let P : Entry → Type 0 = λ g. g.ident.origin ≡ h.own → entry_size h.clusters g ≤ most_entry_size in (subst P new.1 fine.0) own
-    ])
-after_fits h es (write.Create n kind replicated latest ∷ ws) fine all = after_fits h es ws fine.1 all
-after_fits h es (write.Alter n kind replicated ∷ ws) fine all = after_fits h es ws fine.1 all
-after_fits h es (write.Delete n ∷ ws) fine all = after_fits h es ws fine.1 all
-after_fits h es (write.Acks n is ∷ ws) fine all = after_fits h es ws fine.1 all
-after_fits h es (write.Seek n i ∷ ws) fine all = after_fits h es ws fine.1 all
-after_fits h es (write.SenderAck y i ∷ ws) fine all = after_fits h es ws fine.1 all
-after_fits h es (write.SessionNumber y n ∷ ws) fine all = after_fits h es ws fine.1 all
-after_fits h es (write.Ledger ∷ ws) fine all = after_fits h es ws fine.1 all
+abbrev pub AllFit : Setup → World → Type 0
+AllFit s w = Everywhere s (FitAt s) w
 
--- of the subscriptions of a name
-named_short : (n : List ℕ) (f : Subscription → Subscription) → ((v : Subscription) → HasShortName v → HasShortName (f v)) → (vs : List Subscription) → Each HasShortName vs
-    → Each HasShortName (map (at_name n f) vs)
-named_short n f same vs all = each_to HasShortName HasShortName (at_name n f) (λ v le. on_if HasShortName (bytes_eq v.name n) (f v) v (same v le) le) vs all
+-- a request that stands is an own one where it came from, so its id is short
+asked_short : (s : Setup) (w : World) (t x i : ℕ) (e : Entry) (id : List ℕ) (source : Place) → AreShort s.clusters → Knows s w → IsThere s t x
+    → slice_get (topic_at s w t x).entries i ≡ Some e → e.content ≡ content.Marked (marker.Request id source) → length id ≤ 60
+asked_short s w t x i e id source names k there at is = by (y == x) refl
+  where
+    y : ℕ
+    y = e.ident.origin
 
-names_written : (h : Site) (b : Broker) (w : Write) → FineWrite h w → AllSubs HasShortName b → AllSubs HasShortName (written h.per_ledger b w)
-names_written h b (write.Create n kind replicated latest) fine all = created_subs HasShortName h.per_ledger b n kind replicated latest all fine
-names_written h b (write.Alter n kind replicated) fine all = named_short n (λ s. record s { kind = kind; replicated = replicated }) (λ v le. le) b.subs all
-names_written h b (write.Acks n is) fine all = named_short n (with_acks is) (λ v le. le) b.subs all
-names_written h b (write.Seek n i) fine all = named_short n (sought i) (λ v le. le) b.subs all
-names_written h b (write.Delete n) fine all = each_filter HasShortName (λ (s : Subscription). not (bytes_eq s.name n)) b.subs all
-names_written h b (write.Append e) fine all = all
-names_written h b (write.SenderAck y i) fine all = all
-names_written h b (write.SessionNumber y n) fine all = all
-names_written h b write.Ledger fine all = all
+    lt : y < length s.clusters
+    lt = (k.answers t x there).origins i e at
 
-all_names_written : (h : Site) (b : Broker) (ws : List Write) → Each (FineWrite h) ws → AllSubs HasShortName b → AllSubs HasShortName (all_written h.per_ledger b ws)
-all_names_written h b [] fine all = all
-all_names_written h b (w ∷ ws) fine all = all_names_written h (written h.per_ledger b w) ws fine.1 (names_written h b w fine.0 all)
+    short_at : (j : ℕ) → j < length (topic_at s w t y).entries → length (snapshot_id (name_of s y) (position_at (topic_at s w t y).ledgers j)) ≤ 58
+    short_at j within = id_short (name_of s y) (position_at (topic_at s w t y).ledgers j) (names y) (small_at s w t y j k (there.0, lt) within)
 
-names_changed : (b : Broker) (c : Change) → AllSubs HasShortName b → AllSubs HasShortName (changed b c)
-names_changed b (change.Attach n k) all = named_short n (attached k) (λ v le. le) b.subs all
-names_changed b (change.Detach c) all = each_to HasShortName HasShortName (detached c) (λ v le. le) b.subs all
-names_changed b (change.Permit n c permits) all = named_short n (permitted c permits) (λ v le. le) b.subs all
-names_changed b (change.Passed n i) all = named_short n (passed_index i) (λ v le. le) b.subs all
-names_changed b (change.Given n i at) all = named_short n (given i at) (λ v le. le) b.subs all
-names_changed b (change.Cache n c) all = named_short n (λ s. record s { cache = cached s.cache c }) (λ v le. le) b.subs all
-names_changed b (change.Acked n) all = named_short n after_acks (λ v le. le) b.subs all
-names_changed b (change.Cleared n) all = named_short n cleared (λ v le. le) b.subs all
-names_changed b change.Forget all = each_to HasShortName HasShortName cleared (λ v le. le) b.subs all
-names_changed b (change.Receiver x r) all = all
-names_changed b (change.Client c s) all = all
-names_changed b (change.Opening y) all = all
-names_changed b (change.Opened y) all = all
-names_changed b (change.Pend y i) all = all
-names_changed b (change.ReadTo y i) all = all
-names_changed b (change.Unpend y n) all = all
-names_changed b (change.Building u) all = all
+    of_form : (j : ℕ) → j < length (topic_at s w t y).entries → Form (name_of s y) (topic_at s w t y).entries (topic_at s w t y).ledgers y j id → length id ≤ 60
+    of_form j within (Form.First same) = let l = subst (λ (a : List ℕ). length a ≤ 58) (sym same) (short_at j within) in omega (arith, l)
+    of_form j within (Form.Second l below r same) =
+        let n = short_at l (omega (arith, below, within)) in
+        let m = second_short (snapshot_id (name_of s y) (position_at (topic_at s w t y).ledgers l)) in
+        subst (λ (a : List ℕ). length a ≤ 60) (sym same) (omega (arith, n, m))
 
-all_names_changed : (b : Broker) (cs : List Change) → AllSubs HasShortName b → AllSubs HasShortName (all_changed b cs)
-all_names_changed b [] all = all
-all_names_changed b (c ∷ cs) all = all_names_changed (changed b c) cs (names_changed b c all)
+    here : (j : ℕ) → slice_get (topic_at s w t y).entries j ≡ Some e → length id ≤ 60
+    here j stands =
+        of_form j (slice_get_within (topic_at s w t y).entries j e stands)
+        ((k.asked t y (there.0, lt)).forms j id (record { entry = e; at = stands; of = eq-eqb y y refl; asks = (source, is) }))
 
--- what an event writes and changes keeps it
-event_fits : (s : Setup) (t x : ℕ) (b c : Broker) (ws : List Write) (cs : List Change) → Each (FineWrite (site s t x)) ws → Each (CacheChange (site s t x) c) cs → Fit s x b
-    → Fit s x (all_changed (all_written s.per_ledger b ws) cs)
-event_fits s t x b c ws cs fine brings old = record {
-  entries =
-      let P : List Entry → Type 0 = λ es. (i : ℕ) (e : Entry) → slice_get es i ≡ Some e → e.ident.origin ≡ x → entry_size s.clusters e ≤ most_entry_size in
-      subst P (sym (all_changed_entries (all_written s.per_ledger b ws) cs ∙ written_entries s.per_ledger b ws)) (after_fits (site s t x) b.entries ws fine old.entries);
-  names = all_names_changed (all_written s.per_ledger b ws) cs (all_names_written (site s t x) b ws fine old.names);
-  caches =
-      all_changed_cached F (all_written s.per_ledger b ws) cs (each_map (CacheChange (site s t x) c) (Brings F) bring cs brings)
-      (all_written_cached F s.per_ledger b ws old.caches);
+    by : (b : Bool) → (y == x) ≡ b → length id ≤ 60
+    by true same = here i (subst (λ (z : ℕ). slice_get (topic_at s w t z).entries i ≡ Some e) (sym (eqb-true y x same)) at)
+    by false other =
+        let source : Stands (topic_at s w t y).entries e =
+        of_source y x (topic_at s w t y).entries (topic_at s w t x).entries (k.prefix t y x (lt, there.1, (λ is. false≢true (sym other ∙ eq-eqb y x is)))) i e at (eq-eqb y y refl) in
+        here source.place source.is
+
+-- what stands below
+abbrev pub Ground : Setup → World → Type 0
+Ground s = Both (Knowing s) (AllWide s)
+
+pub short_brief : (s : Setup) → IsScripted s → (w : World) (t x : ℕ) → IsShort w → Ground s w → IsThere s t x → Brief (Unit {0}) (site s t x) (topic_at s w t x)
+short_brief s scripted w t x short g there = record {
+  names = names;
+  wide = g.1 t x there;
+  next = λ now. next_small s.per_ledger w.events (topic_at s w t x) short (g.0.0.0.1 t x there) (k.answers t x there).numbered;
+  made = λ now u is. let made = (k.asked t x there).made u is in
+      subst (λ (a : List ℕ). length a ≤ 58) (sym made.asked.1)
+      (id_short (name_of s x) (position_at (topic_at s w t x).ledgers made.asked.0) (names x)
+      (small_at s w t x made.asked.0 k there (slice_get_within (topic_at s w t x).entries made.asked.0 made.asked.2.entry made.asked.2.at)));
+  asked = λ now i e id source at is. asked_short s w t x i e id source names k there at is;
 }
   where
-    F : CachedSnapshot → Type 0
-    F = IsNarrow (length s.clusters)
+    names : AreShort s.clusters
+    names = names_short s.clusters scripted.cluster_names.0
 
-    bring : (a : Change) → CacheChange (site s t x) c a → Brings F a
-    bring (change.Cache n a) q = snapshot_narrow (site s t x) c q.sub q.entry q.local a q.is
-    bring a q = tt
+    k : Knows s w
+    k = knows_now s w g.0 short
 
--- WHAT IS KNOWN
+-- so what an event appends fits
+new_fits : (B : Type 0) (h : Site) (C : Entry → Type 0) → B → length h.clusters ≤ 8 → AreShort h.clusters → (e : Entry) → NewEntry B h C e → IsFit h.clusters e
+new_fits B h C holds few short e (NewEntry.Carried a z c fit) = fit
+new_fits B h C holds few short e (NewEntry.Own b m to names own) = own_size B h b m to names holds few short own
 
-pub short_names : (s : Setup) → IsScripted s → AreShort s.clusters
-short_names s scripted x =
-    elim (below_or x (length s.clusters)) [
-      | inl lt ↦ name_short (slice_index_or s.clusters x []) (all_index is_name s.clusters x [] scripted.cluster_names.0 lt)
-      | inr past ↦ let e = ap (λ (n : List ℕ). length n) (get_or_past s.clusters x [] past) in omega (arith, e)
-    ]
+abbrev NewFor : Setup → World → Planned → Write → Type 0
+NewFor s w p = NewWrite (Unit {0}) (site s p.topic p.cluster) (TakenEntry w p)
 
--- an own request has a short id
-form_short : (name : List ℕ) (es : List Entry) (ls : List ℕ) (x k per : ℕ) (id : List ℕ) → length name ≤ 16 → Numbered es ls → Telling per name ls → k < length es
-    → Form name es ls x k id → length id ≤ 60
-form_short name es ls x k per id short numbered telling lt (Form.First is) =
-    let whole = numbered.whole in
-    let le = id_short name (position_at ls k) short (telling.stored (position_at ls k) k (at_index ls k (omega (arith, lt, whole)))) in
-    let e = ap (λ (l : List ℕ). length l) is in omega (arith, le, e)
-form_short name es ls x k per id short numbered telling lt (Form.Second j below r is) =
-    let whole = numbered.whole in
-    let first = snapshot_id name (position_at ls j) in
-    let le = second_short first (id_short name (position_at ls j) short (telling.stored (position_at ls j) j (at_index ls j (omega (arith, lt, below, whole))))) in
-    let e = ap (λ (l : List ℕ). length l) is in omega (arith, le, e)
+shape_fits : (s : Setup) → IsScripted s → (w : World) (p : Planned) → Shape s w p → IsShort w → Ground s w → IsThere s p.topic p.cluster → Each (NewFor s w p) p.plan.writes
+shape_fits s scripted w p shape short g there = shape_new (Unit {0}) s w p shape (short_brief s scripted w p.topic p.cluster short g there)
 
--- of all topics; what a topic knows of its own and of others' requests follows from what stands below
-abbrev pub AllFit : Setup → World → Type 0
-AllFit s w = Everywhere s (Fit s) w
+written_fit : (s : Setup) → IsScripted s → (w : World) (p : Planned) (b : Broker) (ws : List Write) → Each (NewFor s w p) ws → FitAt s p.cluster b → FitAt s p.cluster (all_written s.per_ledger b ws)
+written_fit s scripted w p b ws new h =
+    subst (λ (es : List Entry). Each (IsFit s.clusters) es) (sym (written_entries s.per_ledger b ws ∙ after_is b.entries ws))
+    (each_both (IsFit s.clusters) b.entries (appended ws) h
+    (all_appended (Unit {0}) (site s p.topic p.cluster) (TakenEntry w p) (IsFit s.clusters)
+    (new_fits (Unit {0}) (site s p.topic p.cluster) (TakenEntry w p) tt scripted.clusters.1 (names_short s.clusters scripted.cluster_names.0)) ws new))
 
-knows : (s : Setup) → IsScripted s → (w : World) → IsShort w → Knowing s w → AllFit s w → (t x : ℕ) → IsThere s t x → Known (site s t x) (topic_at s w t x)
-knows s scripted w short h fits t x there = record {
-  short = short_names s scripted;
-  few = scripted.clusters.1;
-  own = there.1;
-  numbered = (h.0.0.0.1 t x there).numbered;
-  telling = telling s (named s scripted) w short h.0 t x there;
-  asked = h.1 short t x there;
-  requests = λ y i e id source ly other at of is.
-      let near = topic_at s w t y in
-      let there' : IsThere s t y = (there.0, ly) in
-      let begins = (h.0.0.0.0.0.pairs t y x there.0 (ly, there.1, other)).carried.begins in
-      let st = of_source y x near.entries (topic_at s w t x).entries begins i e at of in
-      let r : RequestAt y near.entries st.place id = record { entry = e; at = st.is; of = of; asks = (source, is) } in
-      form_short (slice_index_or s.clusters y []) near.entries near.ledgers y st.place s.per_ledger id (short_names s scripted y) (h.0.0.0.1 t y there').numbered
-      (telling s (named s scripted) w short h.0 t y there') (slice_get_within near.entries st.place e st.is) ((h.1 short t y there').making.forms st.place id r);
-  names = (fits t x there).names;
-  caches = (fits t x there).caches;
-}
-
--- EVENTS
-
-fits_does : (s : Setup) → IsScripted s → (w : World) (p : Planned) → Shape s w p → IsShort w → Knowing s w → AllFit s w → AllFit s (broker_does s w p)
+fits_does : (s : Setup) → IsScripted s → (w : World) (p : Planned) → Shape s w p → IsShort w → Ground s w → AllFit s w → AllFit s (broker_does s w p)
 unfolding broker_does
-fits_does s scripted w p shape short h fits =
+fits_does s scripted w p shape short g all =
     let b = topic_at s w p.topic p.cluster in
-    let none = h.0.0.0.0.1 in
-    on_if (AllFit s) p.plan.idle _ _ fits
-    (one_node s (Fit s) w p.topic p.cluster (done s.per_ledger b p.plan) (shape_within s w p shape)
-    (λ here.
-    event_fits s p.topic p.cluster b b p.plan.writes p.plan.changes (shape_fine s w p shape none (knows s scripted w short h fits p.topic p.cluster here))
-    (building_caches (site s p.topic p.cluster) b p.plan (shape_building s w p shape none)) (fits p.topic p.cluster here))
-    fits)
+    on_if (AllFit s) p.plan.idle _ _ all
+    (one_node s (FitAt s) w p.topic p.cluster (done s.per_ledger b p.plan) (shape_within s w p shape)
+    (λ here. subst (λ (es : List Entry). Each (IsFit s.clusters) es) (sym (all_changed_entries (all_written s.per_ledger b p.plan.writes) p.plan.changes))
+    (written_fit s scripted w p b p.plan.writes (shape_fits s scripted w p shape short g here) (all p.topic p.cluster here))) all)
 
-fits_halts : (s : Setup) → IsScripted s → (w : World) (k : ℕ) (p : Planned) → Shape s w p → IsShort w → Knowing s w → AllFit s w → AllFit s (broker_halts s w k p)
+fits_halts : (s : Setup) → IsScripted s → (w : World) (k : ℕ) (p : Planned) → Shape s w p → IsShort w → Ground s w → AllFit s w → AllFit s (broker_halts s w k p)
 unfolding broker_halts
-fits_halts s scripted w k p shape short h fits =
-    let b = topic_at s w p.topic p.cluster in
-    let none = h.0.0.0.0.1 in
-    let F = FineWrite (site s p.topic p.cluster) in
-    one_node s (Fit s) w p.topic p.cluster (halted s.per_ledger b k p.plan) (shape_within s w p shape)
-    (λ here.
-    let fine = shape_fine s w p shape none (knows s scripted w short h fits p.topic p.cluster here) in
-    event_fits s p.topic p.cluster b b (take k p.plan.writes ++ write.Ledger ∷ []) (change.Forget ∷ [])
-    (each_both F (take k p.plan.writes) (write.Ledger ∷ []) (each_take F k p.plan.writes fine) (tt, tt)) (tt, tt) (fits p.topic p.cluster here))
-    fits
+fits_halts s scripted w k p shape short g all =
+    let b = topic_at s w p.topic p.cluster in let F = NewFor s w p in
+    one_node s (FitAt s) w p.topic p.cluster (halted s.per_ledger b k p.plan) (shape_within s w p shape)
+    (λ here. written_fit s scripted w p b (take k p.plan.writes ++ write.Ledger ∷ [])
+    (each_both F (take k p.plan.writes) (write.Ledger ∷ []) (each_take F k p.plan.writes (shape_fits s scripted w p shape short g here)) (tt, tt)) (all p.topic p.cluster here)) all
+
+pub fits_written : (s : Setup) → IsScripted s → (w : World) (k : ℕ) (p : Planned) → Shape s w p → IsShort w → Ground s w → AllFit s w → AllFit s (partly_written s w k (Some p))
+fits_written s scripted w k p shape short g all =
+    let b = topic_at s w p.topic p.cluster in let F = NewFor s w p in
+    one_node s (FitAt s) w p.topic p.cluster (all_written s.per_ledger b (take k p.plan.writes)) (shape_within s w p shape)
+    (λ here. written_fit s scripted w p b (take k p.plan.writes) (each_take F k p.plan.writes (shape_fits s scripted w p shape short g here)) (all p.topic p.cluster here)) all
 
 fits_client : (s : Setup) (w : World) (c : ℕ) (k : Option LinkName) (a : Acted) → AllFit s w → AllFit s (client_does s w c k a)
 unfolding client_does
-fits_client s w c k a fits = on_if (AllFit s) a.idle _ _ fits fits
+fits_client s w c k a all = on_if (AllFit s) a.idle _ _ all all
 
-fits_stops : (s : Setup) (w : World) → Knowing s w → AllFit s w → AllFit s (stops s w)
+fits_stops : (s : Setup) (w : World) → Ground s w → AllFit s w → AllFit s (stops s w)
 unfolding stops restart
-fits_stops s w h fits t x there =
+fits_stops s w g all t x there =
     let b = topic_at s w t x in
-    subst (Fit s x) (sym (stopped_at w.brokers (λ c. done s.per_ledger c restart) (node s t x) (node_there s w t x h.0.0.0.0.0.sized there)))
-    (event_fits s t x b b (write.Ledger ∷ []) (change.Forget ∷ []) (tt, tt) (tt, tt) (fits t x there))
+    subst (FitAt s x) (sym (stopped_at w.brokers (λ c. done s.per_ledger c restart) (node s t x) (node_there s w t x g.0.0.0.0.0.0.sized there))) (all t x there)
 
 fits_opening : (s : Setup) → AllFit s (opening_world s)
 fits_opening s t x there =
     let n = length s.clusters in
-    subst (Fit s x) (sym (get_or-replicate (length s.topics * n) (node s t x) (new_broker n (length s.clients)) no_broker (node_lt s t x there)))
-    (record { entries = λ i e at. absurd (none-some e at); names = tt; caches = λ k v at. absurd (none-some v at) })
+    subst (FitAt s x) (sym (get_or-replicate (length s.topics * n) (node s t x) (new_broker n (length s.clients)) no_broker (node_lt s t x there))) tt
 
-fits_kept : (s : Setup) → IsScripted s → KeptShort s (Knowing s) (AllFit s)
+fits_kept : (s : Setup) → IsScripted s → KeptShort s (Ground s) (AllFit s)
 fits_kept s scripted = record {
   opening = fits_opening s;
-  idle = λ w n h fits. fits;
-  round = λ w n h fits. fits;
-  does = λ w p shape short h h' fits. fits_does s scripted w p shape short h fits;
-  halts = λ w k p shape short h h' fits. fits_halts s scripted w k p shape short h fits;
-  goes = λ w c a short h h' fits. fits_client s w c None a fits;
-  gets = λ w c x a short h h' fits. fits_client s w c (Some (ToClient c x)) a fits;
-  stop = λ w short h h' fits. fits_stops s w h fits;
+  idle = λ w n g all. all;
+  round = λ w n g all. all;
+  does = λ w p shape short g g' all. fits_does s scripted w p shape short g all;
+  halts = λ w k p shape short g g' all. fits_halts s scripted w k p shape short g all;
+  goes = λ w c a short g g' all. fits_client s w c None a all;
+  gets = λ w c x a short g g' all. fits_client s w c (Some (ToClient c x)) a all;
+  stop = λ w short g g' all. fits_stops s w g all;
 }
 
+-- all of it, in every world
 abbrev pub Fitting : Setup → World → Type 0
-Fitting s = Both (Knowing s) (WhileShort (AllFit s))
+Fitting s = Both (Ground s) (WhileShort (AllFit s))
+
+pub ground_kept : (s : Setup) → IsScripted s → IsKept s (Ground s)
+ground_kept s scripted =
+    both_kept s (Knowing s) (AllWide s) (knowing_kept s (named s scripted)) (kept_over s (Knowing s) (Grounds s) (AllWide s) (λ w h. h.0.0.0.0) (wide_kept s))
 
 pub fitting_kept : (s : Setup) → IsScripted s → IsKept s (Fitting s)
-fitting_kept s scripted = both_kept s (Knowing s) (WhileShort (AllFit s)) (knowing_kept s (named s scripted)) (short_kept s (Knowing s) (AllFit s) (fits_kept s scripted))
+fitting_kept s scripted = both_kept s (Ground s) (WhileShort (AllFit s)) (ground_kept s scripted) (short_kept s (Ground s) (AllFit s) (fits_kept s scripted))
 
 pub fits_of : (s : Setup) (w : World) → Fitting s w → IsShort w → Fits s w
-fits_of s w h short t x there = (h.1 short t x there).entries
+fits_of s w h short t x there i e at own = each_at_place (IsFit s.clusters) (topic_at s w t x).entries i e (h.1 short t x there) at

@@ -1,10 +1,11 @@
 -- The ids of snapshots are texts: equal only where name and position are, and never equal to the id of a second round.
-use Rattle.std.proofs.Common.{◌≡◌, ℕ, suc, ◌+◌, ◌^◌, ◌<◌, Bool, true, false, List, [], ◌∷◌, ◌++◌, length, refl, sym, ap, subst, ◌∙◌, ◌==◌, arith}
+use Rattle.std.proofs.Common.{◌≡◌, ℕ, suc, ◌+◌, ◌^◌, ◌<◌, ◌≤◌, Bool, true, false, List, [], ◌∷◌, ◌++◌, length, refl, sym, ap, subst, ◌∙◌, ◌==◌, arith}
 use Rattle.std.specs.Prelude.{◌||◌, decimal}
 use Rattle.std.specs.Char.{digit_value}
 use Rattle.std.specs.Str.Parse.{AllDigits}
 use Rattle.std.proofs.lemmas.Bool.{eq-eqb, eqb-true, false≢true}
-use Rattle.std.proofs.lemmas.Fmt.{decimal_injective, decimal_is_IsNumeral}
+use Rattle.std.proofs.lemmas.Fmt.{decimal_injective, decimal_is_IsNumeral, length-decimal-le}
+use Rattle.std.proofs.lemmas.List.{length-append}
 use Rattle.world_laws.proofs.Types.{Position}
 use Rattle.geo_base.specs.Builder.{second_id, snapshot_id}
 use Rattle.geo_base.specs.Cursor.{has}
@@ -101,3 +102,15 @@ not_second m a p no_slash_in small is =
     lack_both 47 (decimal p.ledger) (58 ∷ decimal p.entry) (decimal_lacks 47 p.ledger no_slash small.ledger) entry in
     let none : has (snapshot_id m p) 47 ≡ false = lack_both 47 m (58 ∷ (decimal p.ledger ++ (58 ∷ decimal p.entry))) no_slash_in both in
     false≢true (sym none ∙ (ap (λ (l : List ℕ). has l 47) is ∙ has_there 47 a (50 ∷ [])))
+
+-- An id is short: a name of at most 16 bytes, two numbers of 64 bits, which take at most 20 digits each, and what joins them
+pub id_short : (m : List ℕ) (p : Position) → length m ≤ 16 → IsSmall p → length (snapshot_id m p) ≤ 58
+id_short m p short small =
+    let ledger = length-decimal-le 20 p.ledger (omega arith) (omega (arith, small.ledger)) small.ledger in
+    let entry = length-decimal-le 20 p.entry (omega arith) (omega (arith, small.entry)) small.entry in
+    let numbers = length-append (decimal p.ledger) (58 ∷ decimal p.entry) in
+    let whole = length-append m (58 ∷ (decimal p.ledger ++ (58 ∷ decimal p.entry))) in
+    omega (arith, short, ledger, entry, numbers, whole)
+
+pub second_short : (a : List ℕ) → length (second_id a) ≡ length a + 2
+second_short a = let whole = length-append a (47 ∷ 50 ∷ []) in omega (arith, whole)

@@ -100,8 +100,6 @@ pub mod LiveFrames
 pub mod LiveRounds
 pub mod LiveStarts
 pub mod Quiet
-pub mod Measures
-pub mod FineWrites
 pub mod FittingRuns
 pub mod Complete
 pub mod SubFrames
@@ -112,6 +110,14 @@ pub mod Keeping
 pub mod DueCounts
 pub mod Serving
 pub mod Offered
+pub mod OwnSizes
+pub mod Widths
+pub mod NewEntries
+pub mod OwnPlain
+pub mod Sizing
+pub mod Sending
+pub mod ClientSends
+pub mod Carrying
 pub mod Passing
 pub mod Told
 pub mod OnlyTold

@@ -46,7 +46,7 @@ of_frame g send message frame.Ping = refl
 of_frame g send message frame.Pong = refl
 of_frame g send message frame.Unreadable = refl
 
-abbrev packet_of : ℕ → ℕ → Frame → Option Packet
+abbrev pub packet_of : ℕ → ℕ → Frame → Option Packet
 packet_of session stamp f = Some (record { session = session; stamp = stamp; frame = f })
 
 send_served : (h : Site) (b : Broker) (c : ℕ) (s : Session) (id seq : ℕ) (source : Option Place) (e : Entry) (o : Option (List ℕ))
@@ -62,20 +62,20 @@ in_session h b c n m id seq source e None = refl
 in_session h b c n m id seq source e (Some s) =
     ap (λ (p : Plan). if s.number == n then p else quiet_plan []) (send_served h b c s id seq source e (name_with id s.producers))
 
-serve_same : (h : Site) (b : Broker) (c n m : ℕ) (f : Frame) → serve h b c (packet_of n m (without_origin f)) ≡ serve h b c (packet_of n m f)
+pub serve_same : (h : Site) (b : Broker) (c n m : ℕ) (f : Frame) → serve h b c (packet_of n m (without_origin f)) ≡ serve h b c (packet_of n m f)
 unfolding serve
 serve_same h b c n m f =
     of_frame (λ (f : Frame). serve h b c (packet_of n m f)) (λ id seq source e. in_session h b c n m id seq source e (session_at b c))
     (λ id position source e. refl) f
 
-take_same : (h : Site) (b : Broker) (x : ℕ) (fate' : Fate) (n m : ℕ) (f : Frame)
+pub take_same : (h : Site) (b : Broker) (x : ℕ) (fate' : Fate) (n m : ℕ) (f : Frame)
     → take_packet h b x fate' (packet_of n m (without_origin f)) ≡ take_packet h b x fate' (packet_of n m f)
 unfolding take_packet
 take_same h b x fate.Good n m f = of_frame (λ (f : Frame). take_packet h b x fate.Good (packet_of n m f)) (λ id seq source e. refl) (λ id position source e. refl) f
 take_same h b x fate.Lost n m f = refl
 take_same h b x fate.Twice n m f = of_frame (λ (f : Frame). take_packet h b x fate.Twice (packet_of n m f)) (λ id seq source e. refl) (λ id position source e. refl) f
 
-receipt_same : (h : Site) (b : Broker) (y : ℕ) (fate' : Fate) (n m : ℕ) (f : Frame)
+pub receipt_same : (h : Site) (b : Broker) (y : ℕ) (fate' : Fate) (n m : ℕ) (f : Frame)
     → receipt h b y fate' (packet_of n m (without_origin f)) ≡ receipt h b y fate' (packet_of n m f)
 unfolding receipt
 receipt_same h b y fate.Good n m f = of_frame (λ (f : Frame). receipt h b y fate.Good (packet_of n m f)) (λ id seq source e. refl) (λ id position source e. refl) f
@@ -87,7 +87,7 @@ got_same k id position None e = refl
 got_same k id position (Some (place.Known x)) e = refl
 got_same k id position (Some (place.Stranger name)) e = refl
 
-get_same : (d : Declared) (k : Client) (n m : ℕ) (f : Frame) → get d k (packet_of n m (without_origin f)) ≡ get d k (packet_of n m f)
+pub get_same : (d : Declared) (k : Client) (n m : ℕ) (f : Frame) → get d k (packet_of n m (without_origin f)) ≡ get d k (packet_of n m f)
 unfolding get
 get_same d k n m f =
     of_frame (λ (f : Frame). get d k (packet_of n m f)) (λ id seq source e. refl)

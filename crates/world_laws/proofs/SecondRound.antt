@@ -66,7 +66,7 @@ knows_written s w k p shape h short = record {
 }
 
 -- the positions of what stands have small numbers
-small_at : (s : Setup) (w : World) (t x i : ℕ) → Knows s w → IsThere s t x → i < length (topic_at s w t x).entries → IsSmall (position_at (topic_at s w t x).ledgers i)
+pub small_at : (s : Setup) (w : World) (t x i : ℕ) → Knows s w → IsThere s t x → i < length (topic_at s w t x).entries → IsSmall (position_at (topic_at s w t x).ledgers i)
 small_at s w t x i k there lt =
     let b = topic_at s w t x in let numbered = (k.answers t x there).numbered in let whole = numbered.whole in
     stored_small b (position_at b.ledgers i) i (k.room t x there) numbered (at_index b.ledgers i (omega (arith, lt, whole)))

@@ -1,6 +1,6 @@
 -- The walk through serve: each branch has its shape.
 use Rattle.std.proofs.Common.{◌≡◌, ℕ, Bool, true, false, List, [], ◌∷◌, refl, sym, ◌==◌}
-use Rattle.std.specs.Prelude.{Option, Some, None, if◌then◌else◌, ◌&&◌, ◌||◌, not, nat_lt, length, is_some}
+use Rattle.std.specs.Prelude.{Option, Some, None, if◌then◌else◌, ◌&&◌, ◌||◌, not, nat_le, nat_lt, length, is_some, take, codes}
 use Rattle.std.specs.List.{list_any}
 use Rattle.std.specs.Str.{bytes_eq}
 use Rattle.world_laws.proofs.Types.{AckKind, Cut, Entry, Frame, Packet, Place, Position, Session, SubKind, Write}
@@ -15,14 +15,14 @@ use Rattle.geo_base.specs.Entry.{with_origin}
 use Rattle.geo_base.specs.Name.{is_name}
 use Rattle.geo_base.specs.Plan.{plan_of, quiet_plan, unless_found}
 use Rattle.geo_base.specs.Position.{nowhere}
-use Rattle.geo_base.specs.Producing.{is_sound, is_taken, may_attach, name_with, serve_close_producer, serve_producer, serve_send, stores}
+use Rattle.geo_base.specs.Producing.{is_sound, is_taken, may_attach, most_producer_name, name_with, serve_close_producer, serve_producer, serve_send, stores}
 use Rattle.geo_base.specs.Serving.{serve_command, serve_frame}
 use Rattle.geo_base.specs.Storing.{appending_update, update_after}
 use Rattle.geo_base.specs.Subscribing.{consumed_by, has_room, is_busy, joins, same_kind, serve_close_consumer, serve_flow, serve_subscribe, serve_unsubscribe, subscribes}
 use Rattle.geo_base.specs.Subscription.{Subscription, is_attached, with_acks}
 use Rattle.geo_base.specs.Topic.{accepts, next_position}
 use Rattle.world_laws.proofs.Shapes.{InSession, IsSound, MayJoin, Served, Updates}
-use Rattle.world_laws.proofs.Walk.{on_found, on_if, on_test}
+use Rattle.world_laws.proofs.Walk.{left, on_found, on_if, on_test, right}
 
 -- an update follows, or none
 passed_updates : (h : Site) (b : Broker) (v : Subscription) (o : Option Cut) → v.replicated ≡ true → last_passed (mark v.cursor) v.cache ≡ o
@@ -35,12 +35,18 @@ updates_after h b v =
     on_test (λ (o : Option Cut). Updates h b v (appending_update h b v.name o)) v.replicated _ _
     (λ r. passed_updates h b v (last_passed (mark v.cursor) v.cache) r refl) (λ _. Updates.NoUpdate)
 
+not_false : (a : Bool) → not a ≡ false → a ≡ true
+not_false true h = refl
+not_false false h = sym h
+
 producer_served : (h : Site) (b : Broker) (c : ℕ) (p : Packet) (s : Session) (topic : List ℕ) (id request : ℕ) (n : Option (List ℕ)) → InSession b c p s
     → Served h b c p (serve_producer h b c s topic id request n)
-producer_served h b c p s topic id request None at = Served.Answers s _ at
+producer_served h b c p s topic id request None at = Served.Answers s _ (at, tt)
 producer_served h b c p s topic id request (Some n) at =
-    on_if (Served h b c p) (not (bytes_eq topic h.topic && may_attach n)) _ _ (Served.Answers s _ at)
-    (on_if (Served h b c p) (is_taken n c 0 b.sessions) _ _ (Served.Answers s _ at) (Served.ChangesProducers s _ _ at))
+    on_test (Served h b c p) (not (bytes_eq topic h.topic && may_attach n)) _ _ (λ _. Served.Answers s _ (at, tt))
+    (λ may. on_if (Served h b c p) (is_taken n c 0 b.sessions) _ _ (Served.Answers s _ (at, tt))
+    (Served.ChangesProducers s _ (frame.ProducerSuccess request n)
+    (at, left (nat_le (length n) most_producer_name) (not (bytes_eq (take 7 n) (codes "pulsar."))) (right (bytes_eq topic h.topic) (may_attach n) (not_false _ may)))))
 
 stored_served : (h : Site) (b : Broker) (c : ℕ) (p : Packet) (s : Session) (id seq : ℕ) (source : Option Place) (e : Entry) (a : Bool)
     → InSession b c p s → IsSound h s p id seq source e → accepts b.entries (with_origin h.own e).ident ≡ a
@@ -52,15 +58,15 @@ stored_served h b c p s id seq source e false at sound is = Served.Repeats s id 
 send_served : (h : Site) (b : Broker) (c : ℕ) (p : Packet) (s : Session) (id seq : ℕ) (source : Option Place) (e : Entry) (n : Option (List ℕ))
     → InSession b c p s → p.frame ≡ frame.Send id seq source e → name_with id s.producers ≡ n
     → Served h b c p (serve_send h b c s id seq source e n)
-send_served h b c p s id seq source e None at is named = Served.Answers s _ at
+send_served h b c p s id seq source e None at is named = Served.Answers s _ (at, tt)
 send_served h b c p s id seq source e (Some n) at is named =
     on_test (Served h b c p) (is_sound h n seq source e) (stores h b c s id seq (with_origin h.own e)) _
     (λ sound. stored_served h b c p s id seq source e (accepts b.entries (with_origin h.own e).ident) at (is, (n, named, sound)) refl)
-    (λ _. Served.Answers s _ at)
+    (λ _. Served.Answers s _ (at, tt))
 
 closed_served : (h : Site) (b : Broker) (c : ℕ) (p : Packet) (s : Session) (id request : ℕ) → InSession b c p s → Served h b c p (serve_close_producer c s id request)
 closed_served h b c p s id request at =
-    on_if (Served h b c p) (is_some (name_with id s.producers)) _ _ (Served.ChangesProducers s _ _ at) (Served.Answers s _ at)
+    on_if (Served h b c p) (is_some (name_with id s.producers)) _ _ (Served.ChangesProducers s _ _ (at, tt)) (Served.Answers s _ (at, tt))
 
 joined_served : (h : Site) (b : Broker) (c : ℕ) (p : Packet) (s : Session) (topic n : List ℕ) (kind : SubKind) (id request : ℕ) (consumer : Option (List ℕ)) (earliest replicated : Bool) (o : Option Subscription)
     → InSession b c p s → p.frame ≡ frame.Subscribe topic n kind id request consumer earliest replicated → MayJoin h b c topic n → sub_named b.subs n ≡ o
@@ -68,21 +74,17 @@ joined_served : (h : Site) (b : Broker) (c : ℕ) (p : Packet) (s : Session) (to
 joined_served h b c p s topic n kind id request consumer earliest replicated None at is may named =
     Served.Creates s topic n kind id request consumer earliest replicated at is may named
 joined_served h b c p s topic n kind id request consumer earliest replicated (Some v) at is may named =
-    on_test (Served h b c p) (is_busy kind v) _ _ (λ _. Served.Answers s _ at)
+    on_test (Served h b c p) (is_busy kind v) _ _ (λ _. Served.Answers s _ (at, tt))
     (λ free. on_test (λ (ws : List Write). Served h b c p (joins c s n id request ws)) (same_kind kind v.kind && (v.replicated || not replicated)) _ _
     (λ same. Served.Joins s topic n kind id request consumer earliest replicated v at is may named free same)
     (λ other. Served.Alters s topic n kind id request consumer earliest replicated v at is may named free other))
-
-not_false : (a : Bool) → not a ≡ false → a ≡ true
-not_false true h = refl
-not_false false h = sym h
 
 subscribe_served : (h : Site) (b : Broker) (c : ℕ) (p : Packet) (s : Session) (topic n : List ℕ) (kind : SubKind) (id request : ℕ) (consumer : Option (List ℕ)) (earliest replicated : Bool)
     → InSession b c p s → p.frame ≡ frame.Subscribe topic n kind id request consumer earliest replicated
     → Served h b c p (serve_subscribe h b c s topic n kind id request earliest replicated)
 subscribe_served h b c p s topic n kind id request consumer earliest replicated at is =
-    on_test (Served h b c p) (not (bytes_eq topic h.topic && is_name n && has_room b n)) _ _ (λ _. Served.Answers s _ at)
-    (λ ok. on_test (Served h b c p) (list_any (is_attached c) b.subs) _ _ (λ _. Served.Answers s _ at)
+    on_test (Served h b c p) (not (bytes_eq topic h.topic && is_name n && has_room b n)) _ _ (λ _. Served.Answers s _ (at, tt))
+    (λ ok. on_test (Served h b c p) (list_any (is_attached c) b.subs) _ _ (λ _. Served.Answers s _ (at, tt))
     (λ alone. joined_served h b c p s topic n kind id request consumer earliest replicated (sub_named b.subs n) at is (not_false _ ok, alone) refl))
 
 flow_served : (h : Site) (b : Broker) (c : ℕ) (p : Packet) (s : Session) (id permits : ℕ) (o : Option Subscription)
@@ -104,13 +106,13 @@ ack_served h b c p s id kind ps (Some v) at is by = acked_served h b c p s id ki
 
 unsubscribe_served : (h : Site) (b : Broker) (c : ℕ) (p : Packet) (s : Session) (id request : ℕ) (o : Option Subscription)
     → InSession b c p s → p.frame ≡ frame.Unsubscribe id request → consumed_by b.subs c id ≡ o → Served h b c p (serve_unsubscribe c s request o)
-unsubscribe_served h b c p s id request None at is by = Served.Answers s _ at
+unsubscribe_served h b c p s id request None at is by = Served.Answers s _ (at, tt)
 unsubscribe_served h b c p s id request (Some v) at is by =
-    on_test (Served h b c p) (nat_lt 1 (length v.consumers)) _ _ (λ _. Served.Answers s _ at) (λ last. Served.Unsubscribes s id request v at is by last)
+    on_test (Served h b c p) (nat_lt 1 (length v.consumers)) _ _ (λ _. Served.Answers s _ (at, tt)) (λ last. Served.Unsubscribes s id request v at is by last)
 
 leave_served : (h : Site) (b : Broker) (c : ℕ) (p : Packet) (s : Session) (id request : ℕ) (o : Option Subscription)
     → InSession b c p s → p.frame ≡ frame.CloseConsumer id request → consumed_by b.subs c id ≡ o → Served h b c p (serve_close_consumer c s request o)
-leave_served h b c p s id request None at is by = Served.Answers s _ at
+leave_served h b c p s id request None at is by = Served.Answers s _ (at, tt)
 leave_served h b c p s id request (Some v) at is by = Served.ClosesConsumer s id request v at is by
 
 command_served : (h : Site) (b : Broker) (c : ℕ) (p : Packet) (s : Session) (f : Frame) → InSession b c p s → p.frame ≡ f → Served h b c p (serve_command h b c s f)
@@ -123,7 +125,7 @@ command_served h b c p s (frame.Flow id permits) at is = flow_served h b c p s i
 command_served h b c p s (frame.Ack id kind ps) at is = ack_served h b c p s id kind ps (consumed_by b.subs c id) at is refl
 command_served h b c p s (frame.Unsubscribe id request) at is = unsubscribe_served h b c p s id request (consumed_by b.subs c id) at is refl
 command_served h b c p s (frame.CloseConsumer id request) at is = leave_served h b c p s id request (consumed_by b.subs c id) at is refl
-command_served h b c p s frame.Ping at is = Served.Answers s _ at
+command_served h b c p s frame.Ping at is = Served.Answers s _ (at, tt)
 command_served h b c p s frame.Pong at is = Served.Ignores
 command_served h b c p s f at is = Served.Disconnects
 

@@ -29,7 +29,7 @@ use Rattle.geo_base.specs.Offering.{message}
 use Rattle.geo_base.specs.Plan.{Plan, done, idle_plan, plan_of, quiet_plan}
 use Rattle.geo_base.specs.Planned.{Planned, has_node, has_pair}
 use Rattle.geo_base.specs.Position.{nowhere}
-use Rattle.geo_base.specs.Producing.{is_sound, name_with, with_producers}
+use Rattle.geo_base.specs.Producing.{is_sound, most_producer_name, name_with, with_producers}
 use Rattle.geo_base.specs.Reading.{forwards}
 use Rattle.geo_base.specs.Receiver.{is_from, is_open}
 use Rattle.geo_base.specs.Seeking.{restart, seek_index}
@@ -65,13 +65,22 @@ abbrev pub IsSound : Site → Session → Packet → ℕ → ℕ → Option Plac
 IsSound h s p id seq source e =
     (p.frame ≡ frame.Send id seq source e) × ((n : List ℕ) × (name_with id s.producers ≡ Some n) × (is_sound h n seq source e ≡ true))
 
+-- what a broker answers a command with: no message, and no name that is longer than a producer's
+abbrev pub IsReply : Frame → Type 0
+IsReply (frame.ProducerSuccess request n) = nat_le (length n) most_producer_name ≡ true
+IsReply (frame.Error request code) = Unit {0}
+IsReply (frame.Success request) = Unit {0}
+IsReply (frame.SendError id seq code) = Unit {0}
+IsReply frame.Pong = Unit {0}
+IsReply f = ⊥
+
 pub data Served (h : Site) (b : Broker) (c : ℕ) (p : Packet) : Plan → Type 0 where
   Ignores : Served h b c p (quiet_plan [])
   Disconnects : Served h b c p (quiet_plan (session_becomes c None))
   Connects : (s : Session) → p.frame ≡ frame.Connect → s ≡ record { number = p.session; producers = [] }
       → Served h b c p (plan_of [] (session_becomes c (Some s)) (answer c s frame.Connected))
-  Answers : (s : Session) (f : Frame) → InSession b c p s → Served h b c p (answers c s f)
-  ChangesProducers : (s : Session) (ps : List AttachedProducer) (f : Frame) → InSession b c p s
+  Answers : (s : Session) (f : Frame) → InSession b c p s × IsReply f → Served h b c p (answers c s f)
+  ChangesProducers : (s : Session) (ps : List AttachedProducer) (f : Frame) → InSession b c p s × IsReply f
       → Served h b c p (plan_of [] (with_producers c s ps ∷ []) (answer c s f))
   Stores : (s : Session) (id seq : ℕ) (source : Option Place) (e : Entry) → InSession b c p s → IsSound h s p id seq source e
       → accepts b.entries (with_origin h.own e).ident ≡ true

@@ -5,6 +5,7 @@
 #![tactic(auto)]
 
 pub mod histories;
+pub mod links;
 pub mod replication;
 pub mod settled;
 pub mod settling;
@@ -13,6 +14,7 @@ pub mod subscriptions;
 pub mod topics;
 
 pub use histories::{law_alike, law_merge};
+pub use links::{law_fits, law_plain};
 pub use replication::{law_prefix, law_receipt};
 pub use settled::{law_safe, law_update};
 pub use settling::{law_budget, law_settles_in_time};

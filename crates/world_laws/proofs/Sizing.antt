@@ -1,23 +1,17 @@
 -- Small frames are within the limit on frames.
-use Rattle.std.proofs.Common.{◌≡◌, ℕ, ◌+◌, ◌*◌, ◌<◌, ◌≤◌, List, [], ◌∷◌, length, refl, arith}
+use Rattle.std.proofs.Common.{◌≡◌, ℕ, ◌+◌, ◌*◌, ◌<◌, ◌≤◌, List, [], ◌∷◌, length, refl, arith, lt-ltb}
 use Rattle.std.specs.Prelude.{Option, Some, None, IfSome}
-use Rattle.geo_base.specs.declared.entry.Entry.{Entry}
-use Rattle.geo_base.specs.declared.frame.Frame.{Frame}
-use Rattle.geo_base.specs.declared.frame.Frame.TheVariants as frame
-use Rattle.geo_base.specs.declared.marker.Place.{Place}
-use Rattle.geo_base.specs.declared.position.Position.{Position}
-use Rattle.geo_base.specs.FrameSizes.{body_size, frame_size, framed, optional_position, repeated_position, source_size}
-use Rattle.geo_base.specs.Sizes.{bytes_field, entry_size, number_field, optional_text, place_name, position_size, tag_size, text_field, varint_size}
-use Rattle.wire_frames.specs.Fitting.{IsShort, IsSmall, IsSmallEntry}
-use Rattle.wire_frames.proofs.Counting.{varint_most, varint_one}
+use Rattle.world_laws.proofs.Types.{Entry, Frame, Place, Position}
+use Rattle.world_laws.proofs.Types.frame
+use Rattle.geo_base.specs.FrameSizes.{body_size, frame_size, framed, most_frame_size, repeated_position, source_size}
+use Rattle.geo_base.specs.Sizes.{bytes_field, number_field, optional_text, place_name, position_size, tag_size, text_field, varint_size}
+use Rattle.world_laws.specs.Small.{IsShortText, IsSmallEntry, IsSmallFrame}
+use Rattle.world_laws.proofs.OwnSizes.{bytes_most, number_most, varint_most}
 
-number_most : (f n : ℕ) → number_field f n ≤ 20
-number_most f n = omega (arith, varint_most (f * 8), varint_most n)
+varint_one : (n : ℕ) → n < 128 → varint_size n ≡ 1
+varint_one n lt = rw (lt-ltb n 128 lt) refl
 
-bytes_most : (f n : ℕ) → bytes_field f n ≤ 20 + n
-bytes_most f n = omega (arith, varint_most (f * 8), varint_most n)
-
-optional_most : (f : ℕ) (o : Option (List ℕ)) → IfSome o IsShort → optional_text f o ≤ 1044
+optional_most : (f : ℕ) (o : Option (List ℕ)) → IfSome o IsShortText → optional_text f o ≤ 1044
 optional_most f None h = omega arith
 optional_most f (Some t) h = omega (arith, bytes_most f (length t), h)
 
@@ -26,12 +20,12 @@ framed_most : (kind len body most : ℕ) → len + body ≤ most → framed kind
 framed_most kind len body most h = omega (arith, bytes_most kind len)
 
 -- a position takes at most 22 bytes, and the two of its field
-place_most : (p : Position) → position_size p ≤ 22
-place_most p = omega (arith, varint_most p.ledger, varint_most p.entry)
+position_most : (p : Position) → position_size p ≤ 22
+position_most p = omega (arith, varint_most p.ledger, varint_most p.entry)
 
 id_most : (p : Position) → bytes_field 3 (position_size p) ≤ 24
 id_most p =
-    let small : position_size p ≤ 22 = place_most p in
+    let small : position_size p ≤ 22 = position_most p in
     let one : varint_size (position_size p) ≡ 1 = varint_one (position_size p) (omega arith) in
     let tag : tag_size 3 ≡ 1 = refl in
     omega (arith, small, one, tag)
@@ -40,14 +34,14 @@ ids_most : (ps : List Position) → repeated_position 3 ps ≤ 24 * length ps
 ids_most [] = omega arith
 ids_most (p ∷ ps) = omega (arith, id_most p, ids_most ps)
 
-source_most : (names : List (List ℕ)) (o : Option Place) → IfSome o (λ p. IsShort (place_name names p)) → source_size names o ≤ 1044
+source_most : (names : List (List ℕ)) (o : Option Place) → IfSome o (λ p. IsShortText (place_name names p)) → source_size names o ≤ 1044
 source_most names None h = omega arith
 source_most names (Some p) h = omega (arith, bytes_most 5 (length (place_name names p)), h)
 
 carried_most : (names : List (List ℕ)) (source : Option Place) (e : Entry) → IsSmallEntry names source e → body_size names source e ≤ 5243928
 carried_most names source e h = omega (arith, h.entry, source_most names source h.from)
 
-pub fits : (names : List (List ℕ)) (f : Frame) → IsSmall names f → frame_size names f ≤ 5253124
+pub fits : (names : List (List ℕ)) (f : Frame) → IsSmallFrame names f → frame_size names f ≤ 4 + most_frame_size
 fits names frame.Connect h = omega arith
 fits names frame.Connected h = omega arith
 fits names (frame.Subscribe topic sub kind id request consumer earliest replicated) h =
@@ -73,7 +67,7 @@ fits names (frame.Message id position source e) h =
     omega (
       arith,
       framed_most 9 (number_field 1 id + bytes_field 2 (position_size position)) (body_size names source e) 5250000
-          (omega (arith, number_most 1 id, bytes_most 2 (position_size position), place_most position, carried_most names source e h)),
+          (omega (arith, number_most 1 id, bytes_most 2 (position_size position), position_most position, carried_most names source e h)),
     )
 fits names (frame.Ack id kind positions) h =
     omega (arith, framed_most 10 (number_field 1 id + (2 + repeated_position 3 positions)) 0 4900000 (omega (arith, number_most 1 id, ids_most positions, h)))

@@ -1,5 +1,5 @@
 -- Plain values are told whole by their texts, where the clusters' names are told apart.
-use Rattle.std.proofs.Common.{◌≡◌, ℕ, zero, suc, ◌+◌, ◌*◌, ◌/◌, ◌%◌, ◌^◌, ◌<◌, ◌==◌, Bool, true, false, List, [], ◌∷◌, length, map, refl, sym, ap, ◌∙◌, arith}
+use Rattle.std.proofs.Common.{◌≡◌, ℕ, zero, suc, ◌+◌, ◌*◌, ◌/◌, ◌%◌, ◌^◌, ◌<◌, Bool, true, false, List, [], ◌∷◌, length, map, refl, sym, ap, ◌∙◌, arith}
 use Rattle.std.specs.Prelude.{Option, Some, None, IfSome, if◌then◌else◌, slice_get, slice_index_or, nat_lt, ◌&&◌}
 use Rattle.std.specs.Option.{option_map}
 use Rattle.std.specs.Str.{bytes_eq}
@@ -25,7 +25,7 @@ use Rattle.geo_base.specs.Entry.{goes_to}
 use Rattle.geo_base.specs.Scripted.{AreDistinct, names_some}
 use Rattle.geo_base.specs.Sizes.{place_name}
 use Rattle.marker_codec.specs.Machine.{named_cluster, named_marker}
-use Rattle.wire_frames.specs.Plain.{AreClusters, HasClusters, IsCluster, IsPlain, IsPlainContent, IsPlainEntry}
+use Rattle.world_laws.specs.Plain.{AreClusters, HasClusters, IsCluster, IsPlain, IsPlainContent, IsPlainEntry}
 use Rattle.wire_frames.specs.Told.{IsTold, IsToldContent, IsToldEntry}
 use Rattle.wire_frames.specs.Values.{bits_of, lists, no_marker, place_from, place_of, placed_cluster, placed_marker, targets_of}
 
@@ -163,7 +163,7 @@ targets_told names (targets.Only bits) d h = by (target_names 0 (targets.Only bi
 
 -- ---- entries and frames
 
-entry_told : (names : List (List ℕ)) (source : Option Place) (e : Entry) → AreDistinct names → IsPlainEntry names source e → IsToldEntry names source e
+pub entry_told : (names : List (List ℕ)) (source : Option Place) (e : Entry) → AreDistinct names → IsPlainEntry names source e → IsToldEntry names source e
 entry_told names source e d h = record {
   to = targets_told names e.to d h.some ∙ ap (λ (l : List (List ℕ)). targets_of names l) (sym h.listed);
   from = source_told names source d h.from;

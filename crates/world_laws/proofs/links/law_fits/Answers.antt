@@ -1,0 +1,5 @@
+use Rattle.world_laws.proofs.Carrying.{fits_always}
+use Rattle.world_laws.proofs.links.law_fits.Goals as goal
+
+pub returns : goal.returns
+returns c = record { always = fits_always }

@@ -1,0 +1,5 @@
+use Rattle.world_laws.proofs.Carrying.{plain_always}
+use Rattle.world_laws.proofs.links.law_plain.Goals as goal
+
+pub returns : goal.returns
+returns c = record { always = plain_always }
