@@ -1,3 +1,5 @@
 pub mod Mapped
+pub mod Markers
 pub mod SenderTables
+pub mod Steps
 pub mod Halts

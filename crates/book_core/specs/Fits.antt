@@ -1,27 +1,19 @@
 -- Prepared events that a broker can commit: their numbers name what is there, and what they append is accepted.
-use Rattle.std.specs.Prelude.{◌≡◌, ℕ, ◌+◌, ◌<◌, ◌≤◌, ◌^◌, true, false, List, [], ◌∷◌, ◌++◌, length, None, Some, slice_get, slice_index_or, ⊤}
+use Rattle.std.specs.Prelude.{◌≡◌, ℕ, ◌+◌, ◌<◌, ◌≤◌, ◌^◌, true, List, [], ◌∷◌, ◌++◌, length, None, Some, slice_get, ⊤}
 use Rattle.std.specs.List.{remove}
 use Rattle.dedup_table.specs.Table.{stream_of}
 use Rattle.geo_base.specs.declared.entry.Entry.{Entry}
-use Rattle.geo_base.specs.declared.frame.SubKind.TheVariants as sub_kind
 use Rattle.geo_base.specs.Broker.{Broker, changed, sender_at, sub_named, written}
 use Rattle.geo_base.specs.Plan.{all_written}
-use Rattle.geo_base.specs.Subscription.{Subscription, new_subscription}
 use Rattle.geo_base.specs.Topic.{accepts}
 use Rattle.book_subs.specs.Steps.{SubChangeFits, SubWriteFits}
-use Rattle.book_subs.specs.Table.{is_new, names_of}
+use Rattle.book_subs.specs.Table.{is_new, names_of, sub_at}
 use Rattle.book_core.specs.Prepared.{PreparedBook, name_in, named_plan}
 use Rattle.book_core.specs.Writes.{machine_change, machine_write}
 use Rattle.book_core.specs.declared.change.BookChange.{BookChange}
 use Rattle.book_core.specs.declared.change.BookChange.TheVariants as book_change
 use Rattle.book_core.specs.declared.write.BookWrite.{BookWrite}
 use Rattle.book_core.specs.declared.write.BookWrite.TheVariants as book_write
-
-abbrev pub no_sub : Subscription
-no_sub = new_subscription [] sub_kind.Exclusive false []
-
-abbrev pub sub_at : List Subscription → ℕ → Subscription
-sub_at ss k = slice_index_or ss k no_sub
 
 -- the name n stands at place k
 abbrev pub IsThere : List (List ℕ) → ℕ → List ℕ → Type 0
@@ -71,6 +63,29 @@ ChangeNamed n k ns book_change.Forget = ⊤
 abbrev pub ChangesNamed : List ℕ → ℕ → List (List ℕ) → List BookChange → Type 0
 ChangesNamed n k ns [] = ⊤
 ChangesNamed n k ns (c ∷ cs) = ChangeNamed n k ns c × ChangesNamed n k ns cs
+
+-- it has its place among so many subscriptions
+abbrev pub PlaceFits : ℕ → ℕ → BookWrite → Type 0
+PlaceFits k many (book_write.Append e stream) = ⊤
+PlaceFits k many (book_write.Create s latest) = k ≡ many
+PlaceFits k many book_write.Delete = k < many
+PlaceFits k many (book_write.Sub w) = k < many
+PlaceFits k many (book_write.SenderAck y i) = ⊤
+PlaceFits k many (book_write.SessionNumber y session) = ⊤
+PlaceFits k many book_write.Ledger = ⊤
+
+abbrev pub ChangePlaceFits : ℕ → ℕ → BookChange → Type 0
+ChangePlaceFits k many (book_change.Receiver x session) = ⊤
+ChangePlaceFits k many (book_change.Client c session) = ⊤
+ChangePlaceFits k many (book_change.Detach c) = ⊤
+ChangePlaceFits k many (book_change.Sub c) = k < many
+ChangePlaceFits k many (book_change.Opening y) = ⊤
+ChangePlaceFits k many (book_change.Opened y) = ⊤
+ChangePlaceFits k many (book_change.Pend y i) = ⊤
+ChangePlaceFits k many (book_change.ReadTo y i) = ⊤
+ChangePlaceFits k many (book_change.Unpend y number) = ⊤
+ChangePlaceFits k many (book_change.Building o) = ⊤
+ChangePlaceFits k many book_change.Forget = ⊤
 
 -- a write of a broker in whose topic es stood before the event
 abbrev pub WriteFits : List Entry → ℕ → Broker → BookWrite → Type 0

@@ -7,10 +7,13 @@
 
 mod book;
 mod change;
+mod changing;
 mod prepared;
+mod reserving;
 mod sender_row;
 mod senders;
 mod write;
+mod writing;
 
 pub use book::Book;
 pub use change::BookChange;
