@@ -1,5 +1,5 @@
 -- A stop between two durable writes, as an event of its own.
-use Rattle.std.proofs.Common.{◌≡◌, ℕ, zero, suc, List, [], ◌∷◌, ◌++◌, map, refl, ap, sym, ◌∙◌}
+use Rattle.std.proofs.Common.{◌≡◌, ℕ, zero, suc, List, [], ◌∷◌, ◌++◌, map, refl, ap, ◌∙◌}
 use Rattle.std.specs.Prelude.{take, Option, None, Some, slice_get}
 use Rattle.geo_base.specs.declared.change.Change.TheVariants as change
 use Rattle.geo_base.specs.declared.entry.Entry.{Entry}
@@ -10,7 +10,7 @@ use Rattle.geo_base.specs.Plan.{all_written, done, halted}
 use Rattle.geo_base.specs.Subscription.{Subscription}
 use Rattle.book_core.specs.declared.write.BookWrite.{BookWrite}
 use Rattle.book_core.specs.declared.write.BookWrite.TheVariants as book_write
-use Rattle.book_core.specs.Prepared.{PreparedBook, created_name, halted_book, name_in, name_or, plan_in}
+use Rattle.book_core.specs.Prepared.{PreparedBook, created_name, halted_book, name_or, plan_in}
 use Rattle.book_core.specs.Writes.{machine_write}
 
 -- only the first write tells whom an event creates

@@ -3,3 +3,4 @@ pub mod Markers
 pub mod SenderTables
 pub mod Steps
 pub mod Halts
+pub mod InTurn

@@ -42,9 +42,12 @@ abbrev pub name_or : Option Subscription → List BookWrite → List ℕ
 name_or None ws = created_name ws
 name_or (Some s) ws = s.name
 
--- the name of the event's subscription
+-- the name of the subscription of an event that is about the one at a place
+abbrev pub name_of : List Subscription → ℕ → List BookWrite → List ℕ
+name_of ss k ws = name_or (slice_get ss k) ws
+
 abbrev pub name_in : List Subscription → PreparedBook → List ℕ
-name_in ss p = name_or (slice_get ss p.sub) p.writes
+name_in ss p = name_of ss p.sub p.writes
 
 abbrev pub named_plan : List ℕ → List Entry → PreparedBook → Plan
 named_plan n es p = record { idle = p.idle; writes = map (machine_write n es) p.writes; changes = map (machine_change n) p.changes; sent = [] }

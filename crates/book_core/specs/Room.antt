@@ -1,6 +1,5 @@
 -- How many steps find memory, and how many a prepared event takes.
-use Rattle.std.specs.Prelude.{◌≡◌, ℕ, ◌+◌, ◌-◌, ◌≤◌, ◌<◌, List, [], ◌∷◌, ⊤}
-use Rattle.std.specs.List.{sum_by}
+use Rattle.std.specs.Prelude.{ℕ, ◌+◌, ◌-◌, ◌≤◌, ◌<◌, List, [], ◌∷◌, ⊤}
 use Rattle.book_subs.specs.Steps as sub
 use Rattle.book_subs.specs.Table.{SubRoom, room_at}
 use Rattle.book_core.specs.Prepared.{PreparedBook}
@@ -17,6 +16,11 @@ pub record Room : Type 0 where
   pub places : ℕ
   pub subs : List SubRoom
   pub senders : ℕ
+
+-- what each of some steps takes, together
+abbrev pub total : {X : Type 0} → (X → ℕ) → List X → ℕ
+total f [] = 0
+total f (x ∷ xs) = f x + total f xs
 
 abbrev pub entries_of : BookWrite → ℕ
 entries_of (book_write.Append e stream) = 1
@@ -121,21 +125,21 @@ change_senders book_change.Forget = 0
 
 -- writes of an event about the subscription at a place find the room that they need
 pub record WritesHaveRoom (room : Room) (k : ℕ) (ws : List BookWrite) : Type 0 where
-  pub entries : sum_by entries_of ws ≤ room.entries
-  pub streams : sum_by streams_of ws ≤ room.streams
-  pub places : sum_by places_of ws ≤ room.places
+  pub entries : total entries_of ws ≤ room.entries
+  pub streams : total streams_of ws ≤ room.streams
+  pub places : total places_of ws ≤ room.places
   pub acks : AllAcksFit (room_at room.subs k).acks ws
-  pub senders : sum_by senders_of ws ≤ room.senders
+  pub senders : total senders_of ws ≤ room.senders
 
 pub record ChangesHaveRoom (room : Room) (k : ℕ) (cs : List BookChange) : Type 0 where
-  pub given : sum_by change_room cs ≤ (room_at room.subs k).room
-  pub senders : sum_by change_senders cs ≤ room.senders
+  pub given : total change_room cs ≤ (room_at room.subs k).room
+  pub senders : total change_senders cs ≤ room.senders
 
 -- a prepared event finds the room that it needs
 pub record HasRoom (room : Room) (p : PreparedBook) : Type 0 where
   pub writes : WritesHaveRoom room p.sub p.writes
-  pub given : sum_by change_room p.changes ≤ all_room_left (room_at room.subs p.sub).room p.writes
-  pub senders : sum_by senders_of p.writes + sum_by change_senders p.changes ≤ room.senders
+  pub given : total change_room p.changes ≤ all_room_left (room_at room.subs p.sub).room p.writes
+  pub senders : total senders_of p.writes + total change_senders p.changes ≤ room.senders
 
 -- the room that a write leaves
 pub record WriteLeaves (k : ℕ) (w : BookWrite) (old new : Room) : Type 0 where

@@ -1,5 +1,5 @@
 -- Senders as their owner sees them: the machine's senders, and the room beside them.
-use Rattle.std.specs.Prelude.{◌≡◌, ℕ, ◌+◌, ◌≤◌, ◌<◌, ◌^◌, List, length, map, slice_index_or, ⊤}
+use Rattle.std.specs.Prelude.{ℕ, ◌+◌, ◌≤◌, ◌<◌, ◌^◌, List, length, map, slice_index_or, ⊤}
 use Rattle.geo_base.specs.declared.sender.SenderState.TheVariants as sender_state
 use Rattle.geo_base.specs.Cursor.{with_index}
 use Rattle.geo_base.specs.Sender.{Sender, sender_reset, sender_restarted, sender_sent, without_number}

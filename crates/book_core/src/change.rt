@@ -8,28 +8,48 @@ use snapshot_builder::Builder;
 #[derive(Debug, Drop)]
 pub enum BookChange {
     /// The session that is open on the forward link from a cluster.
-    Receiver { source: u32, session: Option<u64> },
+    Receiver {
+        source: u32,
+        session: Option<u64>,
+    },
     /// What a client has open.
     Client {
         client: u32,
         session: Option<Session>,
     },
     /// A client's consumers leave, wherever it has any.
-    Detach { client: u32 },
+    Detach {
+        client: u32,
+    },
     /// The subscription's consumers or snapshots change.
     Sub(SubChange),
     /// A sender's session begins, which the other side has not opened yet.
-    Opening { remote: u32 },
+    Opening {
+        remote: u32,
+    },
     /// The other side opened it.
-    Opened { remote: u32 },
+    Opened {
+        remote: u32,
+    },
     /// An entry was sent, and its receipt is awaited.
-    Pend { remote: u32, index: u64 },
+    Pend {
+        remote: u32,
+        index: u64,
+    },
     /// A sender has read what stands below an index.
-    ReadTo { remote: u32, index: u64 },
+    ReadTo {
+        remote: u32,
+        index: u64,
+    },
     /// A receipt came for the entry that was sent under a number.
-    Unpend { remote: u32, number: u64 },
+    Unpend {
+        remote: u32,
+        number: u64,
+    },
     /// The snapshot that is being made.
-    Building { builder: Option<Builder> },
+    Building {
+        builder: Option<Builder>,
+    },
     /// A restart: what is in memory is lost.
     Forget,
 }

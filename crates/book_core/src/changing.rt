@@ -38,7 +38,9 @@ impl Book {
             BookChange::Sub(change) => self.change_sub(place, change),
             BookChange::Opening { remote } => self.senders.step(remote, SenderStep::Begin),
             BookChange::Opened { remote } => self.senders.step(remote, SenderStep::Opened),
-            BookChange::Pend { remote, index } => self.senders.step(remote, SenderStep::Pend(index)),
+            BookChange::Pend { remote, index } => self
+                .senders
+                .step(remote, SenderStep::Pend(index)),
             BookChange::ReadTo { remote, index } => {
                 self.senders.step(remote, SenderStep::ReadTo(index));
             }

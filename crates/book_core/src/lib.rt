@@ -8,6 +8,7 @@
 mod book;
 mod change;
 mod changing;
+mod committing;
 mod prepared;
 mod reserving;
 mod sender_row;

@@ -10,6 +10,7 @@ use geo_base::bytes::Blob;
 use geo_base::memory::Memory;
 use geo_base::packet::Peer;
 use std::alloc::Global;
+use std::collections::VecDeque;
 use std::marker::Model;
 
 /// The bytes of a packet to a peer, and the session that it is sent in.
@@ -26,8 +27,8 @@ pub struct Outgoing {
 pub struct Prepared {
     idle: bool,
     sub: usize,
-    writes: Vec<BookWrite>,
-    changes: Vec<BookChange>,
+    writes: VecDeque<BookWrite>,
+    changes: VecDeque<BookChange>,
     sent: Vec<Outgoing>,
 }
 
@@ -47,8 +48,8 @@ impl Prepared {
         Prepared {
             idle: true,
             sub: 0,
-            writes: Vec::new(alloc),
-            changes: Vec::new(alloc),
+            writes: VecDeque::new(alloc),
+            changes: VecDeque::new(alloc),
             sent: Vec::new(alloc),
         }
     }
@@ -60,8 +61,8 @@ impl Prepared {
         Prepared {
             idle: false,
             sub,
-            writes: Vec::new(alloc),
-            changes: Vec::new(alloc),
+            writes: VecDeque::new(alloc),
+            changes: VecDeque::new(alloc),
             sent: Vec::new(alloc),
         }
     }
@@ -70,7 +71,7 @@ impl Prepared {
     pub fn write(&mut self, write: BookWrite) -> Result<(), Memory>
         ensures { OnOk result (self.new ≡ record self.old { writes = self.old.writes ++ write ∷ [] }) }
     {
-        match self.writes.push(write) {
+        match self.writes.push_back(write) {
             Ok(()) => Ok(()),
             Err(_) => Err(Memory),
         }
@@ -80,7 +81,7 @@ impl Prepared {
     pub fn change(&mut self, change: BookChange) -> Result<(), Memory>
         ensures { OnOk result (self.new ≡ record self.old { changes = self.old.changes ++ change ∷ [] }) }
     {
-        match self.changes.push(change) {
+        match self.changes.push_back(change) {
             Ok(()) => Ok(()),
             Err(_) => Err(Memory),
         }
@@ -158,7 +159,7 @@ impl Prepared {
             idle: false,
             sub,
             writes,
-            changes: Vec::new(alloc),
+            changes: VecDeque::new(alloc),
             sent: Vec::new(alloc),
         };
         halted.write(BookWrite::Ledger)?;
@@ -167,7 +168,7 @@ impl Prepared {
     }
 
     /// The place, the writes and the changes.
-    pub(crate) fn into_steps(self) -> (usize, Vec<BookWrite>, Vec<BookChange>)
+    pub(crate) fn into_steps(self) -> (usize, VecDeque<BookWrite>, VecDeque<BookChange>)
         ensures sub { result.0 ≡ self.sub }
         ensures writes { result.1.items ≡ self.writes }
         ensures changes { result.2.items ≡ self.changes }

@@ -1,4 +1,4 @@
-use Rattle.std.proofs.Common.{◌≡◌, ℕ, ◌∙◌, List, ap, arith}
+use Rattle.std.proofs.Common.{ℕ, ◌∙◌, List, ap, arith}
 use Rattle.std.specs.Prelude.{None, Option, slice_set}
 use Rattle.book_core.proofs.Mapped.{all_mapped, mapped_to, set_mapped}
 use Rattle.book_core.proofs.changing.close_each.Goals as goal

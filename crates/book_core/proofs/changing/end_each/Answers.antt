@@ -1,7 +1,7 @@
-use Rattle.std.proofs.Common.{◌≡◌, ◌∙◌, List, ap, arith}
+use Rattle.std.proofs.Common.{◌∙◌, List, ap, arith}
 use Rattle.std.specs.Prelude.{None, Option, slice_set}
 use Rattle.geo_base.specs.declared.session.Session.{Session}
-use Rattle.book_core.proofs.Mapped.{all_mapped, mapped_to, set_mapped}
+use Rattle.book_core.proofs.Mapped.{all_mapped, set_mapped}
 use Rattle.book_core.proofs.changing.end_each.Goals as goal
 
 abbrev ended : Option Session → Option Session

@@ -1,4 +1,4 @@
-use Rattle.std.proofs.Common.{◌≡◌, replicate, vec_len}
+use Rattle.std.proofs.Common.{◌≡◌, replicate}
 use Rattle.geo_base.specs.Sender.{new_sender}
 use Rattle.book_core.specs.Senders.{senders_of}
 use Rattle.book_core.proofs.senders.SenderTable.new.Given as goal

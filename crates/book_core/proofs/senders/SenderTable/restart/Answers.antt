@@ -1,7 +1,7 @@
-use Rattle.std.proofs.Common.{ap, ◌∙◌, ◌≡◌, List, arith}
+use Rattle.std.proofs.Common.{ap, ◌∙◌, ◌≡◌, arith}
 use Rattle.std.specs.Prelude.{length, map}
 use Rattle.std.proofs.lemmas.List.{length-map}
-use Rattle.book_core.specs.Senders.{RowBook, SenderBooks, row_restarted, senders_of}
+use Rattle.book_core.specs.Senders.{SenderBooks, row_restarted, senders_of}
 use Rattle.book_core.proofs.SenderTables.{left_whole, restarted_room, restarted_senders}
 use Rattle.book_core.proofs.senders.SenderTable.restart.Goals as goal
 
