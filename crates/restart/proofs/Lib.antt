@@ -1,0 +1,4 @@
+pub mod Mapped
+pub mod Markers
+pub mod Named
+pub mod Standing

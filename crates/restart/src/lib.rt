@@ -1,0 +1,23 @@
+//! What a broker writes durably, what of it survives a stop, and what the broker has again when it starts: the table of duplicates
+//! and the sequence id of its next own marker, both from what the topic stores.
+//!
+//! A write of an entry, of a ledger or of a session takes constant time, one of a subscription a search by name among those of the
+//! topic. A start reads the topic twice, from its first entry to its last, and makes one look into a hash table for each.
+#![tactic(auto)]
+
+mod applying;
+mod durable;
+mod recovery;
+mod senders;
+mod subs;
+mod write;
+
+pub use applying::{apply_write, law_writes};
+pub use durable::{Durable, DurableSender, DurableSub};
+pub use recovery::{Recovered, recover};
+pub use senders::DurableSenders;
+pub use subs::DurableSubs;
+pub use write::Write;
+
+#[cfg(test)]
+mod tests;
