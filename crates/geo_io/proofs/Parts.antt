@@ -2,7 +2,7 @@
 use Rattle.std.proofs.Common.{◌≡◌, ℕ, ◌+◌, ◌-◌, ◌≤◌, min, List, ◌++◌, take, drop, length, sym, ◌∙◌, append_assoc, ap, subst, arith}
 use Rattle.std.specs.Prelude.{Option, Some, None, Result, Ok, Err, OnErr}
 use Rattle.std.proofs.Math.Seq.{take-append-add}
-use Rattle.std.proofs.lemmas.List.{length-take-le, take-append-drop, take-append-le, take-take, take_min, drop-drop}
+use Rattle.std.proofs.lemmas.List.{length-append, length-take, length-take-le, take-append-drop, take-append-le, take-take, take_min, drop-drop}
 use Rattle.std.specs.Io.KnownBytes.{Consumes}
 use Rattle.geo_io.specs.Sink.{Gains}
 
@@ -41,3 +41,9 @@ take-filled buffer room rest piece at n within size count copied =
 pub OnErr-from : {T E P : Type 0} (r : Result T E) → P → OnErr r P
 OnErr-from (Ok _) p = tt
 OnErr-from (Err _) p = p
+
+-- some bytes, and the first n of a buffer behind them, are no more than find room
+pub within : (xs ys : List ℕ) (n most : ℕ) → length xs ≤ most → n ≤ most - length xs → length (xs ++ take n ys) ≤ most
+within xs ys n most short room =
+    let len : length (xs ++ take n ys) ≡ length xs + length (take n ys) = length-append xs (take n ys) in
+    omega (arith, len, length-take n ys)

@@ -28,3 +28,13 @@ pub record BufferState : Type 0 where
 -- the bytes that it holds, told while all that came have room
 abbrev pub held_of : BufferState → Option (List ℕ)
 held_of sink = if sink.overflowed then None else Some sink.kept
+
+-- A source over a reader of std: the bytes that the reader still gives, where it tells them, and how many calls failed.
+pub record ReaderState : Type 0 where
+  pub left : Option (List ℕ)
+  pub faults : ℕ
+
+-- A sink over a writer of std: the bytes that the writer holds, where it tells them, and how many calls failed.
+pub record WriterState : Type 0 where
+  pub contents : Option (List ℕ)
+  pub faults : ℕ

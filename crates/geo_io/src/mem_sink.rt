@@ -1,7 +1,7 @@
 //! A sink in memory.
-ghost use Rattle.std.specs.Prelude.{◌≡◌, ◌≤◌, ◌<◌, Ok, Some, IfOk, OnErr, IsErr, Contains, length, min, [], if◌then◌else◌, is_ok};
+ghost use Rattle.std.specs.Prelude.{◌≡◌, ◌≤◌, ◌<◌, Ok, Some, IfOk, OnOk, OnErr, IsErr, Contains, length, min, [], if◌then◌else◌, is_ok};
 ghost use Rattle.std.specs.Io.{WritesAtMost};
-ghost use Rattle.geo_io.specs.Faults.{one_more, Rose};
+ghost use Rattle.geo_io.specs.Faults.{one_more, Rose, Stood};
 ghost use Rattle.geo_io.specs.Sink.{WriteGains};
 
 use crate::fault::{Failed, Memory};
@@ -76,6 +76,8 @@ impl Sink for MemSink {
         ensures cause { OnErr result (Rose self.old.faults self.new.faults) }
         ensures stalled { result ≡ Ok 0 → 0 < length piece.now
             → Rose self.old.faults self.new.faults }
+        ensures steady { IfOk result (λ n. 0 < n → Stood self.old.faults self.new.faults) }
+        ensures idle { length piece.now ≡ 0 → OnOk result (Stood self.old.faults self.new.faults) }
 
         // It fails at the planned calls and for want of memory, and else takes as much as it can.
         ensures planned { Contains self.old.fails self.new.calls → IsErr result }

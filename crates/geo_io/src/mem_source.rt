@@ -1,8 +1,8 @@
 //! A source in memory.
-ghost use Rattle.std.specs.Prelude.{◌≡◌, ◌≤◌, ◌<◌, Ok, Some, IfOk, OnErr, IsErr, ◌↔◌, Contains, length, min, if◌then◌else◌, is_ok};
+ghost use Rattle.std.specs.Prelude.{◌≡◌, ◌≤◌, ◌<◌, Ok, Some, IfOk, OnOk, OnErr, IsErr, ◌↔◌, Contains, length, min, if◌then◌else◌, is_ok};
 ghost use Rattle.std.specs.Io.{ReadsAtMost};
 ghost use Rattle.std.specs.Io.KnownBytes.{ReadConsumes};
-ghost use Rattle.geo_io.specs.Faults.{one_more, Rose};
+ghost use Rattle.geo_io.specs.Faults.{one_more, Rose, Stood};
 
 use crate::fault::{Failed, Memory};
 use crate::planned_faults::PlannedFaults;
@@ -70,6 +70,7 @@ impl Source for MemSource {
         ensures bytes { ReadConsumes (Some self.old.left) (Some self.new.left) result buf.new }
         ensures later { self.old.faults ≤ self.new.faults }
         ensures cause { OnErr result (Rose self.old.faults self.new.faults) }
+        ensures steady { OnOk result (Stood self.old.faults self.new.faults) }
 
         // It fails at the planned calls alone, and else moves as much as it can.
         ensures planned { IsErr result ↔ Contains self.old.fails self.new.calls }

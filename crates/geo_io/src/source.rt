@@ -1,8 +1,8 @@
 //! Where bytes come from.
-ghost use Rattle.std.specs.Prelude.{◌≡◌, ◌≤◌, ℕ, List, Option, length, min, take, OnErr};
+ghost use Rattle.std.specs.Prelude.{◌≡◌, ◌≤◌, ℕ, List, Option, length, min, take, OnOk, OnErr};
 ghost use Rattle.std.specs.Io.{ReadsAtMost};
 ghost use Rattle.std.specs.Io.KnownBytes.{ReadConsumes};
-ghost use Rattle.geo_io.specs.Faults.{Rose};
+ghost use Rattle.geo_io.specs.Faults.{Rose, Stood};
 
 use crate::fault::Failed;
 
@@ -15,12 +15,14 @@ pub trait Source {
     ghost faults: { Self → ℕ };
 
     /// Moves bytes to the front of `buf`, and answers how many. 0 into a buffer that is not empty
-    /// is the end of the input. `Failed` moves none, and comes only where the count of faults rose.
+    /// is the end of the input. `Failed` moves none, and comes only where the count of faults rose; a call
+    /// that succeeds leaves that count as it was.
     fn read(&mut self, buf: &mut [u8]) -> Result<usize, Failed>
         ensures within { ReadsAtMost result buf.new }
         ensures bytes { ReadConsumes (left self.old) (left self.new) result buf.new }
         ensures later { faults self.old ≤ faults self.new }
-        ensures cause { OnErr result (Rose (faults self.old) (faults self.new)) };
+        ensures cause { OnErr result (Rose (faults self.old) (faults self.new)) }
+        ensures steady { OnOk result (Stood (faults self.old) (faults self.new)) };
 }
 
 /// Copies the first bytes of `from` to the front of `to`: as many as both have.

@@ -1,8 +1,8 @@
 //! A source and a sink over memory of the caller's, which take no memory and never fail.
-ghost use Rattle.std.specs.Prelude.{◌≡◌, ◌≤◌, ◌<◌, ◌++◌, ◌||◌, nat_lt, ◌+◌, Ok, Some, OnErr, length, min, [], take, false};
+ghost use Rattle.std.specs.Prelude.{◌≡◌, ◌≤◌, ◌<◌, ◌++◌, ◌||◌, nat_lt, ◌+◌, Ok, Some, IfOk, OnOk, OnErr, length, min, [], take, false};
 ghost use Rattle.std.specs.Io.{ReadsAtMost, WritesAtMost};
 ghost use Rattle.std.specs.Io.KnownBytes.{ReadConsumes};
-ghost use Rattle.geo_io.specs.Faults.{Rose};
+ghost use Rattle.geo_io.specs.Faults.{Rose, Stood};
 ghost use Rattle.geo_io.specs.Sink.{WriteGains};
 ghost use Rattle.geo_io.specs.Ends.{held_of};
 
@@ -46,6 +46,7 @@ impl<'a> Source for SteadySource<'a> {
         // The count is always 0, so these say that it never fails.
         ensures later { 0 ≤ 0 }
         ensures cause { OnErr result (Rose 0 0) }
+        ensures steady { OnOk result (Stood 0 0) }
 
         // It moves as much as it can.
         ensures moved { result ≡ Ok (min (length self.old) (length buf.old)) }
@@ -114,6 +115,8 @@ impl<'a> Sink for SteadySink<'a> {
         ensures later { 0 ≤ 0 }
         ensures cause { OnErr result (Rose 0 0) }
         ensures stalled { result ≡ Ok 0 → 0 < length piece.now → Rose 0 0 }
+        ensures steady { IfOk result (λ n. 0 < n → Stood 0 0) }
+        ensures idle { length piece.now ≡ 0 → OnOk result (Stood 0 0) }
 
         // It takes every piece whole, and keeps what fits.
         ensures whole { result ≡ Ok (length piece.now) }

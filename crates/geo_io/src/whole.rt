@@ -1,8 +1,8 @@
 //! A whole input read, and a whole output written.
-ghost use Rattle.std.specs.Prelude.{◌≡◌, ◌≤◌, ◌<◌, length, take, IfOk, OnOk, OnErr, IfErr, IfSome, IsErrOf};
+ghost use Rattle.std.specs.Prelude.{◌≡◌, ◌≢◌, ◌≤◌, ◌<◌, length, take, IfOk, OnOk, OnErr, IfErr, IfSome, IsErrOf, MatchResult};
 ghost use Rattle.std.specs.Io.KnownBytes.{IsAtEnd};
-ghost use Rattle.geo_io.specs.Faults.{Rose};
-ghost use Rattle.geo_io.specs.Source.{LongerThan, ConsumesSome};
+ghost use Rattle.geo_io.specs.Faults.{Rose, Stood};
+ghost use Rattle.geo_io.specs.Source.{LongerThan, ConsumesSome, ConsumesWithin};
 ghost use Rattle.geo_io.specs.Sink.{Gains};
 
 use crate::byte_buf::ByteBuf;
@@ -10,18 +10,36 @@ use crate::fault::{Failed, Memory};
 use crate::sink::Sink;
 use crate::source::Source;
 use std::alloc::Global;
-use thiserror::Error;
+use std::error::Error;
+use std::fmt;
 
 /// Why an input was not read whole.
-#[derive(Clone, Copy, Debug, PartialEq, Eq, Error)]
+#[derive(Clone, Copy, Debug, PartialEq, Eq)]
 pub enum ReadFault {
-    #[error("the source failed")]
+    /// The source failed.
     Failed,
-    #[error("too many bytes came")]
+    /// More bytes came than were asked for.
     TooLong,
-    #[error("out of memory")]
+    /// A growth of memory was refused.
     Memory,
 }
+
+impl fmt::Display for ReadFault {
+    ghost use Rattle.std.specs.Prelude.{Some};
+    ghost use Rattle.geo_io.specs.Texts.{read_fault_text};
+
+    ghost output = { λ fault. Some (read_fault_text fault) };
+
+    fn fmt<W: fmt::Write>(&self, f: &mut fmt::Formatter<W>) -> fmt::Result {
+        match self {
+            ReadFault::Failed => write!(f, "the source failed"),
+            ReadFault::TooLong => write!(f, "too many bytes came"),
+            ReadFault::Memory => write!(f, "out of memory"),
+        }
+    }
+}
+
+impl Error for ReadFault {}
 
 impl From<Failed> for ReadFault {
     ghost use Rattle.std.specs.Prelude.{◌≡◌};
@@ -49,7 +67,8 @@ impl From<Memory> for ReadFault {
 const CHUNK: usize = 16_384;
 
 /// Reads all bytes to the end of the input, `max` at most. `Failed` comes only where the source
-/// failed in this call, and `TooLong` exactly where more than `max` bytes came.
+/// failed in this call, `TooLong` exactly where more than `max` bytes came, and `Memory` only where no
+/// more than `max` did and the source did not fail.
 pub fn read_all<S: Source>(alloc: Global, source: &mut S, max: usize) -> Result<ByteBuf, ReadFault>
     // On Ok these are all the bytes that were left, and they are at most `max`.
     ensures whole { IfOk result (λ bytes. IfSome (S.left source.old) (λ input. bytes ≡ input)) }
@@ -60,8 +79,12 @@ pub fn read_all<S: Source>(alloc: Global, source: &mut S, max: usize) -> Result<
     ensures long { IsErrOf result ReadFault.TooLong → LongerThan (S.left source.old) max }
     ensures cause { IsErrOf result ReadFault.Failed
         → Rose (S.faults source.old) (S.faults source.new) }
+    ensures memory { IsErrOf result ReadFault.Memory → ConsumesWithin (S.left source.old) (S.left source.new) max }
     ensures rest { OnErr result (ConsumesSome (S.left source.old) (S.left source.new)) }
 
+    // The source failed nowhere, unless that is the answer.
+    ensures steady { MatchResult result (λ _. Stood (S.faults source.old) (S.faults source.new))
+        (λ fault. fault ≢ ReadFault.Failed → Stood (S.faults source.old) (S.faults source.new)) }
     ensures later { S.faults source.old ≤ S.faults source.new }
 {
     let mut bytes = ByteBuf::new(alloc);
@@ -79,11 +102,23 @@ pub fn read_all<S: Source>(alloc: Global, source: &mut S, max: usize) -> Result<
 }
 
 /// An output was not written whole: the first `out` bytes of it went out.
-#[derive(Clone, Copy, Debug, PartialEq, Eq, Error)]
-#[error("the sink failed after {out} bytes")]
+#[derive(Clone, Copy, Debug, PartialEq, Eq)]
 pub struct WriteFault {
     pub out: u64,
 }
+
+impl fmt::Display for WriteFault {
+    ghost use Rattle.std.specs.Prelude.{◌++◌, Some, codes, decimal};
+
+    ghost output = { λ fault. Some (codes "the sink failed after " ++ (decimal fault.out ++ codes " bytes")) };
+
+    fn fmt<W: fmt::Write>(&self, f: &mut fmt::Formatter<W>) -> fmt::Result {
+        let out = self.out;
+        write!(f, "the sink failed after {out} bytes")
+    }
+}
+
+impl Error for WriteFault {}
 
 /// Writes all bytes, and takes no memory. A fault comes only where the sink failed in this call. A
 /// write that takes 0 bytes of those that are left ends the call so too.
@@ -96,6 +131,8 @@ pub fn write_all<K: Sink>(sink: &mut K, bytes: &[u8]) -> Result<(), WriteFault>
     ensures short { IfErr result (λ fault. fault.out < length bytes.now) }
     ensures cause { OnErr result (Rose (K.faults sink.old) (K.faults sink.new)) }
 
+    // The sink failed nowhere, unless a fault is the answer.
+    ensures steady { OnOk result (Stood (K.faults sink.old) (K.faults sink.new)) }
     ensures later { K.faults sink.old ≤ K.faults sink.new }
 {
     let mut out = 0;

@@ -274,3 +274,7 @@ pub answered_script : (b n : ℕ) (left : Option (List ℕ)) (bytes : List ℕ) 
     → IfSome left (λ input. bytes ≡ input) → IfOk r (λ a. IsFounded (Some command.Run) b n left a)
 answered_script b n left bytes (Ok a) is short told = founded_script b n left bytes a is short told
 answered_script b n left bytes (Err e) is short told = tt
+
+-- no answer is want of memory
+pub never_memory : {P : Type 0} (c : Option Command) (b n : ℕ) (left : Option (List ℕ)) (a : Answer) → IsFounded c b n left a → a.status ≡ status.OutOfMemory → P
+never_memory c b n left a f memory = absurd (subst (λ (s : Status). IsCaused c b n left s) memory f.cause)

@@ -1,8 +1,7 @@
 -- The machine's events are what a sender and a receiver answer, branch by branch.
-use Rattle.std.proofs.Common.{◌≡◌, ℕ, ◌==◌, Bool, true, false, List, [], ◌∷◌, length, refl, ap, sym, ◌∙◌}
+use Rattle.std.proofs.Common.{◌≡◌, ℕ, ◌==◌, Bool, true, false, List, [], length, refl, ap, sym, ◌∙◌}
 use Rattle.std.specs.Prelude.{◌≢◌, ◌&&◌, if◌then◌else◌, Option, Some, None, slice_get}
 use Rattle.std.specs.Str.{bytes_eq}
-use Rattle.geo_base.specs.declared.change.Change.TheVariants as change
 use Rattle.geo_base.specs.declared.entry.Content.{Content}
 use Rattle.geo_base.specs.declared.entry.Content.TheVariants as content
 use Rattle.geo_base.specs.declared.entry.Entry.{Entry}
@@ -20,9 +19,7 @@ use Rattle.geo_base.specs.Plan.{Plan, idle_plan, quiet_plan, unless_found}
 use Rattle.geo_base.specs.Reading.{forwards, read, read_at, read_entry}
 use Rattle.geo_base.specs.Receiver.{is_open}
 use Rattle.geo_base.specs.Sender.{index_to_read, pending_index}
-use Rattle.replicator.specs.declared.reading.ReadOut.{ReadOut}
 use Rattle.replicator.specs.declared.reading.ReadOut.TheVariants as reads
-use Rattle.replicator.specs.declared.receiver.Taken.{Taken}
 use Rattle.replicator.specs.declared.receiver.Taken.TheVariants as takes
 use Rattle.replicator.specs.Answering.{awaited, is_opening}
 use Rattle.replicator.specs.Events.{is_to_open, plan_of_read, plan_of_success, plan_of_take}

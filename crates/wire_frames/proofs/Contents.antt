@@ -1,6 +1,7 @@
 -- What an entry is, as the code finds it.
-use Rattle.std.proofs.Common.{◌≡◌, ◌≢◌, ℕ, List, [], refl, sym, subst, ◌∙◌}
+use Rattle.std.proofs.Common.{◌≡◌, ◌≢◌, ℕ, List, [], Bool, true, false, refl, sym, subst, ◌∙◌}
 use Rattle.std.specs.Prelude.{Some}
+use Rattle.std.specs.Str.{bytes_eq}
 use Rattle.geo_base.specs.declared.entry.Content.TheVariants as content
 use Rattle.marker_codec.specs.declared.fault.MarkerFault.{MarkerFault}
 use Rattle.marker_codec.specs.declared.fault.MarkerFault.TheVariants as why
@@ -9,15 +10,7 @@ use Rattle.marker_codec.specs.Canonical.{canonical_fields}
 use Rattle.marker_codec.specs.Faults.{IsWrongOrMemory, WrongMarker}
 use Rattle.marker_codec.specs.Markers.{IsMarkerText}
 use Rattle.marker_codec.proofs.Meaning.{fault_sound}
-use Rattle.std.specs.List.{AllByRecursion}
-use Rattle.message_meta.specs.declared.table.TheConstants.{ROWS}
-use Rattle.pb_fields.specs.declared.field.Field.{Field}
 use Rattle.pb_fields.specs.Canonical.{text}
-use Rattle.pb_fields.specs.Message.{IsUnknown}
-use Rattle.pb_fields.specs.Text.{IsText}
-use Rattle.pb_fields.proofs.Unique.{text_one}
-use Rattle.pb_fields.proofs.Written.{text-is}
-use Rattle.wire_frames.specs.Coded.{IsRest}
 use Rattle.wire_frames.specs.Values.{IsContent, canonical, foreign, unread, placed_marker}
 
 is_unread : (names : List (List ℕ)) (k : ℕ) (payload : List ℕ) (e : MarkerFault) → WrongMarker k payload e → IsContent names (Some k) payload (content.Unread k) payload
@@ -39,9 +32,3 @@ read_canonical names k payload bytes m h is same = canonical k m refl h (sym sam
 pub read_foreign : (names : List (List ℕ)) (k : ℕ) (payload bytes : List ℕ) (m : Marker) → IsMarkerText k payload m → bytes ≡ text (canonical_fields m) → bytes ≢ payload
     → IsContent names (Some k) payload (content.Marked (placed_marker names m)) payload
 read_foreign names k payload bytes m h is other = foreign k m refl h (λ e. other (is ∙ sym e)) refl refl
-
--- bytes that are the canonical text of fields are a text of these alone
-pub rest_is : (bytes : List ℕ) (fields : List Field) → IsRest bytes → IsText bytes fields → (bytes ≡ text fields) × AllByRecursion (IsUnknown ROWS) fields
-rest_is bytes fields rest is =
-    let one : rest.fields ≡ fields = text_one (subst (λ (bs : List ℕ). IsText bs rest.fields) (sym rest.is) (text-is rest.fields rest.writable)) is in
-    subst (λ (fs : List Field). (bytes ≡ text fs) × AllByRecursion (IsUnknown ROWS) fs) one (rest.is, rest.unknown)

@@ -1,6 +1,7 @@
 -- Bytes say one value, and a value's canonical text says it.
-use Rattle.std.proofs.Common.{◌≡◌, ℕ, List, refl, sym, ◌∙◌, ap, subst}
+use Rattle.std.proofs.Common.{◌≡◌, ◌≢◌, ℕ, List, [], ◌∷◌, refl, sym, ◌∙◌, ap, subst}
 use Rattle.std.specs.Prelude.{Option, Some, None}
+use Rattle.std.specs.Option.{option_map}
 use Rattle.geo_base.specs.declared.entry.Content.{Content}
 use Rattle.geo_base.specs.declared.entry.Content.TheVariants as content
 use Rattle.geo_base.specs.declared.entry.Entry.{Entry}
@@ -18,12 +19,15 @@ use Rattle.pb_fields.specs.Canonical.{text}
 use Rattle.pulsar_commands.specs.declared.command.Command.{Command}
 use Rattle.pulsar_frames.specs.declared.frame.Body.{Body}
 use Rattle.pulsar_frames.specs.declared.frame.Frame.{Frame as WireFrame}
+use Rattle.pulsar_frames.specs.Frames.{IsFrameText}
 use Rattle.pulsar_frames.proofs.OneFrame.{text_one}
-use Rattle.wire_frames.specs.Coded.{IsWritten}
+use Rattle.geo_base.specs.Sizes.{marker_type}
+use Rattle.marker_codec.specs.Machine.{named_marker}
+use Rattle.wire_frames.specs.Coded.{IsEntryRight, IsMarkerRight, IsWritten}
 use Rattle.wire_frames.specs.Standing.{Reads, text as told, no_text, StandFor, bare}
-use Rattle.wire_frames.specs.Texts.{body_of, unread_bytes, wire_frame}
-use Rattle.wire_frames.specs.Told.{IsTold, IsToldEntry}
-use Rattle.wire_frames.specs.Values.{IsContent, no_marker, canonical, foreign, unread, IsEntryOf, Says, SaysValue, carrying, placed_marker}
+use Rattle.wire_frames.specs.Texts.{body_of, marker_number, payload_text, unread_bytes, wire_frame}
+use Rattle.wire_frames.specs.Told.{IsTold, IsToldContent, IsToldEntry}
+use Rattle.wire_frames.specs.Values.{Carries, IsContent, no_marker, canonical, foreign, unread, IsEntryOf, Says, SaysValue, carrying, placed_marker}
 
 -- ---- one value
 
@@ -96,9 +100,16 @@ value_one names bytes f g (no_text none e) (no_text none' e') = e ∙ sym e'
 
 -- ---- the canonical text
 
-entry_said : (names : List (List ℕ)) (source : Option Place) (e : Entry) (rest : List Field) → e.meta.rest ≡ text rest → IsToldEntry names source e
+-- what the entry is stands in its text
+content_said : (names : List (List ℕ)) (c : Content) (payload : List ℕ) → IsMarkerRight names c payload → IsToldContent names c payload → IsContent names (marker_number c) (payload_text names c payload) c payload
+content_said names content.Data payload right h = h
+content_said names (content.Unread k) payload right h = h
+content_said names (content.Marked m) [] right h = canonical (marker_type m) (named_marker names m) refl right refl (ap content.Marked (sym h)) refl
+content_said names (content.Marked m) (b ∷ bs) right h = h
+
+entry_said : (names : List (List ℕ)) (source : Option Place) (e : Entry) (rest : List Field) → e.meta.rest ≡ text rest → IsMarkerRight names e.content e.payload → IsToldEntry names source e
     → IsEntryOf names (body_of names source e rest) source (with_origin 0 e)
-entry_said names source e rest kept h = record {
+entry_said names source e rest kept right h = record {
   origin = refl;
   producer = refl;
   seq = refl;
@@ -108,30 +119,30 @@ entry_said names source e rest kept h = record {
   listed = refl;
   to = h.to;
   rest = kept;
-  content = h.content;
+  content = content_said names e.content e.payload right h.content;
 }
 
-said : (names : List (List ℕ)) (rest : List Field) (f : Frame) → unread_bytes f ≡ text rest → IsTold names f → SaysValue names (wire_frame names rest f) (bare f)
-said names rest frame.Connect kept h = refl
-said names rest frame.Connected kept h = refl
-said names rest (frame.Subscribe topic sub kind id request consumer earliest replicated) kept h = refl
-said names rest (frame.Producer topic id request name) kept h = refl
-said names rest (frame.Send id seq source e) kept h = record { source = source; entry = with_origin 0 e; is = refl; says = entry_said names source e rest kept h }
-said names rest (frame.SendReceipt id seq position) kept h = refl
-said names rest (frame.SendError id seq code) kept h = refl
-said names rest (frame.Message id position source e) kept h = record { source = source; entry = with_origin 0 e; is = refl; says = entry_said names source e rest kept h }
-said names rest (frame.Ack id kind positions) kept h = refl
-said names rest (frame.Flow id permits) kept h = refl
-said names rest (frame.Unsubscribe id request) kept h = refl
-said names rest (frame.Success request) kept h = refl
-said names rest (frame.Error request code) kept h = refl
-said names rest (frame.CloseProducer id request) kept h = refl
-said names rest (frame.CloseConsumer id request) kept h = refl
-said names rest (frame.ProducerSuccess request name) kept h = refl
-said names rest frame.Ping kept h = refl
-said names rest frame.Pong kept h = refl
-said names rest frame.Unreadable kept h = absurd h
+said : (names : List (List ℕ)) (rest : List Field) (f : Frame) → unread_bytes f ≡ text rest → IsEntryRight names f → IsTold names f → SaysValue names (wire_frame names rest f) (bare f)
+said names rest frame.Connect kept right h = refl
+said names rest frame.Connected kept right h = refl
+said names rest (frame.Subscribe topic sub kind id request consumer earliest replicated) kept right h = refl
+said names rest (frame.Producer topic id request name) kept right h = refl
+said names rest (frame.Send id seq source e) kept right h = record { source = source; entry = with_origin 0 e; is = refl; says = entry_said names source e rest kept right h }
+said names rest (frame.SendReceipt id seq position) kept right h = refl
+said names rest (frame.SendError id seq code) kept right h = refl
+said names rest (frame.Message id position source e) kept right h = record { source = source; entry = with_origin 0 e; is = refl; says = entry_said names source e rest kept right h }
+said names rest (frame.Ack id kind positions) kept right h = refl
+said names rest (frame.Flow id permits) kept right h = refl
+said names rest (frame.Unsubscribe id request) kept right h = refl
+said names rest (frame.Success request) kept right h = refl
+said names rest (frame.Error request code) kept right h = refl
+said names rest (frame.CloseProducer id request) kept right h = refl
+said names rest (frame.CloseConsumer id request) kept right h = refl
+said names rest (frame.ProducerSuccess request name) kept right h = refl
+said names rest frame.Ping kept right h = refl
+said names rest frame.Pong kept right h = refl
+said names rest frame.Unreadable kept right h = absurd h
 
 -- what was written stands for the frame
 pub written_stands : (names : List (List ℕ)) (f : Frame) (bytes : List ℕ) → IsWritten names f bytes → IsTold names f → StandFor names bytes f
-written_stands names f bytes h t = told (wire_frame names h.rest f) h.is_text (said names h.rest f h.kept t)
+written_stands names f bytes h t = told (wire_frame names h.rest f) h.is_text (said names h.rest f h.kept h.marker t)

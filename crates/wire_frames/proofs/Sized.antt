@@ -1,5 +1,5 @@
 -- How long canonical texts are: the sizes that the machine computes.
-use Rattle.std.proofs.Common.{◌≡◌, ℕ, zero, suc, ◌+◌, ◌*◌, ◌/◌, ◌<◌, List, [], ◌∷◌, ◌++◌, length, map, refl, sym, ◌∙◌, ap, arith, inl, inr, lt-ltb, le-ltb, length-append}
+use Rattle.std.proofs.Common.{◌≡◌, ℕ, zero, suc, ◌+◌, ◌*◌, ◌/◌, ◌<◌, ◌≤◌, List, [], ◌∷◌, ◌++◌, length, map, refl, sym, ◌∙◌, ap, arith, inl, inr, lt-ltb, le-ltb, length-append}
 use Rattle.std.proofs.lemmas.Bool.{cases_lt}
 use Rattle.std.specs.Int.{w32, w64, to_le_bytes}
 use Rattle.std.specs.List.{flat_map}
@@ -58,7 +58,7 @@ length-groups (suc k) n =
       | inr le ↦ rw (le-ltb n 128 le) (omega (arith, length-groups k (n / 128)))
     ]
 
-length-varint : (n : ℕ) → length (varint n) ≡ varint_size n
+pub length-varint : (n : ℕ) → length (varint n) ≡ varint_size n
 unfolding varint
 length-varint n = length-groups 9 n
 

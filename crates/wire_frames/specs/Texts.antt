@@ -1,6 +1,6 @@
 -- The frame of the protocol that a value of the machine is written as, and its bytes. Where the machine has a cluster's number,
 -- the bytes have the cluster's name; names are those of the clusters, by their numbers.
-use Rattle.std.specs.Prelude.{◌≡◌, ℕ, Bool, true, false, List, [], Option, Some, None, codes}
+use Rattle.std.specs.Prelude.{ℕ, Bool, true, false, List, [], ◌∷◌, Option, Some, None, codes}
 use Rattle.std.specs.Option.{option_map}
 use Rattle.geo_base.specs.declared.entry.Content.{Content}
 use Rattle.geo_base.specs.declared.entry.Content.TheVariants as content
@@ -18,7 +18,6 @@ use Rattle.pulsar_commands.specs.declared.command.Command.{Command}
 use Rattle.pulsar_commands.specs.declared.command.Command.TheVariants as command
 use Rattle.pulsar_frames.specs.declared.frame.Body.{Body}
 use Rattle.pulsar_frames.specs.declared.frame.Frame.{Frame as WireFrame}
-use Rattle.pulsar_frames.specs.Canonical.{frame_text}
 
 -- CONNECT names the client `geo-client`, CONNECTED the server `geo-broker`, the text of an error is `error`, a SEND is one
 -- message (own). Bytes that are no text are written by nobody
@@ -88,12 +87,6 @@ unread_bytes f = []
 
 abbrev pub wire_frame : List (List ℕ) → List Field → Frame → WireFrame
 wire_frame names rest f = record { command = command_of f; body = carried names rest f }
-
--- The bytes of a frame, rest being the fields whose bytes its entry keeps.
-pub record IsTextOf (names : List (List ℕ)) (f : Frame) (bytes : List ℕ) : Type 0 where
-  pub rest : List Field
-  pub kept : unread_bytes f ≡ text rest
-  pub is : bytes ≡ frame_text (wire_frame names rest f)
 
 -- commands that carry no message; a SUBSCRIBE is left to its own lemma
 abbrev pub is_simple : Frame → Bool

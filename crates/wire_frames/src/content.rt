@@ -1,7 +1,11 @@
 //! What an entry is, by its marker type and its payload.
-ghost use Rattle.std.specs.Prelude.{◌≡◌, ◌≤◌, ◌<◌, ◌^◌, [], length, map, None, Some, IfOk};
-ghost use Rattle.geo_base.specs.Sizes.{place_name};
+ghost use Rattle.std.specs.Prelude.{◌≡◌, ◌≤◌, ◌<◌, ◌^◌, [], length, map, None, Some, IfOk, MatchOption, OnOk};
+ghost use Rattle.geo_base.specs.Sizes.{marker_type, place_name};
+ghost use Rattle.pb_fields.specs.Canonical.{text};
+ghost use Rattle.marker_codec.specs.Canonical.{canonical_fields};
+ghost use Rattle.marker_codec.specs.Markers.{IsMarkerText};
 ghost use Rattle.marker_codec.specs.Machine.{named_cluster, named_marker};
+ghost use Rattle.wire_frames.specs.Coded.{IsMarkerRight};
 ghost use Rattle.wire_frames.specs.Texts.{marker_number, payload_text};
 ghost use Rattle.wire_frames.specs.Values.{IsContent, place_of, placed_cluster, placed_marker};
 
@@ -10,6 +14,7 @@ use geo_base::limits::CLUSTERS;
 use geo_base::marker::Marker as MachineMarker;
 use geo_base::{Blob, ClusterName, ClusterPosition, Content, Memory, Place, Sequence, Text};
 use marker_codec::{ClusterMessageId, Marker, MarkerFault};
+use pb_fields::ByteList;
 use std::alloc::Global;
 
 /// What an entry of a marker type and a payload is, and the payload that it keeps: none where that is the marker's canonical text.
@@ -144,22 +149,42 @@ pub(crate) fn marker_number(content: &Content) -> Option<u64>
     }
 }
 
-/// The payload of an entry as it is written.
-pub(crate) fn payload_text(
+/// The canonical text of a marker that keeps no payload; None where the payload is written as it is kept.
+#[tactic(auto, using(crate::proofs::Writing::unkept_text, crate::proofs::Writing::unkept_right, crate::proofs::Writing::kept_text, crate::proofs::Writing::kept_right))]
+pub(crate) fn canonical_payload(
     alloc: Global,
     names: &[ClusterName],
     content: &Content,
     kept: &Blob,
-) -> Result<Blob, Memory>
-    ensures { IfOk result (λ b. b ≡ payload_text names.now content.now kept.now) }
+) -> Result<Option<ByteList>, Memory>
+    ensures text { IfOk result (λ o. MatchOption o (payload_text names.now content.now kept.now ≡ kept.now) (λ b. payload_text names.now content.now kept.now ≡ b)) }
+    ensures right { OnOk result (IsMarkerRight names.now content.now kept.now) }
 {
     match content {
-        Content::Marked(marker) if kept.as_slice().is_empty() => {
-            let bytes = named_marker(alloc, names, marker)?.write(alloc)?;
-            Ok(Blob::from_vec(bytes.into_vec()))
+        Content::Marked(marker) => {
+            if !kept.as_slice().is_empty() {
+                return Ok(None);
+            }
+            let text = marker_text(alloc, names, marker)?;
+            Ok(Some(text))
         }
-        _ => kept.copy(alloc),
+        Content::Data | Content::Unread(_) => Ok(None),
     }
+}
+
+/// The canonical text of a marker.
+#[tactic(auto, using(crate::proofs::Writing::marker_right))]
+fn marker_text(
+    alloc: Global,
+    names: &[ClusterName],
+    marker: &MachineMarker,
+) -> Result<ByteList, Memory>
+    ensures text { IfOk result (λ b. b ≡ text (canonical_fields (named_marker names.now marker.now))) }
+    ensures right { OnOk result (IsMarkerText (marker_type marker.now) (text (canonical_fields (named_marker names.now marker.now))) (named_marker names.now marker.now)) }
+{
+    let named = named_marker(alloc, names, marker)?;
+    let text = named.write(alloc)?;
+    Ok(text)
 }
 
 /// A marker with clusters by their names.

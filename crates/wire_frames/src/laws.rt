@@ -1,5 +1,5 @@
 //! What holds of bytes and values alone, whoever reads or writes.
-ghost use Rattle.std.specs.Prelude.{◌≡◌, ℕ, List, true, length};
+ghost use Rattle.std.specs.Prelude.{◌≡◌, ◌≤◌, ℕ, List, true, length};
 ghost use Rattle.geo_base.specs.FrameSizes.{frame_size};
 ghost use Rattle.pulsar_frames.specs.Canonical.{frame_text};
 ghost use Rattle.pb_fields.specs.declared.field.Field.{Field};
@@ -7,6 +7,9 @@ ghost use Rattle.pb_fields.specs.Canonical.{text};
 ghost use Rattle.wire_frames.specs.Texts.{is_readable, unread_bytes, wire_frame};
 ghost use Rattle.geo_base.specs.declared.frame.Frame.{Frame};
 ghost use Rattle.wire_frames.specs.Coded.{IsWritten};
+ghost use Rattle.wire_frames.specs.Fitting.{IsSmall};
+ghost use Rattle.geo_base.specs.Scripted.{AreDistinct};
+ghost use Rattle.wire_frames.specs.Plain.{IsPlain};
 ghost use Rattle.wire_frames.specs.Standing.{Reads, StandFor};
 ghost use Rattle.wire_frames.specs.Told.{IsTold};
 
@@ -24,4 +27,15 @@ pub fn canonical_value()
 pub fn text_sizes()
     ensures { (names : List (List ℕ)) (rest : List Field) (f : Frame) → unread_bytes f ≡ text rest → is_readable f ≡ true
         → length (frame_text (wire_frame names rest f)) ≡ frame_size names f }
+{}
+
+/// A frame is within the limit on frames where what it holds is small: its entry was judged, an ACK names at most 200,000
+/// positions, and its other texts are at most 1,024 bytes.
+pub fn small_frames_fit()
+    ensures { (names : List (List ℕ)) (f : Frame) → IsSmall names f → frame_size names f ≤ 5253124 }
+{}
+
+/// Plain values are told whole by their texts, where the clusters' names are told apart.
+pub fn plain_told()
+    ensures { (names : List (List ℕ)) (f : Frame) → AreDistinct names → IsPlain names f → IsTold names f }
 {}

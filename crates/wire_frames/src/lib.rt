@@ -11,8 +11,13 @@ mod entry;
 mod laws;
 mod place;
 mod read;
+mod size;
 mod write;
 
-pub use laws::{canonical_value, one_value, text_sizes};
+pub use laws::{canonical_value, one_value, plain_told, small_frames_fit, text_sizes};
 pub use read::read_value;
-pub use write::write_value;
+pub use size::is_within_limit;
+pub use write::{is_readable, try_write_value, write_message, write_send, write_value};
+
+#[cfg(test)]
+mod tests;

@@ -1,8 +1,8 @@
 //! Reading the value that bytes stand for.
-ghost use Rattle.std.specs.Prelude.{◌≡◌, ◌≤◌, length, IfOk, MatchOption};
-ghost use Rattle.pulsar_frames.specs.declared.frame.Frame.{Frame as WireFrame};
-ghost use Rattle.pulsar_frames.specs.Frames.{IsFrameText};
+ghost use Rattle.std.specs.Prelude.{◌≡◌, ◌≤◌, length, IfOk};
+ghost use Rattle.message_meta.specs.Known.{IsRest};
 ghost use Rattle.wire_frames.specs.Standing.{Reads};
+ghost use Rattle.wire_frames.specs.Texts.{unread_bytes};
 ghost use Rattle.wire_frames.specs.Values.{SaysValue, carrying};
 
 use crate::command::simple_frame;
@@ -10,51 +10,31 @@ use crate::entry::{Carried, entry_of};
 use geo_base::limits::CLUSTERS;
 use geo_base::{ClusterName, Entry, Frame, Memory, Place};
 use pulsar_commands::Command;
-use pulsar_frames::{Frame as WireFrame, FrameFault, FrameReader};
+use pulsar_frames::{Frame as WireFrame, read_frame};
 use std::alloc::Global;
 
 /// The value that the bytes stand for: that of the frame that they are a text of, and `Unreadable` exactly where they are
 /// a text of none. `names` are those of the clusters, by their numbers. What the machine does not ask of a command is not
 /// kept; the cluster that stored an entry first does not stand in the bytes, and is 0 here.
+#[tactic(auto, using(crate::proofs::Entries::no_rest))]
 pub fn read_value(alloc: Global, names: &[ClusterName], bytes: &[u8]) -> Result<Frame, Memory>
     requires { length names.now ≤ CLUSTERS }
-    ensures { IfOk result (Reads names.now bytes.now) }
+    ensures value { IfOk result (Reads names.now bytes.now) }
+    // The bytes that an entry keeps of fields that nobody reads are their canonical text, so that it can be written again.
+    ensures rest { IfOk result (λ f. IsRest (unread_bytes f)) }
 {
-    match whole_frame(alloc, bytes)? {
+    match read_frame(alloc, bytes)? {
         None => Ok(Frame::Unreadable),
         Some(frame) => value_of(alloc, names, frame),
     }
 }
 
-/// The frame that the bytes are a text of, if they are one.
-fn whole_frame(alloc: Global, bytes: &[u8]) -> Result<Option<WireFrame>, Memory>
-    ensures { IfOk result (λ o. MatchOption o ((w : WireFrame) → IsFrameText bytes.now w → ⊥) (IsFrameText bytes.now)) }
-{
-    let mut reader = FrameReader::new(alloc);
-    match reader.feed(bytes) {
-        Ok(()) => {}
-        Err(why) => match why {
-            FrameFault::Memory => return Err(Memory),
-            _ => return Ok(None),
-        },
-    }
-    let Some(frame) = reader.next() else {
-        return Ok(None);
-    };
-    match reader.next() {
-        None => {}
-        Some(_) => return Ok(None),
-    }
-    if reader.rest() > 0 {
-        return Ok(None);
-    }
-    Ok(Some(frame))
-}
-
 /// The value that a frame stands for.
+#[tactic(auto, using(crate::proofs::Entries::carrying_rest))]
 fn value_of(alloc: Global, names: &[ClusterName], frame: WireFrame) -> Result<Frame, Memory>
     requires { length names.now ≤ CLUSTERS }
-    ensures { IfOk result (SaysValue names.now frame) }
+    ensures value { IfOk result (SaysValue names.now frame) }
+    ensures rest { IfOk result (λ f. IsRest (unread_bytes f)) }
 {
     let WireFrame { command, body } = frame;
     match body {

@@ -112,7 +112,7 @@ MakesAt s x b = MadeAfter (length s.clusters) x (name_of s x) b.entries b.ledger
 abbrev pub Asked : Setup → World → Type 0
 Asked s w = Everywhere s (MakesAt s) w
 
-telling : (s : Setup) → Named s → (w : World) → IsShort w → Standing s w → (t x : ℕ) → IsThere s t x → Telling s.per_ledger (name_of s x) (topic_at s w t x).ledgers
+pub telling : (s : Setup) → Named s → (w : World) → IsShort w → Standing s w → (t x : ℕ) → IsThere s t x → Telling s.per_ledger (name_of s x) (topic_at s w t x).ledgers
 telling s names w short h t x there =
     let b = topic_at s w t x in let numbered = (h.0.0.1 t x there).numbered in
     record {

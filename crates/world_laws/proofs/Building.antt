@@ -124,11 +124,11 @@ data_silent content.Data t h = refl
 data_silent (content.Marked m) t h = absurd (false≢true h)
 data_silent (content.Unread k) t h = absurd (false≢true h)
 
-other_silent : (t u : Bool) → u ≡ false → (t && u) ≡ false
+pub other_silent : (t u : Bool) → u ≡ false → (t && u) ≡ false
 other_silent true u h = h
 other_silent false u h = refl
 
-differ : (x y : ℕ) → (x ≡ y → ⊥) → (x == y) ≡ false
+pub differ : (x y : ℕ) → (x ≡ y → ⊥) → (x == y) ≡ false
 differ x y other = by (x == y) refl
   where
     by : (t : Bool) → (x == y) ≡ t → t ≡ false

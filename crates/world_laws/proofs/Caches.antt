@@ -83,7 +83,7 @@ pushed F cs c all new k d at =
       | inr last ↦ subst F last.1 new
     ]
 
-cached_all : (F : CachedSnapshot → Type 0) (cs : List CachedSnapshot) (c : CachedSnapshot) → AllIn F cs → F c → AllIn F (cached cs c)
+pub cached_all : (F : CachedSnapshot → Type 0) (cs : List CachedSnapshot) (c : CachedSnapshot) → AllIn F cs → F c → AllIn F (cached cs c)
 cached_all F cs c all new =
     on_if (AllIn F) (nat_lt (length cs) most_cached) _ _ (pushed F cs c all new) (pushed F (drop 1 cs) c (dropped F cs all) new)
 

@@ -108,7 +108,7 @@ budget_is : (s : Setup) (w : World) → budget s w
 unfolding share
 budget_is s w = refl
 
-start_within : (s : Setup) (w : World) → 0 < length s.clusters → weight s (all_reset s w) ≤ budget s w
+pub start_within : (s : Setup) (w : World) → 0 < length s.clusters → weight s (all_reset s w) ≤ budget s w
 start_within s w some =
     let n = length s.clusters in
     let c = share n in

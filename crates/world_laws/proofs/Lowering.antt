@@ -210,5 +210,8 @@ round_in : (s : Setup) (ps : List Pair) → Each (PairIn s) ps → Each (InRound
 round_in s [] all = tt
 round_in s (p ∷ ps) all = (all.0, (all.0, (all.0, round_in s ps all.1)))
 
+pub all_pairs : (s : Setup) → Each (λ (p : Pair). IsPair s p.topic p.source p.target) (pairs s)
+all_pairs s = of_in s (range_with_len 0 (length s.topics)) (range_with_len 0 (length s.clusters)) (below_in (length s.topics)) (below_in (length s.clusters))
+
 pub all_in_round : (s : Setup) → Each (InRound s) (round_of (pairs s))
-all_in_round s = round_in s (pairs s) (of_in s (range_with_len 0 (length s.topics)) (range_with_len 0 (length s.clusters)) (below_in (length s.topics)) (below_in (length s.clusters)))
+all_in_round s = round_in s (pairs s) (all_pairs s)

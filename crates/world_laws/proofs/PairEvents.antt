@@ -135,7 +135,7 @@ own_write : (x own z : ℕ) → (own ≡ x → ⊥) → (w : Write) → Outgoing
 own_write x own z other (write.Append e) h = other_origin x own e other h
 own_write x own z other w h = tt
 
-own_change : (x z : ℕ) (c : Change) → OutgoingChange z c → LeavesSession x c
+pub own_change : (x z : ℕ) (c : Change) → OutgoingChange z c → LeavesSession x c
 own_change x z (change.Receiver v r) h = absurd h
 own_change x z change.Forget h = h
 own_change x z c h = tt
@@ -144,7 +144,7 @@ from_write : (x z : ℕ) → (z ≡ x → ⊥) → (w : Write) → IncomingWrite
 from_write x z other (write.Append e) h = other_origin x z e other h
 from_write x z other w h = tt
 
-from_change : (x z : ℕ) → (z ≡ x → ⊥) → (c : Change) → IncomingChange z c → LeavesSession x c
+pub from_change : (x z : ℕ) → (z ≡ x → ⊥) → (c : Change) → IncomingChange z c → LeavesSession x c
 from_change x z other (change.Receiver v r) h = λ is. other (sym h ∙ is)
 from_change x z other change.Forget h = h
 from_change x z other c h = tt

@@ -95,7 +95,7 @@ out_write x y own z near far other (write.SessionNumber v n) h = λ is. other (s
 out_write x y own z near far other (write.Append e) h = tt
 out_write x y own z near far other w h = tt
 
-out_change : (y z : ℕ) → (z ≡ y → ⊥) → (c : Change) → OutgoingChange z c → LeavesSender y c
+pub out_change : (y z : ℕ) → (z ≡ y → ⊥) → (c : Change) → OutgoingChange z c → LeavesSender y c
 out_change y z other (change.Opening v) h = λ is. other (sym h ∙ is)
 out_change y z other (change.Opened v) h = λ is. other (sym h ∙ is)
 out_change y z other (change.Pend v i) h = λ is. other (sym h ∙ is)
@@ -146,7 +146,7 @@ in_write x y z near far (write.SenderAck v i) h = absurd h
 in_write x y z near far (write.SessionNumber v n) h = absurd h
 in_write x y z near far w h = tt
 
-in_change : (y z : ℕ) (c : Change) → IncomingChange z c → LeavesSender y c
+pub in_change : (y z : ℕ) (c : Change) → IncomingChange z c → LeavesSender y c
 in_change y z (change.Receiver v r) h = tt
 in_change y z (change.Opening v) h = absurd h
 in_change y z (change.Opened v) h = absurd h

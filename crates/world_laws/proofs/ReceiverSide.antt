@@ -68,7 +68,7 @@ left_session x z r s other = by (z == x) refl
     by true e = absurd (other (eqb-true z x e))
     by false e = refl
 
-left_sessions : (x : ℕ) (r : Option ℕ) (cs : List Change) → Each (LeavesSession x) cs → session_then x r cs ≡ r
+pub left_sessions : (x : ℕ) (r : Option ℕ) (cs : List Change) → Each (LeavesSession x) cs → session_then x r cs ≡ r
 left_sessions x r [] h = refl
 left_sessions x r (change.Receiver z s ∷ cs) h = ap (λ (t : Option ℕ). session_then x t cs) (left_session x z r s h.0) ∙ left_sessions x r cs h.1
 left_sessions x r (change.Forget ∷ cs) h = absurd h.0

@@ -146,30 +146,31 @@ goes_on_for_ever s (e ∷ es) w = goes_on_for_ever s es (after s w e)
 abbrev pub all_reset : Setup → World → World
 all_reset s w = (all_settle no_limits s (begun w) (resets_of (pairs s))).world
 
--- so settling ends in time, where the weight behind the resets is within the budget before them
+-- the world when settling has ended
+settled_is : (s : Setup) (w : World) → after_settling s w ≡ (rounds_of (suc (budget s w)) no_limits s (at (all_reset s w))).world
+unfolding settled_world
+settled_is s w =
+    let one : budget s w + 1 ≡ suc (budget s w) = omega arith in
+    ap (λ (m : ℕ). (rounds_of m no_limits s (all_settle no_limits s (begun w) (resets_of (pairs s)))).world) one
+    ∙ ap (λ (r : Ran). (rounds_of (suc (budget s w)) no_limits s r).world) (goes_on_for_ever s (resets_of (pairs s)) w)
+
+-- What settling keeps holds there, where the weight behind the resets is within the budget before them
+pub settled_has : (s : Setup) (M : World → ℕ) (P : World → Type 0) (R : Event → Type 0) → IsLowered s M P R → Each R (round_of (pairs s)) → (w : World)
+    → P (all_reset s w) → M (all_reset s w) ≤ budget s w → P (after_settling s w)
+settled_has s M P R h all w p le = subst P (sym (settled_is s w)) (rounds_end s M P R h all (budget s w) (all_reset s w) p le).holds
+
+-- so settling ends in time
 pub ends_in_time : (s : Setup) (M : World → ℕ) (P : World → Type 0) (R : Event → Type 0) → IsLowered s M P R → Each R (round_of (pairs s)) → (w : World)
     → P (all_reset s w) → M (all_reset s w) ≤ budget s w → (all_reset s w).rounds ≡ w.rounds → SettlesInTime s w
-unfolding settled_world
 ends_in_time s M P R h all w p le as_many = record {
-  quiet = subst (λ (v : World). is_quiet s v ≡ true) (sym is) e.quiet;
-  rounds = subst (λ (v : World). v.rounds ≤ w.rounds + budget s w) (sym is) (omega (arith, e.rounds, as_many));
-  busy = λ k busy. subst (IsBusy k) (sym reset) (round_busy s M P R h all _ (rounds_keep s M P R h all k (all_reset s w) p)) busy;
+  quiet = subst (λ (v : World). is_quiet s v ≡ true) (sym (settled_is s w)) e.quiet;
+  rounds = subst (λ (v : World). v.rounds ≤ w.rounds + budget s w) (sym (settled_is s w)) (omega (arith, e.rounds, as_many));
+  busy = λ k busy.
+      subst (IsBusy k) (sym (goes_on_for_ever s (resets_of (pairs s)) w)) (round_busy s M P R h all _ (rounds_keep s M P R h all k (all_reset s w) p)) busy;
 }
   where
-    n : ℕ
-    n = budget s w
-
-    e : EndsQuiet s P (all_reset s w) n (rounds_of (suc n) no_limits s (at (all_reset s w)))
-    e = rounds_end s M P R h all n (all_reset s w) p le
-
-    reset : all_settle no_limits s (begun w) (resets_of (pairs s)) ≡ at (all_reset s w)
-    reset = goes_on_for_ever s (resets_of (pairs s)) w
-
-    is : after_settling s w ≡ (rounds_of (suc n) no_limits s (at (all_reset s w))).world
-    is =
-        let one : n + 1 ≡ suc n = omega arith in
-        ap (λ (m : ℕ). (rounds_of m no_limits s (all_settle no_limits s (begun w) (resets_of (pairs s)))).world) one
-        ∙ ap (λ (r : Ran). (rounds_of (suc n) no_limits s r).world) reset
+    e : EndsQuiet s P (all_reset s w) (budget s w) (rounds_of (suc (budget s w)) no_limits s (at (all_reset s w)))
+    e = rounds_end s M P R h all (budget s w) (all_reset s w) p le
 
     IsBusy : ℕ → Ran → Type 0
     IsBusy k r =

@@ -53,7 +53,7 @@ ended l P r w (Some n) p q = p
 gone_on : (l : Limits) (P : World → Type 0) (r : Ran) (w : World) → P r.world → P w → Holds P (goes_on l r w)
 gone_on l P r w p q = on_if (Holds P) (is_some r.ended) _ _ p (ended l P r w (l w) p q)
 
-all_settled : (l : Limits) (s : Setup) (P : World → Type 0) (k : IsKept s P) (r : Ran) (es : List Event) → P r.world → Holds P (all_settle l s r es)
+pub all_settled : (l : Limits) (s : Setup) (P : World → Type 0) (k : IsKept s P) (r : Ran) (es : List Event) → P r.world → Holds P (all_settle l s r es)
 all_settled l s P k r [] p = p
 all_settled l s P k r (e ∷ es) p =
     all_settled l s P k (settles l s r e) es (gone_on l P r _ p (k.idle (happens s r.world e) r.world.idle (event_done s P k r.world e p)))

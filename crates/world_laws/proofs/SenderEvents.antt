@@ -33,7 +33,7 @@ use Rattle.world_laws.proofs.Shapes.{Answered, Fated, InLink, ReadsNext}
 self_is : (y : ℕ) → (y == y) ≡ true
 self_is y = eq-eqb y y refl
 
-chosen : {X : Type 0} (y : ℕ) (u v : X) → (if y == y then u else v) ≡ u
+pub chosen : {X : Type 0} (y : ℕ) (u v : X) → (if y == y then u else v) ≡ u
 chosen y u v = ap (λ (b : Bool). if b then u else v) (self_is y)
 
 -- reset, up to a stop behind its write or to its end
@@ -59,7 +59,7 @@ receiving_sent session far sent taken p r = record {
       ];
 }
 
-reset_sender : (y n : ℕ) (s : Sender) → sender_then y (sender_after y s (write.SessionNumber y n ∷ [])) (change.Opening y ∷ []) ≡ forgetful s n sender_state.Opening
+pub reset_sender : (y n : ℕ) (s : Sender) → sender_then y (sender_after y s (write.SessionNumber y n ∷ [])) (change.Opening y ∷ []) ≡ forgetful s n sender_state.Opening
 reset_sender y n s = chosen y (sender_reset (if y == y then record s { session = n } else s)) _ ∙ ap sender_reset (chosen y (record s { session = n }) s)
 
 -- a session begins: the packet that opens it goes out
@@ -114,7 +114,7 @@ pub opening_live : sender_state.Opening ≡ sender_state.Closed → ⊥
 unfolding is_live
 opening_live e = false≢true (sym (ap is_live e))
 
-open_reads : (state : SenderState) (s : Sender) (n i : ℕ) → index_to_read state s n ≡ Some i
+pub open_reads : (state : SenderState) (s : Sender) (n i : ℕ) → index_to_read state s n ≡ Some i
     → (state ≡ sender_state.Closed → ⊥) × IsNextOpen s.cursor s.read_index (n - s.read_index) i
 open_reads sender_state.Open s n i h = (open_live, next_is s.cursor s.read_index (n - s.read_index) i h)
 open_reads sender_state.Opening s n i h = absurd (none-some i h)
@@ -184,7 +184,7 @@ after_ack y i s [] =
     let P : Sender → Type 0 = λ t. has t.cursor i ≡ true in subst P (sym (chosen y (record s { cursor = with_index s.cursor i }) s)) (has_it s.cursor i)
 after_ack y i s (w ∷ ws) = after_ack y i (sender_written y s w) ws
 
-then_both : (y : ℕ) (s : Sender) (cs ds : List Change) → sender_then y s (cs ++ ds) ≡ sender_then y (sender_then y s cs) ds
+pub then_both : (y : ℕ) (s : Sender) (cs ds : List Change) → sender_then y s (cs ++ ds) ≡ sender_then y (sender_then y s cs) ds
 then_both y s [] ds = refl
 then_both y s (c ∷ cs) ds = then_both y (sender_changed y s c) cs ds
 

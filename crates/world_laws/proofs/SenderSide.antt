@@ -126,7 +126,7 @@ LeavesSender y (change.Unpend z n) = z ≡ y → ⊥
 LeavesSender y change.Forget = ⊥
 LeavesSender y c = Unit {0}
 
-not_it : (z y : ℕ) (s t : Sender) → (z ≡ y → ⊥) → (if z == y then t else s) ≡ s
+pub not_it : (z y : ℕ) (s t : Sender) → (z ≡ y → ⊥) → (if z == y then t else s) ≡ s
 not_it z y s t other = by (z == y) refl
   where
     by : (b : Bool) → (z == y) ≡ b → (if b then t else s) ≡ s

@@ -118,7 +118,7 @@ without_at p d ps qs true a ih h = record { place = suc a; is = h }
 without_at p d ps qs false zero ih h = record { place = zero; is = h }
 without_at p d ps qs false (suc a) ih h = stands_next p ps d (ih a h)
 
-without_is : (ps : List Pending) (n a : ℕ) (d : Pending) → slice_get (without_number ps n) a ≡ Some d → Stands ps d
+pub without_is : (ps : List Pending) (n a : ℕ) (d : Pending) → slice_get (without_number ps n) a ≡ Some d → Stands ps d
 without_is [] n a d h = absurd (none-some d h)
 without_is (p ∷ ps) n a d h = without_at p d ps (without_number ps n) (p.number == n) a (λ a h. without_is ps n a d h) h
 

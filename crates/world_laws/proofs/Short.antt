@@ -23,25 +23,25 @@ pub record KeptShort (s : Setup) (P Q : World → Type 0) : Type 0 where
   pub stop : (w : World) → IsShort w → P w → P (stops s w) → Q w → Q (stops s w)
 
 -- it was short before
-abbrev WasShort : World → World → Type 0
+abbrev pub WasShort : World → World → Type 0
 WasShort w w' = IsShort w' → IsShort w
 
 not_fewer : (w w' : World) → w.events ≤ w'.events → WasShort w w'
 not_fewer w w' le short = omega (arith, le, short)
 
-does_short : (s : Setup) (w : World) (p : Planned) → WasShort w (broker_does s w p)
+pub does_short : (s : Setup) (w : World) (p : Planned) → WasShort w (broker_does s w p)
 unfolding broker_does
 does_short s w p = not_fewer w (broker_does s w p) (on_if (λ (w' : World). w.events ≤ w'.events) p.plan.idle _ _ (omega arith) (omega arith))
 
-halts_short : (s : Setup) (w : World) (k : ℕ) (p : Planned) → WasShort w (broker_halts s w k p)
+pub halts_short : (s : Setup) (w : World) (k : ℕ) (p : Planned) → WasShort w (broker_halts s w k p)
 unfolding broker_halts
 halts_short s w k p = not_fewer w (broker_halts s w k p) (omega arith)
 
-client_short : (s : Setup) (w : World) (c : ℕ) (k : Option LinkName) (a : Acted) → WasShort w (client_does s w c k a)
+pub client_short : (s : Setup) (w : World) (c : ℕ) (k : Option LinkName) (a : Acted) → WasShort w (client_does s w c k a)
 unfolding client_does
 client_short s w c k a = not_fewer w (client_does s w c k a) (on_if (λ (w' : World). w.events ≤ w'.events) a.idle _ _ (omega arith) (omega arith))
 
-stops_short : (s : Setup) (w : World) → WasShort w (stops s w)
+pub stops_short : (s : Setup) (w : World) → WasShort w (stops s w)
 unfolding stops
 stops_short s w = not_fewer w (stops s w) (omega arith)
 

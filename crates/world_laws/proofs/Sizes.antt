@@ -98,8 +98,8 @@ sized_gets s w c x a z =
     (sized_same s w _ refl (client_forward c _ a.sent (taken_from (Some (ToClient c x)) w.links) ∙ taken_client x c w.links) z)
 
 -- a table whose links are all discarded has its form
-discarded_cell : (m : List (List Link)) (i j : ℕ) → HasCell m i j → HasCell (all_discarded m) i j
-discarded_cell m i j h = record {
+pub discarded_has : (m : List (List Link)) (i j : ℕ) → HasCell m i j → HasCell (all_discarded m) i j
+discarded_has m i j h = record {
   row = let e = length-map m (λ (ls : List Link). map discarded ls) in omega (arith, e, h.row);
   column =
       let row = get_or-map (λ (ls : List Link). map discarded ls) m i [] [] h.row in
@@ -115,7 +115,7 @@ sized_stops : (s : Setup) (w : World) → Sized s w → Sized s (stops s w)
 unfolding stops
 sized_stops s w z = record {
   brokers = length-map w.brokers _ ∙ z.brokers;
-  cells = λ t x y there lt. discarded_cell w.links.forward (node s t x) y (z.cells t x y there lt);
+  cells = λ t x y there lt. discarded_has w.links.forward (node s t x) y (z.cells t x y there lt);
   wide = λ t x there.
       let g : Broker → Broker = λ b. done s.per_ledger b restart in
       subst (IsWide s) (sym (stopped_at w.brokers g (node s t x) (node_there s w t x z there)))

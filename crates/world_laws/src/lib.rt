@@ -6,6 +6,7 @@
 
 pub mod histories;
 pub mod replication;
+pub mod settled;
 pub mod settling;
 pub mod snapshots;
 pub mod subscriptions;
@@ -13,7 +14,8 @@ pub mod topics;
 
 pub use histories::{law_alike, law_merge};
 pub use replication::{law_prefix, law_receipt};
-pub use settling::law_settles_in_time;
+pub use settled::{law_safe, law_update};
+pub use settling::{law_budget, law_settles_in_time};
 pub use snapshots::{law_cut, law_position, law_second_round};
 pub use subscriptions::{law_kept, law_offers};
 pub use topics::law_once;

@@ -2,7 +2,7 @@
 ghost use Rattle.std.specs.Prelude.{◌≡◌, ℕ, Some, None, Err, IfSome, IsOkAnd};
 ghost use Rattle.geo_base.specs.Report.{report};
 ghost use Rattle.geo_base.specs.Run.{run};
-ghost use Rattle.geo_io.specs.Faults.{Rose};
+ghost use Rattle.geo_io.specs.Faults.{Rose, Stood};
 ghost use Rattle.geo_io.specs.Sink.{Gains};
 ghost use Rattle.geo_top.specs.Commands.{command_of};
 ghost use Rattle.geo_top.specs.Outputs.{IsAlwaysOnce, IsPassed, WentOut, WritesLine, answer_for};
@@ -22,7 +22,7 @@ use std::alloc::Global;
 /// The whole output is made before its first byte is written. The first of these refusals wins: words that are no command; a
 /// fault of the source, or more than 67,108,864 bytes; a line of the script that breaks a rule; more than 2,000,000 events and
 /// idle events; a fault of the sink.
-#[tactic(auto, using(crate::proofs::Answering::ok_report, crate::proofs::Answering::ok_once, crate::proofs::Answering::caused, crate::proofs::Answering::bad_script, crate::proofs::Answering::no_command, crate::proofs::Answering::due, crate::proofs::Answering::whole_out, crate::proofs::Answering::part_out, crate::proofs::Answering::nothing_out, crate::proofs::Answering::nothing_gained, crate::proofs::Answering::free_due, crate::proofs::Answering::written_due, crate::proofs::Answering::line_out))]
+#[tactic(auto, using(crate::proofs::Answering::ok_report, crate::proofs::Answering::ok_once, crate::proofs::Answering::caused, crate::proofs::Answering::bad_script, crate::proofs::Answering::no_command, crate::proofs::Answering::due, crate::proofs::Answering::whole_out, crate::proofs::Answering::part_out, crate::proofs::Answering::nothing_out, crate::proofs::Answering::nothing_gained, crate::proofs::Answering::free_due, crate::proofs::Answering::written_due, crate::proofs::Answering::line_out, crate::proofs::Answering::never_memory))]
 pub fn geo_alone<S: Source, K: Sink>(
     alloc: Global,
     words: &[Word],
@@ -45,6 +45,8 @@ pub fn geo_alone<S: Source, K: Sink>(
     ensures script { (line rule : ℕ) → result ≡ Status.BadScript line rule
         → IfSome (S.left source.old) (λ input. script_of input ≡ Err (record { line = line; rule = rule })) }
     ensures write { result ≡ Status.WriteFault → Rose (K.faults sink.old) (K.faults sink.new) }
+    // A fault of the source or the sink is never told as want of memory.
+    ensures memory { result ≡ Status.OutOfMemory → Stood (S.faults source.old) (S.faults source.new) × Stood (K.faults sink.old) (K.faults sink.new) }
 
     // What is due comes, unless the source, the sink or memory fails.
     ensures no_command { command_of words.now ≡ None → IsDue Status.Usage result }

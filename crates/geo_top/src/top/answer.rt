@@ -1,7 +1,8 @@
 //! What the program is to write, made whole before its first byte goes out.
-ghost use Rattle.std.specs.Prelude.{◌≡◌, ◌≤◌, Some, IfOk, string_bytes, length};
+ghost use Rattle.std.specs.Prelude.{◌≡◌, ◌≤◌, Some, IfOk, OnErr, string_bytes, length};
 ghost use Rattle.geo_base.specs.Report.{report};
 ghost use Rattle.geo_base.specs.Worlds.{IsWorldOf};
+ghost use Rattle.geo_io.specs.Faults.{Stood};
 ghost use Rattle.geo_top.specs.Commands.{command_of};
 ghost use Rattle.geo_top.specs.Outputs.{IsFounded, answer_to, answer_to_run, passed_limit, refused};
 ghost use Rattle.geo_top.specs.Statuses.{refusal_line};
@@ -36,7 +37,8 @@ pub fn answer_to_words<S: Source>(
     words: &[Word],
     source: &mut S,
 ) -> Result<Answer, Memory>
-    ensures { IfOk result (IsFounded (command_of words.now) (S.faults source.old) (S.faults source.new) (S.left source.old)) }
+    ensures founded { IfOk result (IsFounded (command_of words.now) (S.faults source.old) (S.faults source.new) (S.left source.old)) }
+    ensures memory { OnErr result (Stood (S.faults source.old) (S.faults source.new)) }
 {
     match Command::read(words) {
         Some(Command::Run) => answer_to_script(alloc, source),
@@ -44,14 +46,17 @@ pub fn answer_to_words<S: Source>(
     }
 }
 
-/// The answer to the script that a source holds.
+/// The answer to the script that a source holds. The line of a read fault is made before anything is read, so that a fault of
+/// the source is never told as want of memory.
 #[tactic(auto, using(crate::proofs::Answering::founded_read, crate::proofs::Answering::founded_large))]
 fn answer_to_script<S: Source>(alloc: Global, source: &mut S) -> Result<Answer, Memory>
-    ensures { IfOk result (IsFounded (Some command.Run) (S.faults source.old) (S.faults source.new) (S.left source.old)) }
+    ensures founded { IfOk result (IsFounded (Some command.Run) (S.faults source.old) (S.faults source.new) (S.left source.old)) }
+    ensures memory { OnErr result (Stood (S.faults source.old) (S.faults source.new)) }
 {
+    let read_fault = refusal(alloc, Status::ReadFault)?;
     match read_all(alloc, source, INPUT_BYTES) {
         Ok(bytes) => answer_to_bytes(alloc, bytes.as_slice()),
-        Err(ReadFault::Failed) => refusal(alloc, Status::ReadFault),
+        Err(ReadFault::Failed) => Ok(read_fault),
         Err(ReadFault::TooLong) => refusal(alloc, Status::TooLarge(1)),
         Err(ReadFault::Memory) => Err(Memory),
     }

@@ -1,4 +1,4 @@
-use Rattle.std.proofs.Common.{List, ℕ, take, drop, arith, rules, subst, sym}
+use Rattle.std.proofs.Common.{◌∙◌, List, ℕ, take, drop, arith, rules, subst, sym}
 use Rattle.std.proofs.lemmas.List.{take_rest}
 use Rattle.std.proofs.Math.Seq.{take-add}
 use Rattle.geo_io.specs.Sink.{Gains}
@@ -16,5 +16,6 @@ loop-out-preserved g c =
     record {
       within = search rules;
       so_far = subst (λ (taken : List ℕ). Gains start new taken) (sym (take-add c.loop-out.out c.in-Ok.n c.args.bytes.now)) (Gains-again start old new _ _ c.loop-out.invariant.so_far took);
+      steady = c.in-Ok.ensures.steady (search rules) ∙ c.loop-out.invariant.steady;
       later = omega (arith, c.in-Ok.ensures.later, c.loop-out.invariant.later);
     }

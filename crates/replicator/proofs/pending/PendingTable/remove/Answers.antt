@@ -1,4 +1,4 @@
-use Rattle.std.proofs.Common.{◌≡◌, ◌<◌, get_or, ap, subst, sym, ◌∙◌, arith}
+use Rattle.std.proofs.Common.{◌≡◌, ◌<◌, ap, subst, sym, ◌∙◌, arith}
 use Rattle.std.specs.Prelude.{Option, OnSome}
 use Rattle.std.specs.List.{remove}
 use Rattle.std.specs.VecDeque.{deque_len}

@@ -1,0 +1,5 @@
+use Rattle.world_laws.proofs.Complete.{budget_always}
+use Rattle.world_laws.proofs.settling.law_budget.Goals as goal
+
+pub returns : goal.returns
+returns c = record { budget = budget_always }
