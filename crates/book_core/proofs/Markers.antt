@@ -4,21 +4,8 @@ use Rattle.std.specs.Prelude.{if◌then◌else◌}
 use Rattle.geo_base.specs.declared.entry.Entry.{Entry}
 use Rattle.geo_base.specs.Entry.{is_own_marker}
 use Rattle.geo_base.specs.Topic.{next_marker}
+use Rattle.restart.proofs.Markers.{next_marker-push}
 use Rattle.book_core.specs.Book.{marker_number}
-
-abbrev next_with : ℕ → Entry → ℕ → ℕ
-next_with own e next = if is_own_marker own e then max (e.ident.seq + 1) next else next
-
-swapped : (own : ℕ) (d e : Entry) (n : ℕ) (b c : Bool) → (if b then max (d.ident.seq + 1) (if c then max (e.ident.seq + 1) n else n) else (if c then max (e.ident.seq + 1) n else n)) ≡ (if c then max (e.ident.seq + 1) (if b then max (d.ident.seq + 1) n else n) else (if b then max (d.ident.seq + 1) n else n))
-swapped own d e n true true = omega arith
-swapped own d e n true false = refl
-swapped own d e n false c = refl
-
-next_marker-push : (own : ℕ) (es : List Entry) (e : Entry) → next_marker own (es ++ e ∷ []) ≡ next_with own e (next_marker own es)
-next_marker-push own [] e = refl
-next_marker-push own (d ∷ es) e =
-    ap (λ (n : ℕ). next_with own d n) (next_marker-push own es e)
-    ∙ swapped own d e (next_marker own es) (is_own_marker own d) (is_own_marker own e)
 
 capped : (s n : ℕ) (b : Bool) → min (if b then max (s + 1) n else n) (2 ^ 64 - 1) ≡ (if b then max (min n (2 ^ 64 - 1)) (min (s + 1) (2 ^ 64 - 1)) else min n (2 ^ 64 - 1))
 capped s n true = omega arith

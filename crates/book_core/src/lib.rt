@@ -13,6 +13,7 @@ mod prepared;
 mod reserving;
 mod sender_row;
 mod senders;
+mod starting;
 mod write;
 mod writing;
 

@@ -11,7 +11,7 @@ use std::marker::Model;
 /// The senders by cluster, and how many more steps that take a place have room at each.
 #[derive(Debug, Drop)]
 pub struct SenderTable {
-    senders: Vec<SenderRow>,
+    pub(crate) senders: Vec<SenderRow>,
     room: usize,
 }
 

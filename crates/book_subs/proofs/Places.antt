@@ -29,7 +29,7 @@ told : (b : Bool) → (b ≡ true) ⊎ (b ≡ false)
 told true = inl refl
 told false = inr refl
 
-other_name : (m n : List ℕ) → m ≢ n → bytes_eq m n ≡ false
+pub other_name : (m n : List ℕ) → m ≢ n → bytes_eq m n ≡ false
 other_name m n apart =
     elim (told (bytes_eq m n)) [
       | inl same ↦ absurd (apart ((bytes_eq-Decides m n).0 same))
@@ -43,11 +43,11 @@ same_name m n e = (bytes_eq-Decides m n).1 e
 abbrev pub Apart : List (List ℕ) → Type 0
 Apart ns = AllPairs (λ (m n : List ℕ). m ≢ n) ns
 
-apart_behind : (n : List ℕ) (ns : List (List ℕ)) → Apart (n ∷ ns) → Apart ns
+pub apart_behind : (n : List ℕ) (ns : List (List ℕ)) → Apart (n ∷ ns) → Apart ns
 apart_behind n ns apart i j d lt h = apart (suc i) (suc j) d (omega arith) (omega arith)
 
 -- the first name is not the one at a later place
-apart_first : (b : SubBook) (bs : List SubBook) (k : ℕ) → Apart (map book_name (b ∷ bs)) → k < length bs → b.sub.name ≢ (book_at bs k).sub.name
+pub apart_first : (b : SubBook) (bs : List SubBook) (k : ℕ) → Apart (map book_name (b ∷ bs)) → k < length bs → b.sub.name ≢ (book_at bs k).sub.name
 apart_first b bs k apart h same =
     let there : get_or (map book_name bs) k [] ≡ book_name (book_at bs k) = get_or-map book_name bs k no_book [] h in
     apart 0 (suc k) [] (omega arith) (omega (arith, h, length-map bs book_name)) (same ∙ sym there)

@@ -22,7 +22,7 @@ use std::marker::Model;
 #[derive(Debug, Drop)]
 pub struct SubTable {
     pub(crate) subs: Vec<Sub>,
-    room: usize,
+    pub(crate) room: usize,
 }
 
 impl Model for SubTable {
