@@ -4,3 +4,4 @@ pub mod SenderTables
 pub mod Steps
 pub mod Halts
 pub mod InTurn
+pub mod Backlogs

@@ -5,6 +5,7 @@
 //! its name.
 #![tactic(auto)]
 
+mod backlog;
 mod book;
 mod change;
 mod changing;
