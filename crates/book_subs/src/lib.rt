@@ -17,3 +17,6 @@ pub use changing::SubChange;
 pub use sub::Sub;
 pub use table::SubTable;
 pub use writing::SubWrite;
+
+#[cfg(test)]
+mod tests;
