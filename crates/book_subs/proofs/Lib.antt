@@ -3,3 +3,4 @@ pub mod Told
 pub mod Picked
 pub mod Mapped
 pub mod Places
+pub mod Anew

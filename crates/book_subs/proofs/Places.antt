@@ -4,7 +4,7 @@ use Rattle.std.specs.Prelude.{◌≢◌, ◌⊎◌, ◌-◌, if◌then◌else◌
 use Rattle.std.specs.List.{AllPairs, filter, find, range_with_len, remove}
 use Rattle.std.specs.Str.{bytes_eq}
 use Rattle.std.proofs.Math.Seq.{map-set_same}
-use Rattle.std.proofs.lemmas.List.{get_or-map, length-map, map-append}
+use Rattle.std.proofs.lemmas.List.{get_or-map, get_or-set_same, length-map, map-append}
 use Rattle.std.proofs.lemmas.List.Quantifiers.{all_pairs_push, all_pairs_remove}
 use Rattle.std.proofs.lemmas.Grind.{common_steps}
 use Rattle.std.proofs.lemmas.Slice.Eq.{bytes_eq-Decides}
@@ -16,7 +16,7 @@ use Rattle.std.proofs.Math.Bool.{or-false}
 use Rattle.geo_base.specs.declared.entry.Entry.{Entry}
 use Rattle.book_subs.specs.Steps.{sub_changed, sub_written}
 use Rattle.book_subs.specs.SubBook.{SubBook, sub_of, subs_of}
-use Rattle.book_subs.specs.Table.{at_name, book_at, book_name, is_new, no_book, room_of, rooms_of, with_sub}
+use Rattle.book_subs.specs.Table.{at_name, book_at, book_name, is_new, names_of, no_book, room_at, room_of, rooms_of, sub_at, with_sub}
 use Rattle.book_subs.specs.declared.changing.SubChange.{SubChange}
 use Rattle.book_subs.specs.declared.changing.SubChange.TheVariants as sub_change
 use Rattle.book_subs.specs.declared.writing.SubWrite.{SubWrite}
@@ -29,7 +29,7 @@ told : (b : Bool) → (b ≡ true) ⊎ (b ≡ false)
 told true = inl refl
 told false = inr refl
 
-other_name : (m n : List ℕ) → m ≢ n → bytes_eq m n ≡ false
+pub other_name : (m n : List ℕ) → m ≢ n → bytes_eq m n ≡ false
 other_name m n apart =
     elim (told (bytes_eq m n)) [
       | inl same ↦ absurd (apart ((bytes_eq-Decides m n).0 same))
@@ -43,11 +43,11 @@ same_name m n e = (bytes_eq-Decides m n).1 e
 abbrev pub Apart : List (List ℕ) → Type 0
 Apart ns = AllPairs (λ (m n : List ℕ). m ≢ n) ns
 
-apart_behind : (n : List ℕ) (ns : List (List ℕ)) → Apart (n ∷ ns) → Apart ns
+pub apart_behind : (n : List ℕ) (ns : List (List ℕ)) → Apart (n ∷ ns) → Apart ns
 apart_behind n ns apart i j d lt h = apart (suc i) (suc j) d (omega arith) (omega arith)
 
 -- the first name is not the one at a later place
-apart_first : (b : SubBook) (bs : List SubBook) (k : ℕ) → Apart (map book_name (b ∷ bs)) → k < length bs → b.sub.name ≢ (book_at bs k).sub.name
+pub apart_first : (b : SubBook) (bs : List SubBook) (k : ℕ) → Apart (map book_name (b ∷ bs)) → k < length bs → b.sub.name ≢ (book_at bs k).sub.name
 apart_first b bs k apart h same =
     let there : get_or (map book_name bs) k [] ≡ book_name (book_at bs k) = get_or-map book_name bs k no_book [] h in
     apart 0 (suc k) [] (omega arith) (omega (arith, h, length-map bs book_name)) (same ∙ sym there)
@@ -92,7 +92,7 @@ removed_subs (b ∷ bs) (suc k) apart h =
     let other : bytes_eq b.sub.name n ≡ false = other_name b.sub.name n (apart_first b bs k apart (omega arith)) in
     rw other (ap (λ ss. b.sub ∷ ss) (removed_subs bs k (apart_behind b.sub.name (map book_name bs) apart) (omega arith)))
 
-map_remove : (bs : List SubBook) (k : ℕ) → map book_name (remove bs k) ≡ remove (map book_name bs) k
+pub map_remove : (bs : List SubBook) (k : ℕ) → map book_name (remove bs k) ≡ remove (map book_name bs) k
 map_remove [] zero = refl
 map_remove [] (suc k) = refl
 map_remove (b ∷ bs) zero = refl
@@ -198,3 +198,38 @@ at_latest b len latest e some l =
 
 pub left_whole : (n : ℕ) (xs ys : List SubBook) → length xs ≡ n → take n (xs ++ ys) ≡ xs
 left_whole n xs ys e = grind (arith, common_steps)
+
+pub sub_at_place : (bs : List SubBook) (k : ℕ) → sub_at (subs_of bs) k ≡ (book_at bs k).sub
+sub_at_place [] zero = refl
+sub_at_place [] (suc k) = refl
+sub_at_place (b ∷ bs) zero = refl
+sub_at_place (b ∷ bs) (suc k) = sub_at_place bs k
+
+pub room_at_place : (bs : List SubBook) (k : ℕ) → room_at (rooms_of bs) k ≡ room_of (book_at bs k)
+room_at_place [] zero = refl
+room_at_place [] (suc k) = refl
+room_at_place (b ∷ bs) zero = refl
+room_at_place (b ∷ bs) (suc k) = room_at_place bs k
+
+pub names_are : (bs : List SubBook) → names_of (subs_of bs) ≡ map book_name bs
+names_are [] = refl
+names_are (b ∷ bs) = ap (λ ns. b.sub.name ∷ ns) (names_are bs)
+
+pub name_set : (bs : List SubBook) (k : ℕ) (new : SubBook) → new.sub.name ≡ (book_at bs k).sub.name → names_of (subs_of (set bs k new)) ≡ names_of (subs_of bs)
+name_set bs k new same = names_are (set bs k new) ∙ map-set_same book_name bs k new no_book same ∙ sym (names_are bs)
+
+pub name_pushed : (bs : List SubBook) (b : SubBook) → names_of (subs_of (bs ++ b ∷ [])) ≡ names_of (subs_of bs) ++ b.sub.name ∷ []
+name_pushed bs b = names_are (bs ++ b ∷ []) ∙ map-append book_name bs (b ∷ []) ∙ ap (λ ns. ns ++ b.sub.name ∷ []) (sym (names_are bs))
+
+pub name_removed : (bs : List SubBook) (k : ℕ) → names_of (subs_of (remove bs k)) ≡ remove (names_of (subs_of bs)) k
+name_removed bs k = names_are (remove bs k) ∙ map_remove bs k ∙ ap (λ ns. remove ns k) (sym (names_are bs))
+
+pub names_left : (c : ℕ) (bs : List SubBook) → names_of (subs_of (map (with_sub (detached c)) bs)) ≡ names_of (subs_of bs)
+names_left c bs = names_are (map (with_sub (detached c)) bs) ∙ detached_names c bs ∙ sym (names_are bs)
+
+pub names_cleared : (bs : List SubBook) → names_of (subs_of (map (with_sub cleared) bs)) ≡ names_of (subs_of bs)
+names_cleared bs = names_are (map (with_sub cleared) bs) ∙ cleared_names bs ∙ sym (names_are bs)
+
+-- the room at a place that was changed
+pub room_set : (bs : List SubBook) (k : ℕ) (new : SubBook) → k < length bs → room_at (rooms_of (set bs k new)) k ≡ room_of new
+room_set bs k new h = room_at_place (set bs k new) k ∙ ap room_of (get_or-set_same bs k new no_book h)

@@ -1,7 +1,7 @@
 -- A subscription as its owner sees it: the machine's subscription, and the room beside it.
-use Rattle.std.specs.Prelude.{ℕ, List, [], map}
+use Rattle.std.specs.Prelude.{ℕ, List, map}
 use Rattle.geo_base.specs.Subscription.{Subscription}
-use Rattle.book_subs.specs.declared.durable.DurableSub.{DurableSub}
+use Rattle.restart.specs.declared.durable.DurableSub.{DurableSub}
 
 -- so many more consumers that join and indexes that are given find memory, and so many more acknowledged indexes
 pub record SubBook : Type 0 where
@@ -23,19 +23,4 @@ durable_of b = record {
   replicated = b.sub.replicated;
   cursor = record { indexes = b.sub.cursor; spare = b.acks };
   seeks = b.sub.seeks;
-}
-
--- and what it is again after that
-abbrev pub restored : DurableSub → Subscription
-restored d = record {
-  name = d.name;
-  kind = d.kind;
-  replicated = d.replicated;
-  cursor = d.cursor.indexes;
-  seeks = d.seeks;
-  consumers = [];
-  out = [];
-  due = [];
-  read_index = 0;
-  cache = [];
 }

@@ -17,7 +17,11 @@ no_book = record { sub = new_subscription [] sub_kind.Exclusive false []; room =
 abbrev pub book_at : List SubBook → ℕ → SubBook
 book_at bs k = slice_index_or bs k no_book
 
--- the room of a subscription alone
+-- the subscription at a place
+abbrev pub sub_at : List Subscription → ℕ → Subscription
+sub_at ss k = slice_index_or ss k (new_subscription [] sub_kind.Exclusive false [])
+
+-- the room of a subscription
 pub record SubRoom : Type 0 where
   pub room : ℕ
   pub acks : ℕ

@@ -6,15 +6,17 @@
 #![tactic(auto)]
 
 mod changing;
-mod durable;
 mod finding;
 mod fresh;
+mod starting;
 mod sub;
 mod table;
 mod writing;
 
 pub use changing::SubChange;
-pub use durable::DurableSub;
 pub use sub::Sub;
 pub use table::SubTable;
 pub use writing::SubWrite;
+
+#[cfg(test)]
+mod tests;

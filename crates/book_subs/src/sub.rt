@@ -5,9 +5,9 @@ ghost use Rattle.geo_base.specs.Dispatcher.{least_due, pick};
 ghost use Rattle.geo_base.specs.Subscribing.{is_busy};
 ghost use Rattle.geo_base.specs.Subscription.{has_consumer, is_attached, new_subscription};
 ghost use Rattle.geo_base.specs.declared.frame.SubKind.TheVariants as sub_kind;
-ghost use Rattle.book_subs.specs.SubBook.{durable_of, restored};
+ghost use Rattle.restart.specs.Parts as durable;
+ghost use Rattle.book_subs.specs.SubBook.{durable_of};
 
-use crate::durable::DurableSub;
 use crate::fresh::Fresh;
 use cursor_acks::Cursor;
 use dispatcher::Dispatcher;
@@ -17,6 +17,7 @@ use geo_base::frame::SubKind;
 use geo_base::memory::Memory;
 use geo_base::name::SubName;
 use key_shared::KeyPick;
+use restart::DurableSub;
 use snapshot_cache::SnapshotCache;
 use std::alloc::Global;
 use std::marker::Model;
@@ -75,11 +76,11 @@ impl Sub {
     /// A subscription as it is after a restart, from what is durable of it: no consumer and no snapshot, nothing out or due again,
     /// and reading begins at the first entry.
     #[tactic(auto, using(crate::proofs::Told::holds_restored))]
-    pub fn restored(alloc: Global, durable: DurableSub) -> Result<Sub, Memory>
-        ensures { IfOk result (λ s. s.sub ≡ restored durable) }
+    pub fn restored(alloc: Global, part: DurableSub) -> Result<Sub, Memory>
+        ensures { IfOk result (λ s. s.sub ≡ durable.sub_of part) }
     {
         Ok(Sub {
-            durable,
+            durable: part,
             dispatcher: Dispatcher::new(alloc, KeyPick::new()),
             cache: SnapshotCache::new(alloc)?,
             fresh: Fresh::Nothing,

@@ -1,12 +1,13 @@
 //! The subscriptions of a topic, in order of creation.
 ghost use Rattle.std.specs.Prelude.{◌≡◌, ◌<◌, ◌≤◌, ◌+◌, ◌-◌, ◌++◌, ◌∷◌, [], None, Some, not, length, map, filter, slice_get, slice_index_or, OnOk, if◌then◌else◌};
+ghost use Rattle.std.specs.List.{remove};
 ghost use Rattle.std.specs.Str.{bytes_eq};
 ghost use Rattle.geo_base.specs.Broker.{sub_named};
 ghost use Rattle.geo_base.specs.Cursor.{below};
 ghost use Rattle.geo_base.specs.Subscription.{Subscription, cleared, detached, new_subscription};
 ghost use Rattle.book_subs.specs.Steps.{SubChangeFits, SubWriteFits, acks_after, acks_needed, room_needed, sub_changed, sub_written};
 ghost use Rattle.book_subs.specs.SubBook.{sub_of, subs_of};
-ghost use Rattle.book_subs.specs.Table.{at_name, book_at, is_new, rooms_of, with_sub};
+ghost use Rattle.book_subs.specs.Table.{at_name, is_new, names_of, room_at, rooms_of, sub_at, with_sub};
 
 use crate::changing::SubChange;
 use crate::sub::Sub;
@@ -21,7 +22,7 @@ use std::marker::Model;
 #[derive(Debug, Drop)]
 pub struct SubTable {
     pub(crate) subs: Vec<Sub>,
-    room: usize,
+    pub(crate) room: usize,
 }
 
 impl Model for SubTable {
@@ -54,10 +55,10 @@ impl SubTable {
     }
 
     /// The subscription at a place.
-    #[tactic(auto, using(crate::proofs::Places::sub_there))]
+    #[tactic(auto, using(crate::proofs::Places::sub_there, crate::proofs::Places::sub_at_place))]
     pub fn at(&self, place: usize) -> &Sub
         requires { place < length self.now.subs }
-        ensures book { result.now ≡ book_at self.now.subs place }
+        ensures at { result.now.sub ≡ sub_at (subs_of self.now.subs) place }
         ensures sub { slice_get (subs_of self.now.subs) place ≡ Some result.now.sub }
     {
         &self.subs[place]
@@ -76,66 +77,70 @@ impl SubTable {
 
     /// Makes room at a place: for so many consumers that join and indexes that are given, and for at least so many acknowledged
     /// indexes.
-    #[tactic(auto, using(crate::proofs::Places::same_subs, crate::proofs::Places::names_kept))]
+    #[tactic(auto, using(crate::proofs::Places::same_subs, crate::proofs::Places::names_kept, crate::proofs::Places::room_at_place, crate::proofs::Places::room_set))]
     pub fn reserve_at(&mut self, place: usize, room: usize, acks: usize) -> Result<(), Memory>
         requires { place < length self.old.subs }
         ensures same { subs_of self.new.subs ≡ subs_of self.old.subs }
         ensures places { self.new.room ≡ self.old.room }
-        ensures room { OnOk result ((book_at self.new.subs place).room ≡ room) }
-        ensures acks { OnOk result (acks ≤ (book_at self.new.subs place).acks) }
+        ensures room { OnOk result ((room_at (rooms_of self.new.subs) place).room ≡ room) }
+        ensures acks { OnOk result (acks ≤ (room_at (rooms_of self.new.subs) place).acks) }
     {
         self.subs[place].reserve(room, acks)
     }
 
     /// One more subscription, last in order; at Latest all of so many entries are acknowledged.
-    #[tactic(auto, using(crate::proofs::Places::pushed_subs, crate::proofs::Places::names_pushed))]
+    #[tactic(auto, using(crate::proofs::Places::pushed_subs, crate::proofs::Places::names_pushed, crate::proofs::Places::room_at_place, crate::proofs::Places::room_set, crate::proofs::Places::name_pushed))]
     pub fn create(&mut self, sub: Sub, latest: bool, len: u64)
         requires new { is_new sub }
         requires room { 0 < self.old.room }
         requires acks { 0 < sub.acks }
         requires absent { sub_named (subs_of self.old.subs) sub.sub.name ≡ None }
         ensures subs { subs_of self.new.subs ≡ subs_of self.old.subs ++ new_subscription sub.sub.name sub.sub.kind sub.sub.replicated (if latest then below len else []) ∷ [] }
+        ensures names { names_of (subs_of self.new.subs) ≡ names_of (subs_of self.old.subs) ++ sub.sub.name ∷ [] }
         ensures places { self.new.room + 1 ≡ self.old.room }
-        ensures room { (book_at self.new.subs (length self.old.subs)).room ≡ sub.room }
-        ensures acks { sub.acks ≤ (book_at self.new.subs (length self.old.subs)).acks + 1 }
+        ensures room { (room_at (rooms_of self.new.subs) (length self.old.subs)).room ≡ sub.room }
+        ensures acks { sub.acks ≤ (room_at (rooms_of self.new.subs) (length self.old.subs)).acks + 1 }
     {
         self.room -= 1;
         self.subs.push_reserved(created(sub, latest, len));
     }
 
     /// The subscription at a place is no more.
-    #[tactic(auto, using(crate::proofs::Places::removed_subs, crate::proofs::Places::names_removed))]
+    #[tactic(auto, using(crate::proofs::Places::removed_subs, crate::proofs::Places::names_removed, crate::proofs::Places::map_remove, crate::proofs::Places::names_are))]
     pub fn delete(&mut self, place: usize)
         requires { place < length self.old.subs }
-        ensures subs { subs_of self.new.subs ≡ filter (λ (s : Subscription). not (bytes_eq s.name (book_at self.old.subs place).sub.name)) (subs_of self.old.subs) }
+        ensures subs { subs_of self.new.subs ≡ filter (λ (s : Subscription). not (bytes_eq s.name (sub_at (subs_of self.old.subs) place).name)) (subs_of self.old.subs) }
+        ensures names { names_of (subs_of self.new.subs) ≡ remove (names_of (subs_of self.old.subs)) place }
         ensures places { self.new.room ≡ self.old.room }
     {
         self.subs.remove(place);
     }
 
     /// Does a durable write at a place, in the topic of a store.
-    #[tactic(auto, using(crate::proofs::Places::set_named, crate::proofs::Places::names_kept, crate::proofs::Places::written_name))]
+    #[tactic(auto, using(crate::proofs::Places::set_named, crate::proofs::Places::names_kept, crate::proofs::Places::written_name, crate::proofs::Places::sub_at_place, crate::proofs::Places::room_at_place, crate::proofs::Places::room_set, crate::proofs::Places::name_set))]
     pub fn write<S: EntryStore>(&mut self, place: usize, write: SubWrite, store: &S)
         requires place { place < length self.old.subs }
-        requires acks { acks_needed write ≤ (book_at self.old.subs place).acks }
-        requires fits { SubWriteFits (S.entries store.now) (book_at self.old.subs place).sub write }
-        ensures subs { subs_of self.new.subs ≡ at_name (book_at self.old.subs place).sub.name (sub_written (S.entries store.now) write) (subs_of self.old.subs) }
+        requires acks { acks_needed write ≤ (room_at (rooms_of self.old.subs) place).acks }
+        requires fits { SubWriteFits (S.entries store.now) (sub_at (subs_of self.old.subs) place) write }
+        ensures subs { subs_of self.new.subs ≡ at_name (sub_at (subs_of self.old.subs) place).name (sub_written (S.entries store.now) write) (subs_of self.old.subs) }
         ensures places { self.new.room ≡ self.old.room }
-        ensures room { (book_at self.new.subs place).room ≡ (book_at self.old.subs place).room }
-        ensures acks { acks_after (book_at self.old.subs place).acks write ≤ (book_at self.new.subs place).acks }
+        ensures room { (room_at (rooms_of self.new.subs) place).room ≡ (room_at (rooms_of self.old.subs) place).room }
+        ensures acks { acks_after (room_at (rooms_of self.old.subs) place).acks write ≤ (room_at (rooms_of self.new.subs) place).acks }
+        ensures names { names_of (subs_of self.new.subs) ≡ names_of (subs_of self.old.subs) }
     {
         self.subs[place].write(write, store);
     }
 
     /// Makes a change in memory at a place.
-    #[tactic(auto, using(crate::proofs::Places::set_named, crate::proofs::Places::names_kept, crate::proofs::Places::changed_name))]
+    #[tactic(auto, using(crate::proofs::Places::set_named, crate::proofs::Places::names_kept, crate::proofs::Places::changed_name, crate::proofs::Places::sub_at_place, crate::proofs::Places::room_at_place, crate::proofs::Places::room_set, crate::proofs::Places::name_set))]
     pub fn change(&mut self, place: usize, change: SubChange)
         requires place { place < length self.old.subs }
-        requires room { room_needed change ≤ (book_at self.old.subs place).room }
-        requires fits { SubChangeFits (book_at self.old.subs place).sub change }
-        ensures subs { subs_of self.new.subs ≡ at_name (book_at self.old.subs place).sub.name (sub_changed change) (subs_of self.old.subs) }
+        requires room { room_needed change ≤ (room_at (rooms_of self.old.subs) place).room }
+        requires fits { SubChangeFits (sub_at (subs_of self.old.subs) place) change }
+        ensures subs { subs_of self.new.subs ≡ at_name (sub_at (subs_of self.old.subs) place).name (sub_changed change) (subs_of self.old.subs) }
         ensures places { self.new.room ≡ self.old.room }
-        ensures room { (book_at self.old.subs place).room ≡ (book_at self.new.subs place).room + room_needed change }
+        ensures room { (room_at (rooms_of self.old.subs) place).room ≡ (room_at (rooms_of self.new.subs) place).room + room_needed change }
+        ensures names { names_of (subs_of self.new.subs) ≡ names_of (subs_of self.old.subs) }
     {
         self.subs[place].change(change);
     }
@@ -144,6 +149,7 @@ impl SubTable {
     #[tactic(auto, using(crate::proofs::Places::mapped_subs, crate::proofs::Places::mapped_rooms, crate::proofs::Places::detached_names))]
     pub fn leave(&mut self, client: u32)
         ensures subs { subs_of self.new.subs ≡ map (detached client) (subs_of self.old.subs) }
+        ensures names { names_of (subs_of self.new.subs) ≡ names_of (subs_of self.old.subs) }
         ensures places { self.new.room ≡ self.old.room }
         ensures rooms { rooms_of self.new.subs ≡ rooms_of self.old.subs }
     {
@@ -154,6 +160,7 @@ impl SubTable {
     #[tactic(auto, using(crate::proofs::Places::mapped_subs, crate::proofs::Places::mapped_rooms, crate::proofs::Places::cleared_names))]
     pub fn clear(&mut self)
         ensures subs { subs_of self.new.subs ≡ map cleared (subs_of self.old.subs) }
+        ensures names { names_of (subs_of self.new.subs) ≡ names_of (subs_of self.old.subs) }
         ensures places { self.new.room ≡ self.old.room }
         ensures rooms { rooms_of self.new.subs ≡ rooms_of self.old.subs }
     {

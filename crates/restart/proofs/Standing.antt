@@ -1,12 +1,11 @@
 -- A write does what the machine's write does that it stands for.
-use Rattle.std.proofs.Common.{◌≡◌, ◌∙◌, ℕ, suc, ◌+◌, ◌<◌, Bool, true, false, List, [], ◌∷◌, length, get_or, map, refl, sym, ap, arith}
+use Rattle.std.proofs.Common.{◌≡◌, ◌∙◌, ℕ, suc, ◌+◌, Bool, true, false, List, [], ◌∷◌, get_or, map, refl, sym, ap, arith}
 use Rattle.std.specs.Prelude.{if◌then◌else◌, slice_set}
 use Rattle.std.specs.List.{All}
 use Rattle.std.specs.Str.{bytes_eq}
 use Rattle.geo_base.specs.declared.write.Write as machine
-use Rattle.geo_base.specs.declared.write.Write.TheVariants as write
 use Rattle.geo_base.specs.Broker.{Broker, sender_at, written}
-use Rattle.geo_base.specs.Cursor.{below, with_index, with_indexes}
+use Rattle.geo_base.specs.Cursor.{below, with_indexes}
 use Rattle.geo_base.specs.Subscription.{Subscription, sought, with_acks}
 use Rattle.restart.specs.declared.write.Write.{Write}
 use Rattle.restart.specs.declared.write.Write.TheVariants as whole

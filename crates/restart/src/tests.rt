@@ -234,12 +234,34 @@ fn add_recovered(alloc: Global, text: &mut String, durable: &Durable) -> Result<
     Ok(())
 }
 
+/// A copy of what is durable, part by part.
+fn copied(alloc: Global, durable: Durable) -> Result<Durable, Memory> {
+    let mut subs = DurableSubs::new(alloc);
+    for sub in durable.subs.into_vec() {
+        if subs.named(&sub.name).is_none() {
+            subs.add(sub.copy(alloc)?)?;
+        }
+    }
+    let mut senders = Vec::new(alloc);
+    for sender in durable.senders.into_vec() {
+        senders.reserve(1)?;
+        senders.push_reserved(sender.copy(alloc)?);
+    }
+    Ok(Durable {
+        own: durable.own,
+        store: durable.store,
+        subs,
+        senders: DurableSenders::from_vec(senders),
+    })
+}
+
 /// What some writes leave.
 fn said(alloc: Global, writes: &[Told]) -> Result<String, Fail> {
     let mut durable = Durable::new(alloc, 1, 3, 2)?;
     for told in writes {
         apply_write(alloc, &mut durable, write(alloc, told)?)?;
     }
+    let durable = copied(alloc, durable)?;
     let mut text = String::new(alloc);
     add_durable(&mut text, &durable)?;
     add_recovered(alloc, &mut text, &durable)?;

@@ -1,0 +1,6 @@
+pub mod Senders
+pub mod Writes
+pub mod Prepared
+pub mod Room
+pub mod Fits
+pub mod Book
