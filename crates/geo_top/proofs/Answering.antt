@@ -3,28 +3,23 @@ use Rattle.std.proofs.lemmas.Bool.{lt-ltb}
 use Rattle.std.proofs.lemmas.Bool.Decides.{nat_tests}
 use Rattle.std.proofs.Common.{◌≡◌, ℕ, ◌≤◌, arith, Bool, true, false, List, [], refl, sym, ap, subst, ◌∙◌, inl, inr}
 use Rattle.std.proofs.lemmas.List.{append-nil}
-use Rattle.std.specs.Prelude.{Option, Some, None, IfOk, IfSome, Result, Ok, Err, IsOkAnd, if◌then◌else◌, length, nat_lt, take, ⊤}
+use Rattle.std.specs.Prelude.{Option, Some, None, IfOk, OnOk, OnErr, IfSome, Result, Ok, Err, IsOkAnd, if◌then◌else◌, length, nat_lt, take, ⊤}
 use Rattle.geo_base.specs.declared.memory.Memory.{Memory}
-use Rattle.geo_base.specs.Safe.{AllOnce}
 use Rattle.geo_io.specs.Faults.{Rose}
 use Rattle.geo_io.specs.Sink.{Gains}
 use Rattle.geo_io.specs.Source.{LongerThan}
 use Rattle.script.specs.Rules.{script_of}
 use Rattle.script.specs.Script.{Fault, Script}
-use Rattle.world_laws.proofs.Once.{once_always}
-use Rattle.world_laws.proofs.Runs.{always_in}
 use Rattle.geo_top.specs.declared.top.answer.Answer.{Answer}
 use Rattle.geo_top.specs.declared.top.command.Command.{Command}
 use Rattle.geo_top.specs.declared.top.command.Command.TheVariants as command
 use Rattle.geo_top.specs.declared.top.status.Status.{Status}
 use Rattle.geo_top.specs.declared.top.status.Status.TheVariants as status
-use Rattle.geo_top.specs.Outputs.{IsAlwaysOnce, IsCaused, IsFounded, IsLine, UnlessReadFault, WentOut, WritesLine, answer_for, answer_to, answer_to_run, passed_limit, refused, report_of}
+use Rattle.geo_top.specs.Headline.{IsAlwaysOnce, IsAlwaysSafe}
+use Rattle.geo_top.specs.Outputs.{DeclaresSetup, IsCaused, IsFounded, IsLine, UnlessReadFault, WentOut, WritesLine, answer_for, answer_to, answer_to_run, passed_limit, refused, report_of}
 use Rattle.geo_top.specs.Statuses.{IsDue}
+use Rattle.geo_top.proofs.Headline.{always_once, always_safe}
 use Rattle.geo_top.proofs.Limits.{IsOnlyLimit, only_limit}
-
--- once and in order, always
-pub always_once : (n : Script) → IsAlwaysOnce n
-always_once n = always_in n.setup n.steps (λ w settled. AllOnce w) (once_always n.setup)
 
 -- an answer to a script that is Ok, or names a line
 ok_run : (m : Script) (a : Answer) (o : Option ℕ) → a ≡ answer_to_run m o → a.status ≡ status.Ok → a.bytes ≡ report_of m
@@ -88,6 +83,15 @@ pub ok_once : (c : Option Command) (b n : ℕ) (left : Option (List ℕ)) (a : A
     → IfSome left (λ input. IsOkAnd (script_of input) IsAlwaysOnce)
 ok_once c b n None a f ok = tt
 ok_once c b n (Some input) a f ok = with_once (script_of input) a.bytes (ok_script c b n (Some input) a f ok)
+
+with_safe : (r : Result Script Fault) (bytes : List ℕ) → IsOkAnd r (λ m. bytes ≡ report_of m) → DeclaresSetup r → IsOkAnd r IsAlwaysSafe
+with_safe (Ok m) bytes is known = always_safe m known
+with_safe (Err f) bytes is known = is
+
+pub ok_safe : (c : Option Command) (b n : ℕ) (left : Option (List ℕ)) (a : Answer) → IsFounded c b n left a → a.status ≡ status.Ok
+    → IfSome left (λ input. IsOkAnd (script_of input) IsAlwaysSafe)
+ok_safe c b n None a f ok = tt
+ok_safe c b n (Some input) a f ok = with_safe (script_of input) a.bytes (ok_script c b n (Some input) a f ok) (f.scripted ok)
 
 -- the causes of refusals
 pub caused : (c : Option Command) (b n : ℕ) (left : Option (List ℕ)) (a : Answer) (s : Status) → IsFounded c b n left a → a.status ≡ s → IsCaused c b n left s
@@ -196,7 +200,7 @@ line_out c b n left old new a f g = line_of c b n left a.status a.bytes old new 
 
 -- how an answer is founded
 pub founded_usage : (b n : ℕ) (left : Option (List ℕ)) (a : Answer) → a ≡ refused status.Usage → IsFounded None b n left a
-founded_usage b n left a is = subst (λ (a : Answer). IsFounded None b n left a) (sym is) (record { cause = refl; line = refl; due = told left })
+founded_usage b n left a is = subst (λ (a : Answer). IsFounded None b n left a) (sym is) (record { cause = refl; line = refl; due = told left; scripted = λ ok. absurd (cc ok) })
   where
     told : (left : Option (List ℕ)) → IfSome left (λ input. refused status.Usage ≡ answer_for None input)
     told None = tt
@@ -204,7 +208,7 @@ founded_usage b n left a is = subst (λ (a : Answer). IsFounded None b n left a)
 
 pub founded_read : (b n : ℕ) (left : Option (List ℕ)) (a : Answer) → a ≡ refused status.ReadFault → Rose b n → IsFounded (Some command.Run) b n left a
 founded_read b n left a is rose =
-    subst (λ (a : Answer). IsFounded (Some command.Run) b n left a) (sym is) (record { cause = (refl, rose); line = refl; due = told left })
+    subst (λ (a : Answer). IsFounded (Some command.Run) b n left a) (sym is) (record { cause = (refl, rose); line = refl; due = told left; scripted = λ ok. absurd (cc ok) })
   where
     told : (left : Option (List ℕ)) → IfSome left (λ input. ⊤)
     told None = tt
@@ -212,7 +216,7 @@ founded_read b n left a is rose =
 
 pub founded_large : (b n : ℕ) (left : Option (List ℕ)) (a : Answer) → a ≡ refused (status.TooLarge 1) → LongerThan left 67108864 → IsFounded (Some command.Run) b n left a
 founded_large b n left a is long =
-    subst (λ (a : Answer). IsFounded (Some command.Run) b n left a) (sym is) (record { cause = (refl, inl (refl, long)); line = refl; due = told left long })
+    subst (λ (a : Answer). IsFounded (Some command.Run) b n left a) (sym is) (record { cause = (refl, inl (refl, long)); line = refl; due = told left long; scripted = λ ok. absurd (cc ok) })
   where
     told : (left : Option (List ℕ)) → LongerThan left 67108864 → IfSome left (λ input. refused (status.TooLarge 1) ≡ answer_for (Some command.Run) input)
     told None long = tt
@@ -252,14 +256,19 @@ due_answer (Ok m) d is = due_run m (passed_limit m) d is
 due_answer (Err f) d is = is
 
 pub founded_script : (b n : ℕ) (left : Option (List ℕ)) (bytes : List ℕ) (a : Answer) → a ≡ answer_to (script_of bytes) → length bytes ≤ 67108864
-    → IfSome left (λ input. bytes ≡ input) → IsFounded (Some command.Run) b n left a
-founded_script b n left bytes a is short told =
+    → IfSome left (λ input. bytes ≡ input) → DeclaresSetup (script_of bytes) → IsFounded (Some command.Run) b n left a
+founded_script b n left bytes a is short told known =
     subst (λ (a : Answer). IsFounded (Some command.Run) b n left a) (sym is) (record {
       cause = caused_answer b n left bytes (script_of bytes) told refl;
       line = line_answer (script_of bytes);
       due = due_of left told;
+      scripted = λ ok. scripted_of left told;
     })
   where
+    scripted_of : (left : Option (List ℕ)) → IfSome left (λ input. bytes ≡ input) → IfSome left (λ input. DeclaresSetup (script_of input))
+    scripted_of None told = tt
+    scripted_of (Some input) told = subst (λ (input : List ℕ). DeclaresSetup (script_of input)) told known
+
     due_of : (left : Option (List ℕ)) → IfSome left (λ input. bytes ≡ input)
         → IfSome left (λ input. UnlessReadFault (answer_to (script_of bytes)).status (answer_to (script_of bytes) ≡ answer_for (Some command.Run) input))
     due_of None told = tt
@@ -271,10 +280,15 @@ founded_script b n left bytes a is short told =
         (due_answer (script_of bytes) (answer_for (Some command.Run) bytes) same)
 
 pub answered_script : (b n : ℕ) (left : Option (List ℕ)) (bytes : List ℕ) (r : Result Answer Memory) → IfOk r (λ a. a ≡ answer_to (script_of bytes)) → length bytes ≤ 67108864
-    → IfSome left (λ input. bytes ≡ input) → IfOk r (λ a. IsFounded (Some command.Run) b n left a)
-answered_script b n left bytes (Ok a) is short told = founded_script b n left bytes a is short told
-answered_script b n left bytes (Err e) is short told = tt
+    → IfSome left (λ input. bytes ≡ input) → OnOk r (DeclaresSetup (script_of bytes)) → IfOk r (λ a. IsFounded (Some command.Run) b n left a)
+answered_script b n left bytes (Ok a) is short told known = founded_script b n left bytes a is short told known
+answered_script b n left bytes (Err e) is short told known = tt
 
 -- no answer is want of memory
 pub never_memory : {P : Type 0} (c : Option Command) (b n : ℕ) (left : Option (List ℕ)) (a : Answer) → IsFounded c b n left a → a.status ≡ status.OutOfMemory → P
 never_memory c b n left a f memory = absurd (subst (λ (s : Status). IsCaused c b n left s) memory f.cause)
+
+-- what holds anyway holds at an error
+pub at_an_error : {T E P : Type 0} (r : Result T E) → P → OnErr r P
+at_an_error (Ok t) p = tt
+at_an_error (Err e) p = p

@@ -1,4 +1,5 @@
 pub mod Limits
 pub mod Lines
 pub mod Reporting
-pub mod Answering
+pub mod Headline
+mod Answering

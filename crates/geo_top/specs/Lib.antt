@@ -1,3 +1,4 @@
 pub mod Commands
 pub mod Statuses
+pub mod Headline
 pub mod Outputs

@@ -1,9 +1,8 @@
 -- What the program is to write.
-use Rattle.std.specs.Prelude.{◌≡◌, ◌⊎◌, ℕ, nat_lt, ⊤, if◌then◌else◌, List, [], length, take, Option, Some, None, IfSome, IsOkAnd, Result, Ok, Err}
-use Rattle.geo_base.specs.Laws.{AlwaysIn}
+use Rattle.std.specs.Prelude.{◌≡◌, ◌⊎◌, ℕ, nat_lt, ⊤, if◌then◌else◌, List, [], length, take, Option, Some, None, IfOk, IfSome, IsOkAnd, Result, Ok, Err}
 use Rattle.geo_base.specs.Report.{report}
 use Rattle.geo_base.specs.Run.{event_limit, run, run_under}
-use Rattle.geo_base.specs.Safe.{AllOnce}
+use Rattle.geo_base.specs.Scripted.{IsScripted}
 use Rattle.geo_io.specs.Faults.{Rose}
 use Rattle.geo_io.specs.Sink.{Gains}
 use Rattle.geo_io.specs.Source.{LongerThan}
@@ -60,11 +59,6 @@ WritesLine status.Ok old new = ⊤
 WritesLine status.WriteFault old new = ⊤
 WritesLine s old new = Gains old new (refusal_line s)
 
--- once and in order in the topic of every broker, always in the run of a script, also inside settling and after each single
--- durable write
-abbrev pub IsAlwaysOnce : Script → Type 0
-IsAlwaysOnce n = AlwaysIn n.setup n.steps (λ w settled. AllOnce w)
-
 -- A limit that a run of the program passes: 1, more bytes than are read; 2, more events than are done.
 abbrev pub IsPassed : Option (List ℕ) → ℕ → Type 0
 IsPassed left limit = ((limit ≡ 1) × LongerThan left 67108864) ⊎ ((limit ≡ 2) × IfSome left (λ input. IsOkAnd (script_of input) (λ n. passed_limit n ≡ Some 2)))
@@ -88,8 +82,13 @@ abbrev pub UnlessReadFault : Status → Type 0 → Type 0
 UnlessReadFault status.ReadFault P = ⊤
 UnlessReadFault s P = P
 
+-- where an input is a script, its setup is one that a script can declare
+abbrev pub DeclaresSetup : Result Script Fault → Type 0
+DeclaresSetup r = IfOk r (λ n. IsScripted n.setup)
+
 -- whatever the source held
 pub record IsFounded (c : Option Command) (before now : ℕ) (left : Option (List ℕ)) (a : Answer) : Type 0 where
   pub cause : IsCaused c before now left a.status
   pub line : IsLine a.status a.bytes
   pub due : IfSome left (λ input. UnlessReadFault a.status (a ≡ answer_for c input))
+  pub scripted : a.status ≡ status.Ok → IfSome left (λ input. DeclaresSetup (script_of input))

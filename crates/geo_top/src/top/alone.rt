@@ -5,7 +5,8 @@ ghost use Rattle.geo_base.specs.Run.{run};
 ghost use Rattle.geo_io.specs.Faults.{Rose, Stood};
 ghost use Rattle.geo_io.specs.Sink.{Gains};
 ghost use Rattle.geo_top.specs.Commands.{command_of};
-ghost use Rattle.geo_top.specs.Outputs.{IsAlwaysOnce, IsPassed, WentOut, WritesLine, answer_for};
+ghost use Rattle.geo_top.specs.Headline.{IsAlwaysOnce, IsAlwaysSafe};
+ghost use Rattle.geo_top.specs.Outputs.{IsPassed, WentOut, WritesLine, answer_for};
 ghost use Rattle.geo_top.specs.Statuses.{IsDue};
 ghost use Rattle.geo_top.specs.declared.top.command.Command.TheVariants as command;
 ghost use Rattle.script.specs.Rules.{script_of};
@@ -22,7 +23,7 @@ use std::alloc::Global;
 /// The whole output is made before its first byte is written. The first of these refusals wins: words that are no command; a
 /// fault of the source, or more than 67,108,864 bytes; a line of the script that breaks a rule; more than 2,000,000 events and
 /// idle events; a fault of the sink.
-#[tactic(auto, using(crate::proofs::Answering::ok_report, crate::proofs::Answering::ok_once, crate::proofs::Answering::caused, crate::proofs::Answering::bad_script, crate::proofs::Answering::no_command, crate::proofs::Answering::due, crate::proofs::Answering::whole_out, crate::proofs::Answering::part_out, crate::proofs::Answering::nothing_out, crate::proofs::Answering::nothing_gained, crate::proofs::Answering::free_due, crate::proofs::Answering::written_due, crate::proofs::Answering::line_out, crate::proofs::Answering::never_memory))]
+#[tactic(auto, using(crate::proofs::Answering::ok_report, crate::proofs::Answering::ok_once, crate::proofs::Answering::ok_safe, crate::proofs::Answering::caused, crate::proofs::Answering::bad_script, crate::proofs::Answering::no_command, crate::proofs::Answering::due, crate::proofs::Answering::whole_out, crate::proofs::Answering::part_out, crate::proofs::Answering::nothing_out, crate::proofs::Answering::nothing_gained, crate::proofs::Answering::free_due, crate::proofs::Answering::written_due, crate::proofs::Answering::line_out, crate::proofs::Answering::never_memory))]
 pub fn geo_alone<S: Source, K: Sink>(
     alloc: Global,
     words: &[Word],
@@ -33,8 +34,13 @@ pub fn geo_alone<S: Source, K: Sink>(
     ensures report { result ≡ Status.Ok → IfSome (S.left source.old) (λ input. IsOkAnd (script_of input) (λ n.
         Gains (K.held sink.old) (K.held sink.new) (report n.setup (run n.setup n.steps)))) }
 
-    // and at every moment of that run each topic has its messages once and in order.
+    // and at every moment of that run, between its events, inside settling and after each single durable write: each topic has
+    // its messages once, per producer in order,
     ensures once { result ≡ Status.Ok → IfSome (S.left source.old) (λ input. IsOkAnd (script_of input) IsAlwaysOnce) }
+
+    // and whatever a subscription has acknowledged is settled, so that every message stored anywhere is settled on each
+    // subscription there or stands in its backlog.
+    ensures safe { result ≡ Status.Ok → IfSome (S.left source.old) (λ input. IsOkAnd (script_of input) IsAlwaysSafe) }
 
     // Each refusal comes only for its cause.
     ensures usage { result ≡ Status.Usage → command_of words.now ≡ None }

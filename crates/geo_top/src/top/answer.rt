@@ -1,10 +1,10 @@
 //! What the program is to write, made whole before its first byte goes out.
-ghost use Rattle.std.specs.Prelude.{◌≡◌, ◌≤◌, Some, IfOk, OnErr, string_bytes, length};
+ghost use Rattle.std.specs.Prelude.{◌≡◌, ◌≤◌, Some, IfOk, OnOk, OnErr, string_bytes, length};
 ghost use Rattle.geo_base.specs.Report.{report};
 ghost use Rattle.geo_base.specs.Worlds.{IsWorldOf};
 ghost use Rattle.geo_io.specs.Faults.{Stood};
 ghost use Rattle.geo_top.specs.Commands.{command_of};
-ghost use Rattle.geo_top.specs.Outputs.{IsFounded, answer_to, answer_to_run, passed_limit, refused};
+ghost use Rattle.geo_top.specs.Outputs.{DeclaresSetup, IsFounded, answer_to, answer_to_run, passed_limit, refused};
 ghost use Rattle.geo_top.specs.Statuses.{refusal_line};
 ghost use Rattle.geo_top.specs.declared.top.command.Command.TheVariants as command;
 ghost use Rattle.script.specs.Rules.{script_of};
@@ -65,7 +65,8 @@ fn answer_to_script<S: Source>(alloc: Global, source: &mut S) -> Result<Answer, 
 /// The answer to the bytes of a script.
 fn answer_to_bytes(alloc: Global, bytes: &[u8]) -> Result<Answer, Memory>
     requires { length bytes.now ≤ INPUT_BYTES }
-    ensures { IfOk result (λ a. a ≡ answer_to (script_of bytes.now)) }
+    ensures answer { IfOk result (λ a. a ≡ answer_to (script_of bytes.now)) }
+    ensures known { OnOk result (DeclaresSetup (script_of bytes.now)) }
 {
     match read_script(alloc, bytes) {
         Ok(scenario) => answer_to_scenario(alloc, &scenario),
