@@ -1,0 +1,91 @@
+//! Names, numbered from 0 in their order, and found by a table.
+ghost use Rattle.std.specs.Prelude.{◌≡◌, ◌<◌, ◌^◌, [], ◌∷◌, ◌++◌, false, length, OnErr, OnOk};
+ghost use Rattle.script_names.specs.Names.{is_among, name_at, number_in, words};
+
+use geo_base::Memory;
+use indexmap::IndexSet;
+use std::alloc::Global;
+use std::marker::Model;
+
+/// Names that stand in a text. Contracts see them as a list; a name is found without a walk.
+#[derive(Debug, Drop)]
+pub struct NameTable<'a> {
+    names: IndexSet<&'a [u8]>,
+}
+
+impl<'a> Model for NameTable<'a> {
+    ghost use Rattle.std.specs.Prelude.{List, ℕ, length, ◌<◌, ◌^◌};
+    ghost use Rattle.script_names.specs.Names.{words};
+
+    ghost Value = { List (List ℕ) };
+
+    ghost view = { λ t. words t.names.keys };
+
+    ghost invariant = { λ t. length t.names.keys < 2 ^ 32 };
+}
+
+impl<'a> NameTable<'a> {
+    /// No name; takes no memory.
+    pub fn new(alloc: Global) -> NameTable<'a>
+        ensures { result ≡ [] }
+    {
+        NameTable {
+            names: IndexSet::new(alloc),
+        }
+    }
+
+    /// How many names there are.
+    #[tactic(auto, using(crate::proofs::Names::same_length))]
+    pub fn len(&self) -> usize
+        ensures count { result ≡ length self.now }
+        ensures small { length self.now < 2 ^ 32 }
+    {
+        self.names.len()
+    }
+
+    /// The name of a number; empty where there is none.
+    #[tactic(auto, using(crate::proofs::Names::name_found, crate::proofs::Names::name_missing))]
+    pub fn name(&self, number: usize) -> &'a [u8]
+        ensures { result.now ≡ name_at self.now number }
+    {
+        match self.names.get_index(number) {
+            Some(name) => *name,
+            None => &[],
+        }
+    }
+
+    /// The number of a name; how many there are where it is none of them.
+    #[tactic(auto, using(crate::proofs::Names::number_found, crate::proofs::Names::number_missing))]
+    pub fn number(&self, word: &[u8]) -> u32
+        ensures { result ≡ number_in self.now word.now }
+    {
+        match self.names.get_index_of(word) {
+            Some(place) => place as u32,
+            None => self.names.len() as u32,
+        }
+    }
+
+    /// Whether a name is one of them.
+    #[tactic(auto, using(crate::proofs::Names::among))]
+    pub fn contains(&self, word: &[u8]) -> bool
+        ensures { result ≡ is_among self.now word.now }
+    {
+        self.names.contains(word)
+    }
+
+    /// One more name; unchanged where memory is wanting, or a number for it.
+    #[tactic(auto, using(crate::proofs::Names::pushed))]
+    pub fn push(&mut self, name: &'a [u8]) -> Result<(), Memory>
+        requires { is_among self.old name.now ≡ false }
+        ensures ok { OnOk result (self.new ≡ self.old ++ name.now ∷ []) }
+        ensures err { OnErr result (self.new ≡ self.old) }
+    {
+        if self.names.len() >= u32::MAX as usize {
+            return Err(Memory);
+        }
+        match self.names.insert(name) {
+            Ok(_) => Ok(()),
+            Err(_) => Err(Memory),
+        }
+    }
+}
