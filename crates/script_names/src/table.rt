@@ -1,5 +1,5 @@
 //! Names, numbered from 0 in their order, and found by a table.
-ghost use Rattle.std.specs.Prelude.{◌≡◌, ◌+◌, ◌<◌, ◌^◌, [], ◌∷◌, ◌++◌, false, length, OnErr, OnOk};
+ghost use Rattle.std.specs.Prelude.{◌≡◌, ◌<◌, ◌^◌, [], ◌∷◌, ◌++◌, false, length, OnErr, OnOk};
 ghost use Rattle.script_names.specs.Names.{is_among, name_at, number_in, words};
 
 use geo_base::Memory;
@@ -73,14 +73,16 @@ impl<'a> NameTable<'a> {
         self.names.contains(word)
     }
 
-    /// One more name; unchanged where memory is wanting.
+    /// One more name; unchanged where memory is wanting, or a number for it.
     #[tactic(auto, using(crate::proofs::Names::pushed))]
     pub fn push(&mut self, name: &'a [u8]) -> Result<(), Memory>
-        requires new { is_among self.old name.now ≡ false }
-        requires room { length self.old + 1 < 2 ^ 32 }
+        requires { is_among self.old name.now ≡ false }
         ensures ok { OnOk result (self.new ≡ self.old ++ name.now ∷ []) }
         ensures err { OnErr result (self.new ≡ self.old) }
     {
+        if self.names.len() >= u32::MAX as usize {
+            return Err(Memory);
+        }
         match self.names.insert(name) {
             Ok(_) => Ok(()),
             Err(_) => Err(Memory),

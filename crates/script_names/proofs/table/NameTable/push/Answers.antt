@@ -8,7 +8,7 @@ pub returns-clause-ok : goal.returns-clause-ok
 returns-clause-ok c =
     elim c.match-insert.branch [
       | in-Ok w ↦
-          let new : is_among (words c.self.inside.names.keys) c.args.name.now ≡ false = subst (λ (v : List (List ℕ)). is_among v c.args.name.now ≡ false) (sym c.self.view_is) c.requires.new in
+          let new : is_among (words c.self.inside.names.keys) c.args.name.now ≡ false = subst (λ (v : List (List ℕ)). is_among v c.args.name.now ≡ false) (sym c.self.view_is) c.requires in
           let made : words c.insert.new.self.keys ≡ words c.self.inside.names.keys ++ c.args.name.now ∷ [] = ap words w.in-Ok.ensures.keys ∙ pushed c.args.name c.self.inside.names.keys new in
           rw w.result-is (subst (λ (v : List (List ℕ)). words c.insert.new.self.keys ≡ v ++ c.args.name.now ∷ []) c.self.view_is made)
       | in-Err w ↦ rw w.result-is tt

@@ -1,0 +1,17 @@
+pub mod Back
+pub mod Choices
+pub mod Chosen
+pub mod Fits
+pub mod Gathered
+pub mod Heads
+pub mod Lines
+pub mod Parts
+pub mod Places
+pub mod Plain
+pub mod Ranges
+pub mod Reading
+pub mod RowValues
+pub mod Spaced
+pub mod Subs
+pub mod Targets
+pub mod Writable

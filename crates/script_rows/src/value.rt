@@ -1,0 +1,55 @@
+//! What words say in their columns.
+ghost use Rattle.std.specs.Prelude.{◌≡◌};
+
+use geo_base::{Position, Targets};
+use script_names::NameWord;
+use std::marker::Model;
+
+/// A text of a line.
+#[derive(Debug, Drop)]
+pub struct TextWord<'a> {
+    text: &'a [u8],
+}
+
+impl<'a> Model for TextWord<'a> {
+    ghost use Rattle.std.specs.Prelude.{List, ℕ};
+
+    ghost Value = { List ℕ };
+
+    ghost view = { λ t. t.text.now };
+}
+
+impl<'a> TextWord<'a> {
+    /// A text of these bytes.
+    pub(crate) fn new(text: &'a [u8]) -> TextWord<'a>
+        ensures { result ≡ text.now }
+    {
+        TextWord { text }
+    }
+
+    /// Its bytes.
+    pub fn as_bytes(&self) -> &'a [u8]
+        ensures { result.now ≡ self.now }
+    {
+        self.text
+    }
+}
+
+/// What a word says in its column.
+#[derive(Debug, Drop)]
+pub enum Value<'a> {
+    /// the number of something declared, a choice, or a number
+    Item(u32),
+    /// a sequence id
+    Seq(u64),
+    /// a position, or the end
+    Place(Option<Position>),
+    /// the clusters that a list names
+    Targets(Targets),
+    /// a key
+    Key(Option<NameWord<'a>>),
+    /// a name itself
+    Name(NameWord<'a>),
+    /// a text
+    Text(TextWord<'a>),
+}
