@@ -23,7 +23,7 @@ created_first (book_write.SenderAck y i) xs ys = refl
 created_first (book_write.SessionNumber y session) xs ys = refl
 created_first book_write.Ledger xs ys = refl
 
-same_name : (o : Option Subscription) (w : BookWrite) (xs ys : List BookWrite) → name_or o (w ∷ xs) ≡ name_or o (w ∷ ys)
+pub same_name : (o : Option Subscription) (w : BookWrite) (xs ys : List BookWrite) → name_or o (w ∷ xs) ≡ name_or o (w ∷ ys)
 same_name None w xs ys = created_first w xs ys
 same_name (Some s) w xs ys = refl
 

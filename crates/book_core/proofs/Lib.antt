@@ -5,3 +5,4 @@ pub mod Steps
 pub mod Halts
 pub mod InTurn
 pub mod Backlogs
+pub mod Indexes

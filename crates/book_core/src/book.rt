@@ -1,8 +1,8 @@
 //! A broker's state.
-ghost use Rattle.std.specs.Prelude.{◌≡◌, ◌<◌, length, replicate, IfOk};
+ghost use Rattle.std.specs.Prelude.{◌≡◌, ◌<◌, length, replicate, IfOk, IfSome};
 ghost use Rattle.std.specs.Option.{option_copied};
 ghost use Rattle.geo_base.specs.Broker.{new_broker, receiver_at, sender_at, session_at};
-ghost use Rattle.geo_base.specs.Topic.{accepts};
+ghost use Rattle.geo_base.specs.Topic.{accepts, index_of};
 ghost use Rattle.book_subs.specs.SubBook.{subs_of};
 ghost use Rattle.book_subs.specs.Table.{rooms_of};
 ghost use Rattle.book_core.specs.Book.{BrokerBook, marker_number, no_room};
@@ -11,7 +11,9 @@ use crate::sender_row::SenderRow;
 use crate::senders::SenderTable;
 use book_subs::SubTable;
 use dedup_table::{DedupTable, Stream, Verdict};
+use geo_base::entry_store::EntryStore;
 use geo_base::memory::Memory;
+use geo_base::position::Position;
 use geo_base::session::Session;
 use replicator::Receiver;
 use snapshot_builder::Builder;
@@ -91,6 +93,19 @@ impl Book {
         ensures per_ledger { result.now.per_ledger ≡ self.now.per_ledger }
     {
         &self.store
+    }
+
+    /// The index that a position counts to; `None` exactly where nothing stands there.
+    #[tactic(auto, using(crate::proofs::Indexes::index_within))]
+    pub fn index_of(&self, position: Position) -> Option<u64>
+        ensures index { result ≡ index_of self.now.broker.ledgers position }
+        ensures within { IfSome result (λ i. i < length self.now.broker.entries) }
+    {
+        let _len = self.store.len();
+        match self.store.index_of(position) {
+            None => None,
+            Some(index) => Some(index as u64),
+        }
     }
 
     /// Whether the topic would store a sequence id of a stream.

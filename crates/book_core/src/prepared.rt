@@ -1,5 +1,5 @@
 //! What an event will do at a broker.
-ghost use Rattle.std.specs.Prelude.{◌≡◌, ℕ, ◌++◌, ◌∷◌, [], IfOk, OnOk};
+ghost use Rattle.std.specs.Prelude.{◌≡◌, ℕ, ◌++◌, ◌∷◌, [], IfOk, OnOk, length};
 ghost use Rattle.geo_base.specs.Broker.{Broker};
 ghost use Rattle.geo_base.specs.Plan.{done, halted};
 ghost use Rattle.book_core.specs.Prepared.{PreparedBook, again_book, halted_book, idle_book, plan_in, quiet_book};
@@ -102,6 +102,13 @@ impl Prepared {
         ensures { result ≡ self.now.idle }
     {
         self.idle
+    }
+
+    /// How many durable writes it does.
+    pub fn write_count(&self) -> usize
+        ensures { result ≡ length self.now.writes }
+    {
+        self.writes.len()
     }
 
     /// The packets to send.

@@ -18,6 +18,7 @@ use Rattle.geo_base.specs.Moments.{Moment, world_between}
 use Rattle.geo_base.specs.Name.{is_name}
 use Rattle.geo_base.specs.Run.{Limits, Ran, no_limits, steps}
 use Rattle.geo_base.specs.Setup.{Setup, declared_at, sub_name, topic_name}
+use Rattle.geo_base.specs.Subscribing.{most_subs}
 use Rattle.geo_base.specs.Subscription.{Subscription, has_consumer, is_attached}
 use Rattle.geo_base.specs.Topic.{index_of}
 use Rattle.geo_base.specs.World.{ToBroker, World, link_at, opening_world, topic_at}
@@ -70,10 +71,10 @@ acked_on n b kind ps None = []
 acked_on n b kind ps (Some v) = if bytes_eq v.name n then named_by_ack b.ledgers v.kind kind ps else []
 
 -- a SUBSCRIBE of client c creates the subscription m: it is of this topic, m is a name and is not here yet, the topic has fewer
--- than 32 subscriptions (own: what a topic takes), and the client has no consumer here (own: it has one at most)
+-- than the most subscriptions, and the client has no consumer here (own: it has one at most)
 abbrev pub is_created : Broker → List ℕ → ℕ → List ℕ → List ℕ → Bool
 is_created b topic c to m =
-    bytes_eq to topic && is_name m && is_none (sub_named b.subs m) && nat_lt (length b.subs) 32 && not (list_any (is_attached c) b.subs)
+    bytes_eq to topic && is_name m && is_none (sub_named b.subs m) && nat_lt (length b.subs) most_subs && not (list_any (is_attached c) b.subs)
 
 -- by a command of client c in its open session, on subscription n
 abbrev pub settled_by_command : List ℕ → Broker → List ℕ → ℕ → Frame → List ℕ

@@ -6,6 +6,7 @@ ghost use Rattle.geo_base.specs.Going.{most_acks, most_unanswered};
 ghost use Rattle.geo_base.specs.Name.{most_name_bytes};
 ghost use Rattle.geo_base.specs.Producing.{most_producer_name};
 ghost use Rattle.geo_base.specs.Run.{most_events, most_sent_bytes};
+ghost use Rattle.geo_base.specs.Scripted.{most_clients, most_clusters, most_flow, most_per_ledger, most_text_bytes, most_topics};
 ghost use Rattle.geo_base.specs.Sizes.{most_entry_size};
 ghost use Rattle.geo_base.specs.Subscribing.{most_subs};
 ghost use Rattle.geo_base.specs.Subscription.{most_permits};
@@ -43,6 +44,12 @@ pub const ENTRY_BYTES: u64 = 5_242_880;
 /// Bytes of a frame after its first four: Pulsar's largest message and 10 KiB for what frames it.
 pub const FRAME_BYTES: u64 = 5_253_120;
 
+/// Permits of one `flow` line of a script (own).
+pub const FLOW_PERMITS: u64 = 1_000_000;
+
+/// Entries of a ledger that a script may name: twenty times Pulsar's default (own).
+pub const MOST_LEDGER_ENTRIES: u64 = 1_000_000;
+
 /// Entries of a ledger where a script does not say otherwise: Pulsar's default.
 pub const LEDGER_ENTRIES: u64 = 50_000;
 
@@ -65,7 +72,13 @@ pub const SENT_BYTES: u64 = 1_073_741_824;
 pub fn machine_numbers()
     ensures name { NAME_BYTES ≡ most_name_bytes }
     ensures producer_name { PRODUCER_NAME_BYTES ≡ most_producer_name }
+    ensures clusters { CLUSTERS ≡ most_clusters }
+    ensures topics { TOPICS ≡ most_topics }
+    ensures clients { CLIENTS ≡ most_clients }
     ensures subscriptions { SUBSCRIPTIONS ≡ most_subs }
+    ensures text { TEXT_BYTES ≡ most_text_bytes }
+    ensures flow { FLOW_PERMITS ≡ most_flow }
+    ensures ledger { MOST_LEDGER_ENTRIES ≡ most_per_ledger }
     ensures unanswered { UNANSWERED ≡ most_unanswered }
     ensures acked { ACKED_AT_ONCE ≡ most_acks }
     ensures entry { ENTRY_BYTES ≡ most_entry_size }

@@ -1,5 +1,5 @@
 //! Want of memory.
-use std::alloc::AllocError;
+use std::alloc::{AllocError, AllocFailed};
 use thiserror::Error;
 
 /// A growth of memory was refused; what the call says of its receiver then holds.
@@ -9,6 +9,12 @@ pub struct Memory;
 
 impl From<AllocError> for Memory {
     fn from(_error: AllocError) -> Memory {
+        Memory
+    }
+}
+
+impl<T: Drop> From<AllocFailed<T>> for Memory {
+    fn from(_failed: AllocFailed<T>) -> Memory {
         Memory
     }
 }

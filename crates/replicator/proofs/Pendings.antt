@@ -36,6 +36,19 @@ pub pending_gap : (ps : List Pending) (n at : ℕ) → IsAscending number_of ps 
 pending_gap ps n at asc g =
     missed ps n (λ k d l e. grind (arith, e, g.place.low k d, g.place.high k d, g.other d, asc at k d))
 
+-- numbers stand once: what is left without one has no such number
+left_without : (p : Pending) (ps : List Pending) (n : ℕ) → IsAscending number_of (p ∷ ps) → pending_index (without_number ps n) n ≡ None
+    → (same : Bool) → (p.number == n) ≡ same → pending_index (if same then ps else p ∷ without_number ps n) n ≡ None
+left_without p ps n asc rest true is =
+    let same : p.number ≡ n = grind (arith, nat_tests) in
+    (missed ps n (λ k d l e. omega (arith, same, e, asc zero (suc k) d (omega arith) (omega arith)))).0
+left_without p ps n asc rest false is = rw is rest
+
+pub pending_once : (ps : List Pending) (n : ℕ) → IsAscending number_of ps → pending_index (without_number ps n) n ≡ None
+pending_once [] n asc = refl
+pending_once (p ∷ ps) n asc =
+    left_without p ps n asc (pending_once ps n (λ i j d l k. asc (suc i) (suc j) d (omega arith) (omega arith))) (p.number == n) refl
+
 on_if : {X : Type 0} (P : X → Type 0) (b : Bool) (x y : X) → P x → P y → P (if b then x else y)
 on_if P true x y h k = h
 on_if P false x y h k = k

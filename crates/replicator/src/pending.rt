@@ -1,5 +1,5 @@
 //! What was sent and awaits a receipt.
-ghost use Rattle.std.specs.Prelude.{◌≡◌, ◌<◌, ◌≤◌, ◌+◌, [], ◌∷◌, ◌++◌, length, IfOk, IfErr, OnOk};
+ghost use Rattle.std.specs.Prelude.{◌≡◌, ◌<◌, ◌≤◌, ◌+◌, [], ◌∷◌, ◌++◌, length, ℕ, None, IfOk, IfErr, OnOk};
 ghost use Rattle.std.specs.List.{All};
 ghost use Rattle.geo_base.specs.declared.sender.Pending.{Pending};
 ghost use Rattle.geo_base.specs.Ascending.{IsGap, IsHere};
@@ -52,7 +52,8 @@ impl PendingTable {
 
     /// How many receipts are awaited.
     pub(crate) fn len(&self) -> usize
-        ensures { result ≡ length self.now.items }
+        ensures len { result ≡ length self.now.items }
+        ensures once { (n : ℕ) → pending_index (without_number self.now.items n) n ≡ None }
     {
         self.items.len()
     }

@@ -1,5 +1,5 @@
 //! The sending end of a forward link: its value, and the steps that change it.
-ghost use Rattle.std.specs.Prelude.{◌≡◌, ◌<◌, ◌≤◌, ◌+◌, ◌-◌, ◌^◌, [], length, OnOk, OnErr, IfSome};
+ghost use Rattle.std.specs.Prelude.{◌≡◌, ◌<◌, ◌≤◌, ◌+◌, ◌-◌, ◌^◌, [], length, ℕ, None, OnOk, OnErr, IfSome};
 ghost use Rattle.geo_base.specs.declared.sender.SenderState.TheVariants as sender_state;
 ghost use Rattle.geo_base.specs.Sender.{new_sender, pending_index, sender_reset, sender_restarted, sender_sent, without_number};
 ghost use Rattle.replicator.specs.Sending.{sender_with, sending_of};
@@ -111,9 +111,10 @@ impl Sender {
         self.next
     }
 
-    /// How many entries await a receipt.
+    /// How many entries await a receipt. None of them has another one's number.
     pub fn pending_len(&self) -> usize
-        ensures { result ≡ length self.now.sending.pending }
+        ensures len { result ≡ length self.now.sending.pending }
+        ensures once { (n : ℕ) → pending_index (without_number self.now.sending.pending n) n ≡ None }
     {
         self.pending.len()
     }

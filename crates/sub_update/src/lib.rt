@@ -10,5 +10,5 @@ mod passing;
 #[cfg(test)]
 mod tests;
 
-pub use naming::make;
+pub use naming::{make, named_positions};
 pub use passing::{apply, runs};

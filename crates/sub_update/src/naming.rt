@@ -23,8 +23,8 @@ pub fn make(alloc: Global, sub: &SubName, cut: &Cut) -> Result<Marker, Memory>
     })
 }
 
-/// The remote positions of a cut, as a marker names them.
-fn named_positions(alloc: Global, cut: &Cut) -> Result<Sequence<ClusterPosition>, Memory>
+/// The remote positions of a cut, as a marker names them, in cluster order.
+pub fn named_positions(alloc: Global, cut: &Cut) -> Result<Sequence<ClusterPosition>, Memory>
     ensures { IfOk result (λ positions. positions ≡ named cut.now) }
 {
     let mut named = Sequence::new(alloc);
