@@ -58,6 +58,7 @@ written_is bytes result r s f (Ok (answers.NoMeta x)) h t w = w
 written_is bytes result r s f (Ok (answers.NoMarker x)) h t w = w
 written_is bytes result r s f (Ok (answers.NoCommand x)) h t w = w
 written_is bytes result r s f (Ok answers.Incomplete) h t w = absurd w
+written_is bytes result r s f (Ok answers.Unreadable) h t w = w
 written_is bytes result r s f (Ok answers.BadLine) h t w = w
 
 -- ---- none was there
@@ -85,6 +86,7 @@ refusal bytes r x (answers.NoMeta y) h is w n = n
 refusal bytes r x (answers.NoMarker y) h is w n = n
 refusal bytes r x (answers.NoCommand y) h is w n = n
 refusal bytes r x answers.Incomplete h is w n = absurd n
+refusal bytes r x answers.Unreadable h is w n = n
 refusal bytes r x answers.BadLine h is w n = n
 
 incomplete : (bytes : List ℕ) (r : Reading) (u : Unit {0}) (a : Answer) → Feeds fresh bytes r → Ok u ≡ answer r.fault → r.waiting ≡ [] → IsNoFrame (Ok u) a → IsFrameAnswer bytes a
@@ -95,6 +97,7 @@ incomplete bytes r u (answers.NoFields y) h is w n = n
 incomplete bytes r u (answers.NoMeta y) h is w n = n
 incomplete bytes r u (answers.NoMarker y) h is w n = n
 incomplete bytes r u (answers.NoCommand y) h is w n = n
+incomplete bytes r u answers.Unreadable h is w n = n
 incomplete bytes r u answers.BadLine h is w n = n
 
 no_memory : (a : Answer) (P : Answer → Type 0) → IsNoFrame (Err fault.Memory) a → P a

@@ -1,5 +1,8 @@
 -- What is answered for the bytes of a message: the canonical bytes of what they say, or why they say nothing.
-use Rattle.std.specs.Prelude.{◌≡◌, ◌≢◌, ℕ, List, Result, Ok, Err, ◌⊎◌}
+use Rattle.std.specs.Prelude.{◌≡◌, ◌≢◌, ℕ, ◌-◌, List, [], Result, Ok, Err, ◌⊎◌}
+use Rattle.geo_base.specs.declared.frame.Frame.{Frame as Value}
+use Rattle.geo_base.specs.declared.frame.Frame.TheVariants as value
+use Rattle.geo_base.specs.FrameSizes.{frame_size as value_size}
 use Rattle.pb_fields.specs.declared.field.Field.{Field}
 use Rattle.pb_fields.specs.declared.fault.PbFault.TheVariants as pb
 use Rattle.pb_fields.specs.declared.message.MessageFault.TheVariants as message
@@ -26,6 +29,8 @@ use Rattle.pulsar_frames.specs.declared.frame.Frame.{Frame}
 use Rattle.pulsar_frames.specs.Layout.{IsUnfinished}
 use Rattle.pulsar_frames.specs.Frames.{TakesFrame, HasFault}
 use Rattle.pulsar_frames.specs.Canonical.{frame_text, frame_size, IsTooLarge}
+use Rattle.wire_frames.specs.Coded.{IsWritten as IsValueWritten}
+use Rattle.wire_frames.specs.Standing.{Reads}
 use Rattle.wire_vectors.specs.declared.answer.Answer.{Answer}
 use Rattle.wire_vectors.specs.declared.answer.Answer.TheVariants as answer
 use Rattle.wire_vectors.specs.declared.answer.Kind.{Kind}
@@ -70,9 +75,21 @@ IsWritten f (answer.Canonical out) = out ≡ frame_text f
 IsWritten f (answer.NoFrame fault) = IsTooLarge (frame_size f) fault
 IsWritten f a = ⊥
 
+-- the answer for a value, under these names of clusters
+abbrev pub IsValueText : List (List ℕ) → Value → Answer → Type 0
+IsValueText names f (answer.Canonical out) = IsValueWritten names f out
+IsValueText names f (answer.NoFrame fault) = IsTooLarge (value_size names f - 4) fault
+IsValueText names value.Unreadable answer.Unreadable = Unit {0}
+IsValueText names f a = ⊥
+
+-- The value of one frame is written again, under the same names.
+abbrev pub IsValueAnswer : List (List ℕ) → List ℕ → Answer → Type 0
+IsValueAnswer names bytes a = (f : Value) × Reads names bytes f × IsValueText names f a
+
 abbrev pub IsAnswer : Kind → List ℕ → Answer → Type 0
 IsAnswer kind.Fields bytes a = IsFieldsAnswer bytes a
 IsAnswer kind.Meta bytes a = IsMetaAnswer bytes a
 IsAnswer (kind.Marker number) bytes a = IsMarkerAnswer number bytes a
 IsAnswer kind.Command bytes a = IsCommandAnswer bytes a
 IsAnswer kind.Frame bytes a = IsFrameAnswer bytes a
+IsAnswer kind.Value bytes a = IsValueAnswer [] bytes a

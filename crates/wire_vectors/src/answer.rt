@@ -1,9 +1,12 @@
 //! What a codec says of a message.
 
-ghost use Rattle.std.specs.Prelude.{IfOk};
-ghost use Rattle.wire_vectors.specs.Answers.{IsFieldsAnswer, IsMetaAnswer, IsMarkerAnswer, IsCommandAnswer, IsFrameAnswer, IsNoFrame, IsWritten, IsAnswer};
+ghost use Rattle.std.specs.Prelude.{◌≤◌, [], length, IfOk};
+ghost use Rattle.wire_vectors.specs.Answers.{IsFieldsAnswer, IsMetaAnswer, IsMarkerAnswer, IsCommandAnswer, IsFrameAnswer, IsNoFrame, IsWritten, IsValueAnswer, IsValueText, IsAnswer};
+ghost use Rattle.message_meta.specs.Known.{IsRest};
+ghost use Rattle.wire_frames.specs.Texts.{unread_bytes};
 ghost use Rattle.pulsar_frames.specs.Canonical.{IsComplete};
 
+use geo_base::{ClusterName, Frame as Value};
 use marker_codec::{Marker, MarkerFault};
 use message_meta::{Meta, MetaFault};
 use pb_fields::{ByteList, Memory, PbFault, read_fields, write_fields};
@@ -11,6 +14,7 @@ use pulsar_commands::{Command, CommandFault};
 use pulsar_frames::{Frame, FrameFault, FrameReader, write_frame};
 use std::alloc::Global;
 use std::fmt;
+use wire_frames::{is_readable, read_value, try_write_value};
 
 /// What a vector's bytes are read as.
 #[derive(Clone, Copy, Debug, PartialEq, Eq)]
@@ -25,6 +29,8 @@ pub enum Kind {
     Command,
     /// The first frame of a stream.
     Frame,
+    /// The machine's value of one frame, where no cluster has a name.
+    Value,
 }
 
 /// The canonical bytes of what was read, or why it was not.
@@ -38,6 +44,8 @@ pub enum Answer {
     NoFrame(FrameFault),
     /// No whole frame stands in the bytes, and none is refused.
     Incomplete,
+    /// The bytes are a text of no frame.
+    Unreadable,
     BadLine,
 }
 
@@ -51,6 +59,7 @@ impl fmt::Display for Answer {
             Answer::NoCommand(fault) => write!(f, "{fault}"),
             Answer::NoFrame(fault) => write!(f, "{fault}"),
             Answer::Incomplete => write!(f, "incomplete"),
+            Answer::Unreadable => write!(f, "unreadable"),
             Answer::BadLine => write!(f, "bad line"),
         }
     }
@@ -78,6 +87,7 @@ pub fn answer_of(alloc: Global, kind: Kind, bytes: &[u8]) -> Result<Answer, Memo
         Kind::Marker(number) => marker_answer(alloc, number, bytes),
         Kind::Command => command_answer(alloc, bytes),
         Kind::Frame => frame_answer(alloc, bytes),
+        Kind::Value => value_answer(alloc, bytes),
     }
 }
 
@@ -168,6 +178,41 @@ fn written_frame(alloc: Global, frame: &Frame) -> Result<Answer, Memory>
     ensures { IfOk result (IsWritten frame.now) }
 {
     match write_frame(alloc, frame) {
+        Ok(out) => Ok(Answer::Canonical(ByteList::from_slice(alloc, out.as_slice())?)),
+        Err(fault) => match fault {
+            FrameFault::Memory => Err(Memory),
+            _ => Ok(Answer::NoFrame(fault)),
+        },
+    }
+}
+
+/// The value is read and written again, under no cluster's name.
+fn value_answer(alloc: Global, bytes: &[u8]) -> Result<Answer, Memory>
+    ensures { IfOk result (IsValueAnswer [] bytes.now) }
+{
+    named_answer(alloc, &[], bytes)
+}
+
+/// The same under these names.
+fn named_answer(alloc: Global, names: &[ClusterName], bytes: &[u8]) -> Result<Answer, Memory>
+    requires { length names.now ≤ 8 }
+    ensures { IfOk result (IsValueAnswer names.now bytes.now) }
+{
+    match read_value(alloc, names, bytes) {
+        Ok(value) => written_value(alloc, names, &value),
+        Err(_) => Err(Memory),
+    }
+}
+
+#[tactic(auto, using(crate::proofs::Values::unreadable_is))]
+fn written_value(alloc: Global, names: &[ClusterName], value: &Value) -> Result<Answer, Memory>
+    requires { IsRest (unread_bytes value.now) }
+    ensures { IfOk result (IsValueText names.now value.now) }
+{
+    if !is_readable(value) {
+        return Ok(Answer::Unreadable);
+    }
+    match try_write_value(alloc, names, value) {
         Ok(out) => Ok(Answer::Canonical(ByteList::from_slice(alloc, out.as_slice())?)),
         Err(fault) => match fault {
             FrameFault::Memory => Err(Memory),

@@ -1,6 +1,7 @@
-//! Answers codec vectors: reads lines `KIND HEX`, a kind of message (`fields`, `meta`, `marker NUMBER`, `command` or
-//! `frame`) and its bytes in hexadecimal, `-` for none, and writes a line for each: `ok HEX` with the canonical bytes of
+//! Answers codec vectors: reads lines `KIND HEX`, a kind of message (`fields`, `meta`, `marker NUMBER`, `command`, `frame`
+//! or `value`) and its bytes in hexadecimal, `-` for none, and writes a line for each: `ok HEX` with the canonical bytes of
 //! what was read, or the fault. Of a stream the first frame counts, and the answer is `incomplete` where it has none yet.
+//! A `value` is the machine's value of one frame, where no cluster has a name, and `unreadable` of what is no frame.
 //! A line that has another form or an unknown kind is answered by `bad line`.
 #![tactic(auto)]
 

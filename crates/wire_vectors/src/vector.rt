@@ -26,6 +26,7 @@ fn words_of(line: &[u8]) -> Option<(Kind, &str)> {
         "marker" => numbered(rest),
         "command" => Some((Kind::Command, rest)),
         "frame" => Some((Kind::Frame, rest)),
+        "value" => Some((Kind::Value, rest)),
         _ => None,
     }
 }
