@@ -26,7 +26,7 @@ use Rattle.world_laws.proofs.Members.{get_push}
 use Rattle.world_laws.proofs.Shapes.{Shape}
 use Rattle.world_laws.proofs.Walk.{on_if}
 
-client_more : (n : ℕ) (k : Client) → ClientWithin n k → ClientWithin (n + 1) k
+pub client_more : (n : ℕ) (k : Client) → ClientWithin n k → ClientWithin (n + 1) k
 client_more n k w =
     record { connection = omega (arith, w.connection); receipts = omega (arith, w.receipts); duplicates = omega (arith, w.duplicates); errors = omega (arith, w.errors) }
 
@@ -43,7 +43,7 @@ link_set P ls (Back n y) j l p q = q
 link_set P ls (ToBroker n y) j l p q = q
 link_set P ls (ToClient n y) j l p q = q
 
-abbrev AllStamps : ℕ → Links → Type 0
+abbrev pub AllStamps : ℕ → Links → Type 0
 AllStamps n ls = (k : LinkName) → StampsWithin n (link_at ls k)
 
 stamps_push : (n : ℕ) (l : Link) (p : Packet) → p.stamp ≤ n → StampsWithin n l → StampsWithin n (sent_on l p)
@@ -53,17 +53,17 @@ stamps_push n l p h w i q at =
       | inr new ↦ subst (λ (q : Packet). q.stamp ≤ n) new.1 h
     ]
 
-delivered_stamps : (n stamp : ℕ) (to : Peer → LinkName) (os : List Out) (ls : Links) → stamp ≤ n → AllStamps n ls → AllStamps n (delivered to stamp os ls)
+pub delivered_stamps : (n stamp : ℕ) (to : Peer → LinkName) (os : List Out) (ls : Links) → stamp ≤ n → AllStamps n ls → AllStamps n (delivered to stamp os ls)
 delivered_stamps n stamp to [] ls h w = w
 delivered_stamps n stamp to (o ∷ os) ls h w =
     delivered_stamps n stamp to os _ h
     (λ k. link_set (StampsWithin n) ls (to o.to) k _ (stamps_push n (link_at ls (to o.to)) (stamped stamp o) h (w (to o.to))) (w k))
 
-taken_stamps : (n : ℕ) (o : Option LinkName) (ls : Links) → AllStamps n ls → AllStamps n (taken_from o ls)
+pub taken_stamps : (n : ℕ) (o : Option LinkName) (ls : Links) → AllStamps n ls → AllStamps n (taken_from o ls)
 taken_stamps n None ls w k = w k
 taken_stamps n (Some j) ls w k = link_set (StampsWithin n) ls j k (took (link_at ls j)) (w j) (w k)
 
-stamps_more : (n : ℕ) (ls : Links) → AllStamps n ls → AllStamps (n + 1) ls
+pub stamps_more : (n : ℕ) (ls : Links) → AllStamps n ls → AllStamps (n + 1) ls
 stamps_more n ls w k i p at = omega (arith, w k i p at)
 
 stamp_within : (n : ℕ) (o : Option Packet) → ((p : Packet) → o ≡ Some p → p.stamp ≤ n) → stamp_of o ≤ n
@@ -74,11 +74,11 @@ pub packet_within : (n : ℕ) (ls : Links) (o : Option LinkName) → AllStamps n
 packet_within n ls None w = omega arith
 packet_within n ls (Some k) w = stamp_within n (next_packet (link_at ls k)) (λ p at. w k (link_at ls k).taken p at)
 
-next_within : (n clock : ℕ) (o : Option Packet) → clock ≤ n → stamp_of o ≤ n → next_stamp clock o ≤ n + 1
+pub next_within : (n clock : ℕ) (o : Option Packet) → clock ≤ n → stamp_of o ≤ n → next_stamp clock o ≤ n + 1
 next_within n clock o h k = omega (arith, h, k)
 
 -- clocks
-clocks_set : (n : ℕ) (xs : List ℕ) (i z v : ℕ) → v ≤ n → slice_index xs z ≤ n → slice_index (slice_set xs i v) z ≤ n
+pub clocks_set : (n : ℕ) (xs : List ℕ) (i z v : ℕ) → v ≤ n → slice_index xs z ≤ n → slice_index (slice_set xs i v) z ≤ n
 clocks_set n xs i z v h k = at_set (λ (m : ℕ). m ≤ n) xs i z v 0 (λ _. h) k
 
 -- an event at a broker
@@ -128,7 +128,7 @@ client_within s n w c k a raised h =
       stamps = delivered_stamps (n + 1) stamp _ a.sent _ fits (taken_stamps (n + 1) k w.links (stamps_more n w.links h.stamps));
     })
 
-abbrev ActedWithin : ℕ → Acted → Type 0
+abbrev pub ActedWithin : ℕ → Acted → Type 0
 ActedWithin n a = ClientWithin n a.client
 
 -- no count of the client changes
@@ -182,11 +182,11 @@ go_line_within n s d k (Some line.CloseProducer) w =
 go_line_within n s d k (Some line.Ping) w = same_counts n k _ w refl refl refl refl
 go_line_within n s d k (Some (line.Move x)) w = connected_within n k (past k) x w refl refl refl refl
 
-go_within : (n : ℕ) (s : Setup) (d : Declared) (k : Client) → ClientWithin n k → ActedWithin (n + 1) (go s d k)
+pub go_within : (n : ℕ) (s : Setup) (d : Declared) (k : Client) → ClientWithin n k → ActedWithin (n + 1) (go s d k)
 unfolding go
 go_within n s d k w = on_if (ActedWithin (n + 1)) k.connected _ _ (go_line_within n s d k (slice_get d.lines k.done) w) (client_more n k w)
 
-reconnect_within : (n : ℕ) (s : Setup) (d : Declared) (k : Client) → ClientWithin n k → ActedWithin (n + 1) (reconnect s d k)
+pub reconnect_within : (n : ℕ) (s : Setup) (d : Declared) (k : Client) → ClientWithin n k → ActedWithin (n + 1) (reconnect s d k)
 unfolding reconnect
 reconnect_within n s d k w = connected_within n k k k.cluster w refl refl refl refl
 
@@ -218,7 +218,7 @@ got_frame_within n d k (frame.Message id p (Some (place.Known x)) e) w = receive
 got_frame_within n d k (frame.Message id p (Some (place.Stranger name)) e) w = client_more n k w
 got_frame_within n d k f w = client_more n k w
 
-get_within : (n : ℕ) (d : Declared) (k : Client) (o : Option Packet) → ClientWithin n k → ActedWithin (n + 1) (get d k o)
+pub get_within : (n : ℕ) (d : Declared) (k : Client) (o : Option Packet) → ClientWithin n k → ActedWithin (n + 1) (get d k o)
 unfolding get
 get_within n d k None w = client_more n k w
 get_within n d k (Some p) w = on_if (ClientWithin (n + 1)) (p.session == k.connection) _ _ (got_frame_within n d k p.frame w) (client_more n k w)

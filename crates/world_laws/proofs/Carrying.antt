@@ -97,7 +97,7 @@ pub record Carrying (B : Type 0) (s : Setup) (w : World) : Type 0 where
   pub entries : Everywhere s (PlainAt s) w
 
 -- what is known besides, of a run that is short where B holds
-record Beneath (B : Type 0) (s : Setup) (w : World) : Type 0 where
+pub record Beneath (B : Type 0) (s : Setup) (w : World) : Type 0 where
   fitting : Fitting s w
   short : B → IsShort w
 
@@ -134,7 +134,7 @@ entry_there s w t x i e size small at = by (nat_lt t (length s.topics)) refl
 all_entries : (s : Setup) (w : World) (E : Entry → Type 0) → length w.brokers ≡ length s.topics * length s.clusters → Everywhere s (λ x b. Each E b.entries) w → AllEntries s E w
 all_entries s w E size all t x i e small at = each_at_place E (topic_at s w t x).entries i e (all t x (entry_there s w t x i e size small at)) at
 
-size_of : (s : Setup) (w : World) → Fitting s w → length w.brokers ≡ length s.topics * length s.clusters
+pub size_of : (s : Setup) (w : World) → Fitting s w → length w.brokers ≡ length s.topics * length s.clusters
 size_of s w h = h.0.0.0.0.0.0.0.sized.brokers
 
 -- what the two walks ask of a broker
@@ -258,7 +258,7 @@ carried_opening B s = record {
 }
 
 -- all of it, in every world that is short where B holds
-abbrev Bearing : Type 0 → Setup → World → Type 0
+abbrev pub Bearing : Type 0 → Setup → World → Type 0
 Bearing B s w = Fitting s w × ((B → IsShort w) → Carrying B s w)
 
 event_short : (s : Setup) (w : World) (e : Event) → IsShort (happens s w e) → IsShort w
@@ -276,7 +276,7 @@ halt_short : (s : Setup) (w : World) (k : ℕ) (o : Option Planned) → IsShort 
 halt_short s w k None short = short
 halt_short s w k (Some p) short = halts_short s w k p short
 
-bearing_kept : (B : Type 0) (s : Setup) → IsScripted s → IsKeptByEvents s (Bearing B s)
+pub bearing_kept : (B : Type 0) (s : Setup) → IsScripted s → IsKeptByEvents s (Bearing B s)
 bearing_kept B s scripted =
     let k = fitting_kept s scripted in
     record {
@@ -297,13 +297,17 @@ bearing_kept B s scripted =
       stop = λ w h. (k.stop w h.0, λ short. let was : B → IsShort w = λ b. stops_short s w (short b) in carried_stops B s w (record { fitting = h.0; short = was }) (h.1 was));
     }
 
+-- what the next event of a broker sends there is from what is plain
+pub next_sends : (s : Setup) → IsScripted s → (w : World) → Bearing ⊥ s w → (p : Planned) → Shape s w p → Each (SentOut ⊥ s.clusters) p.plan.sent
+next_sends s scripted w h p shape = sends_at ⊥ s scripted w p shape (record { fitting = h.0; short = λ b. absurd b }) (h.1 (λ b. absurd b))
+
 -- LAWS
 
 all_frames : (F : Frame → Type 0) (B : Type 0) (names : List (List ℕ)) (w : World) → ((f : Frame) → Sent B names f → F f) → AllSent (λ p. Sent B names p.frame) w.links → AllFrames F w
 all_frames F B names w f all k i p at = f p.frame (each_at_place (λ (q : Packet). Sent B names q.frame) (link_at w.links k).sent i p (all k) at)
 
 -- what is plain, where all was sent from what is plain
-sends_plain : (B : Type 0) (s : Setup) (w : World) → length w.brokers ≡ length s.topics * length s.clusters → Carrying B s w → SendsPlain s w
+pub sends_plain : (B : Type 0) (s : Setup) (w : World) → length w.brokers ≡ length s.topics * length s.clusters → Carrying B s w → SendsPlain s w
 sends_plain B s w size c = (all_frames (IsPlain s.clusters) B s.clusters w (λ f h. h.plain) c.links, all_entries s w (IsPlainEntry s.clusters None) size c.entries)
 
 pub plain_always : LawPlain
@@ -316,7 +320,7 @@ plain_always s scripted =
 abbrev FitsShort : Setup → World → Type 0
 FitsShort s w = IsShort w → SendsSmall s w
 
-sends_small : (s : Setup) (w : World) → length w.brokers ≡ length s.topics * length s.clusters → Carrying (Unit {0}) s w → AllFit s w → SendsSmall s w
+pub sends_small : (s : Setup) (w : World) → length w.brokers ≡ length s.topics * length s.clusters → Carrying (Unit {0}) s w → AllFit s w → SendsSmall s w
 sends_small s w size c fit =
     (all_frames (λ f. frame_size s.clusters f ≤ 4 + most_frame_size) (Unit {0}) s.clusters w (λ f h. fits s.clusters f (h.small tt)) c.links, all_entries s w (IsFit s.clusters) size fit)
 

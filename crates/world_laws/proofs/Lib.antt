@@ -129,3 +129,8 @@ pub mod ToldRuns
 pub mod ToldWorlds
 pub mod ToldLaws
 pub mod LimitedRuns
+pub mod Slow
+pub mod Rising
+pub mod OwnNumbers
+pub mod MarkerRuns
+pub mod Reaching

@@ -1,5 +1,5 @@
 -- As many offers as there are entries bring every message out.
-use Rattle.std.proofs.Common.{◌≡◌, ℕ, zero, suc, ◌+◌, ◌*◌, ◌<◌, ◌≤◌, Bool, true, false, List, [], ◌∷◌, ◌++◌, length, map, refl, sym, ap, subst, ◌∙◌, ◌==◌, arith, nat_le, nat_lt, not}
+use Rattle.std.proofs.Common.{◌≡◌, ℕ, zero, suc, ◌+◌, ◌*◌, ◌<◌, ◌≤◌, Bool, true, false, List, [], ◌∷◌, length, map, refl, sym, ap, subst, ◌∙◌, ◌==◌, arith, nat_le, nat_lt, not}
 use Rattle.std.specs.Prelude.{Option, Some, None, if◌then◌else◌, ◌&&◌, ◌||◌, slice_get, slice_index_or, slice_set}
 use Rattle.std.proofs.lemmas.Bool.{eq-eqb, false≢true, lt-ltb, ltb-true}
 use Rattle.std.proofs.lemmas.Bool.Decides.{nat_tests}
@@ -17,9 +17,9 @@ use Rattle.geo_base.specs.Entry.{is_data, key_bytes}
 use Rattle.geo_base.specs.Happening.{broker_does, broker_halts, client_does, does_planned, halts_planned, happens}
 use Rattle.geo_base.specs.Laws.{IsAllOut, IsServed, LawOffers, Offered, is_elsewhere}
 use Rattle.geo_base.specs.Offering.{offer, offer_entry, own_snapshot, passes_by}
-use Rattle.geo_base.specs.Plan.{Plan, done, halted, idle_plan, plan_of}
+use Rattle.geo_base.specs.Plan.{Plan, done, idle_plan, plan_of}
 use Rattle.geo_base.specs.Planned.{Planned, has_client, in_range, planned, plan_at}
-use Rattle.geo_base.specs.Safe.{is_kept, is_out}
+use Rattle.geo_base.specs.Safe.{is_out}
 use Rattle.geo_base.specs.Setup.{Setup, sub_name}
 use Rattle.geo_base.specs.Storing.{update_after, update_marker}
 use Rattle.geo_base.specs.Subscription.{Subscription, after_acks, with_acks}
@@ -31,12 +31,12 @@ use Rattle.world_laws.proofs.Keeping.{Remembering, remembering_kept}
 use Rattle.world_laws.proofs.LinkFrames.{same_node}
 use Rattle.world_laws.proofs.PairRoles.{shape_within}
 use Rattle.world_laws.proofs.Recalled.{Keeping, found_remembers}
-use Rattle.world_laws.proofs.Remembers.{Kept, is_false, least_due_is, unlike, why_kept}
-use Rattle.world_laws.proofs.DueCounts.{due_falls, none_due, pick_some}
+use Rattle.world_laws.proofs.Remembers.{Kept, least_due_is, unlike, why_kept}
+use Rattle.world_laws.proofs.DueCounts.{none_due, pick_some}
 use Rattle.world_laws.proofs.Runs.{between_events, event_done, plan_halted}
 use Rattle.world_laws.proofs.ServeWalk.{updates_after}
 use Rattle.world_laws.proofs.Serving.{Lowers, Served, Serving, at_own, due_one, given_served, marker_lowers, named_at, passed_served, pushed_served}
-use Rattle.world_laws.proofs.Shapes.{Shape, Updates}
+use Rattle.world_laws.proofs.Shapes.{Updates}
 use Rattle.world_laws.proofs.SubFrames.{at_name}
 use Rattle.world_laws.proofs.Walk.{by_test, on_found, on_if, on_test, on_true}
 

@@ -163,6 +163,14 @@ between_events s P Q k weaker = record {
   between = λ l es at. weaker (world_between l s es at) (between l s P k es at);
 }
 
+-- the same of what whole events keep
+pub between_by_events : (s : Setup) (P Q : World → Type 0) → IsKeptByEvents s P → ((w : World) → P w → Q w) → BetweenEvents s Q
+between_by_events s P Q k weaker = record {
+  run = λ es. weaker (run s es) (run_done no_limits s P k es);
+  limited = λ l es. weaker (run_under l s es).world (run_done l s P k es);
+  between = λ l es at. weaker (world_between l s es at) (done_between l s P k es at);
+}
+
 -- what holds always holds always in each run
 pub always_in : (s : Setup) (es : List Step) (Holds : World → SettledSoFar → Type 0) → Always s Holds → AlwaysIn s es Holds
 always_in s es Holds a = record {

@@ -1,36 +1,30 @@
 -- One offer: what is least due is due no more, and the permits suffice for what is left.
 use Rattle.std.proofs.Common.{◌≡◌, ℕ, zero, suc, ◌+◌, ◌<◌, ◌≤◌, Bool, true, false, List, [], ◌∷◌, ◌++◌, length, map, filter, refl, sym, ap, subst, ◌∙◌, ◌==◌, arith, inl, inr, nat_le, max, not}
-use Rattle.std.specs.Prelude.{Option, Some, None, if◌then◌else◌, ◌&&◌, ◌||◌, slice_get}
+use Rattle.std.specs.Prelude.{Some, if◌then◌else◌, ◌&&◌, ◌||◌, slice_get}
 use Rattle.std.specs.List.{list_any}
 use Rattle.std.specs.Str.{bytes_eq}
 use Rattle.std.proofs.lemmas.Bool.{eqb-true, eq-eqb, false≢true}
 use Rattle.std.proofs.lemmas.Bool.Decides.{nat_tests}
-use Rattle.std.proofs.lemmas.Option.{none-some, same_Some, slice_get_within}
+use Rattle.std.proofs.lemmas.Option.{none-some, same_Some}
 use Rattle.std.proofs.lemmas.Slice.Eq.{bytes_eq-Decides}
-use Rattle.world_laws.proofs.Types.{CachedSnapshot, Change, Consumer, Entry, SubKind, Write}
+use Rattle.world_laws.proofs.Types.{Consumer, Entry, SubKind}
 use Rattle.world_laws.proofs.Types.change
-use Rattle.world_laws.proofs.Types.write
-use Rattle.geo_base.specs.Broker.{Broker, Site, changed, sub_named, written}
-use Rattle.geo_base.specs.Cache.{cached}
+use Rattle.geo_base.specs.Broker.{Broker, Site, sub_named}
 use Rattle.geo_base.specs.Cursor.{has, with_indexes}
 use Rattle.geo_base.specs.Dispatcher.{consumer_at, given, is_due, least_due, passed_index, pick, served}
 use Rattle.geo_base.specs.Entry.{is_data, key_bytes}
 use Rattle.geo_base.specs.Laws.{due_from, has_permits}
-use Rattle.geo_base.specs.Offering.{message, offer, offer_entry, own_snapshot, passes_by}
-use Rattle.geo_base.specs.Plan.{Plan, all_changed, all_written, done, idle_plan, plan_of}
-use Rattle.geo_base.specs.Subscription.{Subscription, after_acks, attached, cleared, detached, is_of, permitted, sought, with_acks}
-use Rattle.world_laws.proofs.Appends.{after_writes, done_entries}
+use Rattle.geo_base.specs.Offering.{message}
+use Rattle.geo_base.specs.Plan.{done, plan_of}
+use Rattle.geo_base.specs.Subscription.{Subscription, after_acks, is_of, with_acks}
 use Rattle.world_laws.proofs.Cursors.{has_it}
 use Rattle.world_laws.proofs.Dispatched.{permitted_there, served_stay}
-use Rattle.world_laws.proofs.DueCounts.{due_falls_at, due_fewer, due_push, none_due, permits_fewer, pick_some, served_permits}
-use Rattle.world_laws.proofs.Effects.{Each}
+use Rattle.world_laws.proofs.DueCounts.{due_falls_at, due_fewer, due_push, permits_fewer, served_permits}
 use Rattle.world_laws.proofs.Members.{get_push}
 use Rattle.world_laws.proofs.PeerWalk.{pick_has}
-use Rattle.world_laws.proofs.Remembers.{IsLeast, before_more, has_fewer, has_out, is_false, least_due_is, undued, unlike}
-use Rattle.world_laws.proofs.ServeWalk.{updates_after}
-use Rattle.world_laws.proofs.Shapes.{Updates}
-use Rattle.world_laws.proofs.SubFrames.{CreatesNone, at_name, at_name_twice, named_same, sub_after, sub_changed, sub_then, sub_written}
-use Rattle.world_laws.proofs.Walk.{by_test, on_found, on_test}
+use Rattle.world_laws.proofs.Remembers.{IsLeast, before_more, has_fewer, has_out, is_false, least_due_is, unlike}
+use Rattle.world_laws.proofs.SubFrames.{at_name, named_same}
+use Rattle.world_laws.proofs.Walk.{by_test}
 
 -- a name finds the same subscription again
 named_map : (f : Subscription → Subscription) → ((u : Subscription) → (f u).name ≡ u.name) → (vs : List Subscription) (n : List ℕ) (v : Subscription) → sub_named vs n ≡ Some v

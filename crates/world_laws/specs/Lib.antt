@@ -4,3 +4,4 @@ pub mod ByteHistories
 pub mod Plain
 pub mod Small
 pub mod Frames
+pub mod Reached

@@ -6,6 +6,7 @@
 
 pub mod histories;
 pub mod links;
+pub mod numbers;
 pub mod replication;
 pub mod settled;
 pub mod settling;
@@ -15,6 +16,7 @@ pub mod topics;
 
 pub use histories::{law_alike, law_merge};
 pub use links::{law_fits, law_plain};
+pub use numbers::{law_markers, law_numbers, law_reached};
 pub use replication::{law_prefix, law_receipt};
 pub use settled::{law_safe, law_update};
 pub use settling::{law_budget, law_settles_in_time};
