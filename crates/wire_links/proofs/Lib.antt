@@ -1,0 +1,4 @@
+pub mod Mapped
+pub mod Pairs
+pub mod Simulated
+pub mod Undoing

@@ -1,0 +1,4 @@
+pub mod Each
+pub mod Names
+pub mod Queues
+pub mod Standing

@@ -1,0 +1,5 @@
+use Rattle.world_kept.proofs.Keeping.{opening}
+use Rattle.world_kept.proofs.laws.law_opening.Goals as goal
+
+pub returns : goal.returns
+returns c = opening
