@@ -1,0 +1,9 @@
+pub mod Connecting
+pub mod Getting
+pub mod HeldLists
+pub mod KnownNames
+pub mod Preparing
+pub mod Published
+pub mod Short
+pub mod Wire
+pub mod Writable

@@ -1,0 +1,148 @@
+//! What no contract says: that what memory suffices for is answered. The states are those of the rules, line by line.
+ghost use Rattle.std.specs.Prelude.{◌≡◌, true};
+ghost use Rattle.std.specs.List.{list_all};
+ghost use Rattle.geo_base.specs.Name.{is_name};
+ghost use Rattle.geo_base.specs.Scripted.{is_optional_name};
+ghost use Rattle.client_node.specs.Changing.{ClientFits};
+ghost use Rattle.client_node.specs.Counted.{CanCount};
+ghost use Rattle.client_node.specs.Site.{is_short_line};
+
+mod story;
+
+use crate::client::Client;
+use crate::client::prepared::Prepared;
+use crate::packet::Incoming;
+use crate::site::ClientSite;
+use geo_base::limits::{CLUSTERS, TEXT_BYTES};
+use geo_base::name::name_text;
+use geo_base::{ClusterName, Line, Memory, ProducerName, Text, TopicName};
+use std::alloc::Global;
+use std::test::Fail;
+use story::{Act, ROWS, Row, lines};
+
+fn is_cluster_name(name: &ClusterName) -> bool
+    ensures { result ≡ is_name name.now }
+{
+    name_text(name.as_str().as_bytes()).is_some()
+}
+
+fn are_cluster_names(names: &[ClusterName]) -> bool
+    ensures { result ≡ list_all is_name names.now }
+{
+    names.iter().all(|name| is_cluster_name(name))
+}
+
+fn is_optional_name(key: &Option<Text>) -> bool
+    ensures { result ≡ is_optional_name key.now }
+{
+    match key {
+        None => true,
+        Some(key) => name_text(key.as_bytes()).is_some(),
+    }
+}
+
+fn is_short(line: &Line) -> bool
+    ensures { result ≡ is_short_line line.now }
+{
+    match line {
+        Line::Pub { key, text, .. } => {
+            is_optional_name(key) && text.as_slice().len() <= TEXT_BYTES
+        }
+        Line::Sub { sub, .. } => name_text(sub.as_bytes()).is_some(),
+        _ => true,
+    }
+}
+
+fn are_short(lines: &[Line]) -> bool
+    ensures { result ≡ list_all is_short_line lines.now }
+{
+    lines.iter().all(|line| is_short(line))
+}
+
+/// How many packets are sent, once it is done.
+fn done(alloc: Global, client: &mut Client, mut prepared: Prepared) -> usize
+    requires { ClientFits prepared.change client.old }
+{
+    let sent = prepared.take_sent(alloc).len();
+    client.commit(prepared);
+    sent
+}
+
+/// What the client does or gets, and how many packets it sends.
+fn happens(alloc: Global, site: &ClientSite, client: &mut Client, act: Act) -> Result<usize, Memory>
+    requires { CanCount client.old }
+{
+    match act {
+        Act::Go => {
+            let prepared = client.prepare_go(alloc, site)?;
+            Ok(done(alloc, client, prepared))
+        }
+        Act::Reconnect => {
+            let prepared = client.prepare_reconnect(alloc, site)?;
+            Ok(done(alloc, client, prepared))
+        }
+        Act::Get(session, bytes) => {
+            client.get(alloc, site, Some(&Incoming::new(session, bytes)))?;
+            Ok(0)
+        }
+    }
+}
+
+/// The client as a row has it.
+fn row_of(client: &Client, act: Act, sent: usize) -> Row {
+    let view = client.view();
+    (
+        act,
+        sent,
+        view.done,
+        [view.produce, view.sub, view.flow],
+        [view.unanswered.len(), view.held.len(), view.got.len()],
+        [view.receipts, view.duplicates, view.errors],
+    )
+}
+
+/// Whether the client is at each row what the row says.
+fn follows(alloc: Global, site: &ClientSite, client: &mut Client) -> Result<bool, Memory> {
+    for row in ROWS.iter() {
+        if !client.can_count() {
+            return Ok(false);
+        }
+        let sent = happens(alloc, site, client, row.0)?;
+        if row_of(client, row.0, sent) != *row {
+            return Ok(false);
+        }
+    }
+    Ok(true)
+}
+
+/// Whether a new client of these lines, at the first cluster, does what the rows say.
+fn tells(
+    alloc: Global,
+    clusters: &[ClusterName],
+    topics: &[TopicName],
+    name: &ProducerName,
+    lines: &[Line],
+) -> Result<bool, Memory>
+    requires named { is_name name.now ≡ true }
+{
+    if clusters.len() > CLUSTERS || !are_cluster_names(clusters) || !are_short(lines) {
+        return Ok(false);
+    }
+    let site = ClientSite::new(clusters, topics, name, 0, 0, lines);
+    let mut client = Client::new(alloc, &site)?;
+    follows(alloc, &site, &mut client)
+}
+
+#[test]
+fn a_client_does_lines_of_all_kinds(rt: HostRuntime) -> Result<(), Fail> {
+    let clusters = [
+        ClusterName::read(rt.alloc(), "a")?,
+        ClusterName::read(rt.alloc(), "b")?,
+    ];
+    let topics = [TopicName::read(rt.alloc(), "t")?];
+    let name = ProducerName::read(rt.alloc(), "c")?;
+    let lines = lines(rt.alloc())?;
+    let told = tells(rt.alloc(), &clusters, &topics, &name, lines.as_slice())?;
+    assert!(rt; told);
+    Ok(())
+}
