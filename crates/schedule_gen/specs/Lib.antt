@@ -1,0 +1,4 @@
+pub mod Scenario
+pub mod Drawing
+pub mod Schedule
+pub mod Generated

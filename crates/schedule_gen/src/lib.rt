@@ -1,0 +1,16 @@
+//! Generated runs: a scenario of three clusters, and a schedule of some 68,000 events that a number determines (own).
+//!
+//! Three producers publish 2,000 messages for all clusters, and a consumer goes round the clusters. First everyone
+//! connects; then 20,000 events are drawn at random, with lost and repeated packets, dropped clients and restarted nodes;
+//! then each producer does all its lines; and last everything settles. `specs/` has all of it as definitions.
+#![tactic(auto)]
+
+mod draws;
+mod run;
+mod scenario;
+mod schedule;
+#[cfg(test)]
+mod tests;
+
+pub use run::{Generated, generate};
+pub use scenario::Declaration;
