@@ -90,12 +90,8 @@ event_kinds = event.Go ∷ event.Get ∷ event.Reconnect ∷ event.Serve ∷ eve
 abbrev pub event_of_word : Word → Option EventKind
 event_of_word w = find (λ k. bytes_eq w (event_word k)) event_kinds
 
--- the events that are read: the others wait for the world that does them
+-- the events that are read
 abbrev pub event_built : EventKind → Bool
-event_built event.Drop = false
-event_built event.Snap = false
-event_built event.Seek = false
-event_built event.Restart = false
 event_built k = true
 
 -- the events that may be halted: those of a broker that it does by its own steps
@@ -109,7 +105,7 @@ may_halt k = true
 
 -- whether `halt` is read
 abbrev pub halt_built : Bool
-halt_built = false
+halt_built = true
 
 -- ---- a client's lines, after `do C` and their word
 -- X P SEQ: a message
@@ -157,13 +153,8 @@ role_of act.Produce = role.Producer
 role_of act.Move = role.Mover
 role_of k = role.Plain
 
--- the lines that are read: the others wait for the client that does them
+-- the lines that are read
 abbrev pub act_built : ActKind → Bool
-act_built act.Unsub = false
-act_built act.Close = false
-act_built act.CloseProducer = false
-act_built act.Ping = false
-act_built act.Move = false
 act_built k = true
 
 -- ---- the other lines
@@ -193,19 +184,12 @@ line_kinds = line.Geo ∷ line.Ledger ∷ line.Chance ∷ line.Cluster ∷ line.
 abbrev pub line_of_word : Word → Option LineKind
 line_of_word w = find (λ k. bytes_eq w (line_word k)) line_kinds
 
--- the lines that are read: the others wait for the world that does what they say
+-- the lines that are read
 abbrev pub line_built : LineKind → Bool
-line_built line.Ledger = false
-line_built line.Chance = false
-line_built line.Settle = false
-line_built line.Stop = false
 line_built k = true
 
--- ---- words of a choice
+-- ---- words of a choice: each is read
 abbrev pub is_later : Menu → Word → Bool
-is_later menu.Fate w = bytes_eq w (codes "lost") || bytes_eq w (codes "twice")
-is_later menu.SubKind w = bytes_eq w (codes "shared") || bytes_eq w (codes "failover") || bytes_eq w (codes "keyshared")
-is_later menu.Replication w = bytes_eq w (codes "replicated")
 is_later m w = false
 
 -- ---- any line

@@ -132,13 +132,10 @@ impl ActKind {
         }
     }
 
-    /// Whether its lines are read: the others wait for the client that does them.
+    /// Whether its lines are read: all are.
     pub(crate) fn is_built(self) -> bool
         ensures { result ≡ act_built self }
     {
-        !matches!(
-            self,
-            ActKind::Unsub | ActKind::Close | ActKind::CloseProducer | ActKind::Ping | ActKind::Move
-        )
+        true
     }
 }

@@ -69,17 +69,12 @@ fn sub_kind_of(word: &[u8]) -> Option<u32>
     }
 }
 
-/// Whether a word of a choice is not read yet.
+/// Whether a word of a choice is not read yet: all are read.
 pub(crate) fn is_later(menu: Menu, word: &[u8]) -> bool
     ensures { result ≡ is_later menu word.now }
 {
     match menu {
-        Menu::Fate => word == b"lost".as_slice() || word == b"twice".as_slice(),
-        Menu::SubKind => word == b"shared".as_slice()
-            || word == b"failover".as_slice()
-            || word == b"keyshared".as_slice(),
-        Menu::Replication => word == b"replicated".as_slice(),
-        Menu::Version | Menu::Start => false,
+        Menu::Version | Menu::Fate | Menu::Start | Menu::SubKind | Menu::Replication => false,
     }
 }
 

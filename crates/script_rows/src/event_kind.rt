@@ -126,14 +126,11 @@ impl EventKind {
         }
     }
 
-    /// Whether its lines are read: the others wait for the world that does them.
+    /// Whether its lines are read: all are.
     pub(crate) fn is_built(self) -> bool
         ensures { result ≡ event_built self }
     {
-        !matches!(
-            self,
-            EventKind::Drop | EventKind::Snap | EventKind::Seek | EventKind::Restart
-        )
+        true
     }
 
     /// Whether it may be halted: an event of a broker that it does by its own steps.

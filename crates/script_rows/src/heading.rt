@@ -11,8 +11,8 @@ use crate::kind::Kind;
 use crate::line_kind::LineKind;
 use crate::words::{LineWords, Words};
 
-/// Whether `halt` is read: it waits for the world that stops a broker.
-const IS_HALT_BUILT: bool = false;
+/// Whether `halt` is read.
+const IS_HALT_BUILT: bool = true;
 
 /// What the first words of a line are.
 #[derive(Debug, Drop)]

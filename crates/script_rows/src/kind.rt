@@ -39,7 +39,7 @@ impl Kind {
     }
 
     /// Whether its lines schedule a step.
-    pub(crate) fn schedules(self) -> bool
+    pub fn schedules(self) -> bool
         ensures { result ≡ schedules self }
     {
         matches!(

@@ -109,13 +109,10 @@ impl LineKind {
         }
     }
 
-    /// Whether its lines are read: the others wait for the world that does what they say.
+    /// Whether its lines are read: all are.
     pub(crate) fn is_built(self) -> bool
         ensures { result ≡ line_built self }
     {
-        !matches!(
-            self,
-            LineKind::Ledger | LineKind::Chance | LineKind::Settle | LineKind::Stop
-        )
+        true
     }
 }

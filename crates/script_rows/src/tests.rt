@@ -61,11 +61,21 @@ fn events_are_read_and_written_the_same(rt: HostRuntime) -> Result<(), Fail> {
         "get p",
         "reconnect p",
         "serve b p",
+        "drop b p",
         "reset t a b",
         "read t b a",
         "take t a b good",
-        "receipt t a b good",
+        "take t a b lost",
+        "receipt t a b twice",
+        "snap t b",
         "offer t b s",
+        "seek t a s 3:14",
+        "seek t a s end",
+        "restart t a",
+        "halt 0 serve a p",
+        "halt 8 take t a b lost",
+        "settle",
+        "stop",
     ] {
         let step = step(&rt, &names, rt.alloc(), line)?;
         let out = written(&names, rt.alloc(), &step)?;
@@ -75,105 +85,24 @@ fn events_are_read_and_written_the_same(rt: HostRuntime) -> Result<(), Fail> {
 }
 
 #[test]
-fn all_steps_have_their_words(rt: HostRuntime) -> Result<(), Fail> {
-    let names = some_names(rt.alloc())?;
-    let lost = Event::Take {
-        topic: 0,
-        source: 0,
-        target: 1,
-        fate: Fate::Lost,
-    };
-    let at = Some(Position {
-        ledger: 3,
-        entry: 14,
-    });
-    for (step, line) in [
-        (
-            Step::Plain(Event::Drop {
-                cluster: 1,
-                client: 0,
-            }),
-            "drop b p",
-        ),
-        (
-            Step::Plain(Event::Snap {
-                topic: 0,
-                cluster: 1,
-            }),
-            "snap t b",
-        ),
-        (
-            Step::Plain(Event::Restart {
-                topic: 0,
-                cluster: 0,
-            }),
-            "restart t a",
-        ),
-        (
-            Step::Plain(Event::Seek {
-                topic: 0,
-                cluster: 0,
-                sub: 0,
-                to: at,
-            }),
-            "seek t a s 3:14",
-        ),
-        (
-            Step::Plain(Event::Seek {
-                topic: 0,
-                cluster: 0,
-                sub: 0,
-                to: None,
-            }),
-            "seek t a s end",
-        ),
-        (Step::Halt(2, lost), "halt 2 take t a b lost"),
-        (Step::Settle, "settle"),
-        (Step::Stop, "stop"),
-    ] {
-        let out = written(&names, rt.alloc(), &step)?;
-        assert_eq!(rt; out.as_slice(), line.as_bytes(), "{line}");
-    }
-    Ok(())
-}
-
-#[test]
-fn rows_that_wait_are_unknown(rt: HostRuntime) -> Result<(), Fail> {
-    let names = some_names(rt.alloc())?;
-    for line in [
-        "drop a p",
-        "snap t a",
-        "restart t a",
-        "seek t a s end",
-        "halt 0 take t a b good",
-        "halt",
-        "settle",
-        "stop",
-        "ledger 10",
-        "chance 1 0 0 0",
-        "do p unsub",
-        "do p close",
-        "do p closep",
-        "do p ping",
-        "do p move b",
-        "do p sub s shared latest local",
-        "do p sub s exclusive latest replicated",
-        "do p sub s keyshared",
-        "take t a b lost",
-        "receipt x y z twice more",
-        "foo",
-        "do p foo",
-        "",
-    ] {
-        assert_eq!(rt; broken(&names, Stage::Do, line), 3, "{line}");
-    }
-    Ok(())
-}
-
-#[test]
 fn words_break_the_lowest_rule(rt: HostRuntime) -> Result<(), Fail> {
     let mut names = some_names(rt.alloc())?;
     for (stage, line, rule) in [
+        (Stage::Geo, "foo", 3),
+        (Stage::Geo, "", 3),
+        (Stage::Do, "do p foo", 3),
+        (Stage::Event, "halt", 4),
+        (Stage::Event, "halt 0 foo", 4),
+        (Stage::Event, "halt 0 go p", 4),
+        (Stage::Event, "halt 0 seek t a s end", 4),
+        (Stage::Event, "halt 9 snap t a", 4),
+        (Stage::Event, "seek t a s 3", 4),
+        (Stage::Setting, "ledger 0", 4),
+        (Stage::Setting, "ledger 1000000", 0),
+        (Stage::Setting, "chance 1 600 401 0", 4),
+        (Stage::Setting, "chance 1 600 400 1000", 0),
+        (Stage::Do, "do p move c", 15),
+        (Stage::Do, "do p sub s keyshared latest replicated", 0),
         (Stage::Setting, "geo 2", 4),
         (Stage::Setting, "geo 1", 6),
         (Stage::Geo, "geo 1", 7),

@@ -1,0 +1,10 @@
+pub mod Lines
+pub mod Naming
+pub mod Script
+pub mod Adding
+pub mod Rules
+pub mod Schedule
+pub mod Scenario
+pub mod Subs
+pub mod Drafts
+pub mod Kept

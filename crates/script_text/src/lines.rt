@@ -1,0 +1,141 @@
+//! The lines of a script.
+ghost use Rattle.std.specs.Prelude.{◌≡◌, ◌&&◌, false, [], ◌∷◌, MatchOption, IfNone, IfSome};
+ghost use Rattle.std.specs.List.{list_all};
+ghost use Rattle.script_text.specs.Drafts.{StartsWithStep, says_step};
+ghost use Rattle.script_text.specs.Lines.{lines_of, is_skipped, is_printable};
+
+use crate::steps::says_step;
+use script_names::cut_at;
+use std::marker::Model;
+
+/// A line of a script.
+#[derive(Debug, Drop)]
+pub(crate) struct TextLine<'a> {
+    bytes: &'a [u8],
+    ended: bool,
+}
+
+impl<'a> Model for TextLine<'a> {
+    ghost use Rattle.script_text.specs.Lines.{TextLine};
+
+    ghost Value = { TextLine };
+
+    ghost view = { λ l. record { bytes = l.bytes.now; ended = l.ended } };
+}
+
+impl<'a> TextLine<'a> {
+    /// The line's bytes, without its line feed.
+    pub(crate) fn bytes(&self) -> &'a [u8]
+        ensures { result.now ≡ self.now.bytes }
+    {
+        self.bytes
+    }
+
+    /// Whether it is empty or a comment.
+    pub(crate) fn is_skipped(&self) -> bool
+        ensures { result ≡ is_skipped self.now.bytes }
+    {
+        match self.bytes {
+            [] => true,
+            [first, ..] => *first == b'#',
+        }
+    }
+
+    /// Whether each of its bytes is printable, and a line feed ends it.
+    pub(crate) fn is_plain(&self) -> bool
+        ensures { result ≡ (list_all is_printable self.now.bytes && self.now.ended) }
+    {
+        self.is_printable() && self.ended
+    }
+
+    /// Whether each of its bytes is printable.
+    fn is_printable(&self) -> bool
+        ensures { result ≡ list_all is_printable self.now.bytes }
+    {
+        self.bytes.iter().all(|b| is_printable_byte(*b))
+    }
+}
+
+fn is_printable_byte(byte: u8) -> bool
+    ensures { result ≡ is_printable byte }
+{
+    matches!(byte, b' '..=b'~')
+}
+
+/// The lines of a script that are left.
+#[derive(Debug, Drop)]
+pub(crate) struct Lines<'a> {
+    rest: &'a [u8],
+}
+
+impl<'a> Model for Lines<'a> {
+    ghost use Rattle.std.specs.Prelude.{List};
+    ghost use Rattle.script_text.specs.Lines.{TextLine, lines_of};
+
+    ghost Value = { List TextLine };
+
+    ghost view = { λ l. lines_of l.rest.now };
+}
+
+impl<'a> Lines<'a> {
+    /// The lines of a script.
+    pub(crate) fn new(bytes: &'a [u8]) -> Lines<'a>
+        ensures { result ≡ lines_of bytes.now }
+    {
+        Lines { rest: bytes }
+    }
+
+    /// The next line.
+    #[tactic(auto, using(crate::proofs::Cuts::lines_cut, crate::proofs::Cuts::lines_uncut))]
+    pub(crate) fn next_line(&mut self) -> Option<TextLine<'a>>
+        ensures { MatchOption result (self.old ≡ []) (λ line. self.old ≡ line ∷ self.new) }
+    {
+        if self.rest.is_empty() {
+            return None;
+        }
+        match cut_at(self.rest, b'\n') {
+            Some((bytes, rest)) => {
+                self.rest = rest;
+                Some(TextLine { bytes, ended: true })
+            }
+            None => {
+                let bytes = self.rest;
+                self.rest = &[];
+                Some(TextLine {
+                    bytes,
+                    ended: false,
+                })
+            }
+        }
+    }
+
+    /// The same lines.
+    pub(crate) fn copied(&self) -> Lines<'a>
+        ensures { result ≡ self.now }
+    {
+        Lines { rest: self.rest }
+    }
+
+    /// The next line, unless it schedules a step.
+    pub(crate) fn next_declaration(&mut self) -> Option<TextLine<'a>>
+        ensures line { IfSome result (λ line. (self.old ≡ line ∷ self.new) × (says_step line ≡ false)) }
+        ensures none { IfNone result (self.new ≡ self.old) }
+        ensures end { IfNone result (StartsWithStep self.old) }
+    {
+        let before = self.copied();
+        match self.next_line() {
+            Some(line) => {
+                if says_step(&line) {
+                    *self = before;
+                    None
+                } else {
+                    Some(line)
+                }
+            }
+            None => {
+                *self = before;
+                None
+            }
+        }
+    }
+}

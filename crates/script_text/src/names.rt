@@ -1,0 +1,127 @@
+//! The names of a script in tables.
+ghost use Rattle.std.specs.Prelude.{◌≡◌, length, map, IfOk, OnOk};
+ghost use Rattle.std.specs.List.{list_any, range_with_len};
+ghost use Rattle.geo_base.specs.Scripted.{AreDistinct, is_move, is_produce};
+ghost use Rattle.geo_base.specs.Setup.{Declared, sub_names};
+ghost use Rattle.script_text.specs.Drafts.{IsDeclared};
+ghost use Rattle.script_text.specs.Naming.{member_of, names_of};
+
+use crate::client::ClientDecl;
+use crate::declarations::Declarations;
+use geo_base::name::Name;
+use geo_base::{Line, Memory};
+use script_names::NameTable;
+use script_rows::{Member, Names};
+use std::alloc::Global;
+
+impl Declarations {
+    /// What lines may name.
+    pub(crate) fn names(&self, alloc: Global) -> Result<Names<'_>, Memory>
+        ensures names { IfOk result (λ names. names ≡ names_of self.now.setup) }
+        ensures known { OnOk result (IsDeclared self.now.setup) }
+    {
+        let setup = self.setup();
+        let clusters = table_of(alloc, setup.clusters())?;
+        let topics = table_of(alloc, setup.topics())?;
+        let clients = client_table(alloc, setup.clients())?;
+        let members = members_of(alloc, setup.clients())?;
+        let subs = self.sub_tables(alloc)?;
+        Ok(Names::from_tables(clusters, topics, clients, members, subs))
+    }
+
+    /// The subscriptions of each topic.
+    #[tactic(auto, using(crate::proofs::Tables::one_table, crate::proofs::Tables::subs_apart))]
+    fn sub_tables(&self, alloc: Global) -> Result<Vec<NameTable<'_>>, Memory>
+        ensures { IfOk result (λ tables. tables.items
+            ≡ map (sub_names self.now.setup) (range_with_len 0 (length self.now.setup.topics))) }
+    {
+        let mut tables = Vec::new(alloc);
+        let count = self.setup().topics().len();
+        for topic in 0..count {
+            let table = table_of(alloc, self.sub_names(topic as u32))?;
+            match tables.push(table) {
+                Ok(()) => {}
+                Err(_) => return Err(Memory),
+            }
+        }
+        Ok(tables)
+    }
+}
+
+/// A table of names that are told apart.
+#[tactic(auto, using(crate::proofs::Tables::fresh, crate::proofs::Tables::one_taken))]
+fn table_of<K>(alloc: Global, names: &[Name<K>]) -> Result<NameTable<'_>, Memory>
+    requires apart { AreDistinct names.now }
+    ensures { IfOk result (λ table. table ≡ names.now) }
+{
+    let mut table = NameTable::new(alloc);
+    for name in names {
+        table.push(name.as_str().as_bytes())?;
+    }
+    Ok(table)
+}
+
+/// The names of clients that are told apart.
+#[tactic(auto, using(crate::proofs::Tables::fresh_after, crate::proofs::Tables::one_mapped))]
+fn client_table(alloc: Global, clients: &[ClientDecl]) -> Result<NameTable<'_>, Memory>
+    requires apart { AreDistinct (map (λ (d : Declared). d.name) clients.now) }
+    ensures { IfOk result (λ table. table ≡ map (λ (d : Declared). d.name) clients.now) }
+{
+    let mut table = NameTable::new(alloc);
+    for client in clients {
+        table.push(client.name().as_bytes())?;
+    }
+    Ok(table)
+}
+
+/// What is asked of clients.
+#[tactic(auto, using(crate::proofs::Tables::one_mapped))]
+fn members_of(alloc: Global, clients: &[ClientDecl]) -> Result<Vec<Member>, Memory>
+    ensures { IfOk result (λ members. members.items ≡ map member_of clients.now) }
+{
+    let mut members = Vec::new(alloc);
+    for client in clients {
+        match members.push(member_of(client)) {
+            Ok(()) => {}
+            Err(_) => return Err(Memory),
+        }
+    }
+    Ok(members)
+}
+
+/// What is asked of a client.
+fn member_of(client: &ClientDecl) -> Member
+    ensures { result ≡ member_of client.now }
+{
+    Member {
+        topic: client.topic(),
+        produces: has_produce(client.lines()),
+        moves: has_move(client.lines()),
+    }
+}
+
+/// Whether a line is `produce`.
+fn has_produce(lines: &[Line]) -> bool
+    ensures { result ≡ list_any is_produce lines.now }
+{
+    lines.iter().any(|line| is_produce(line))
+}
+
+/// Whether a line is a `move`.
+fn has_move(lines: &[Line]) -> bool
+    ensures { result ≡ list_any is_move lines.now }
+{
+    lines.iter().any(|line| is_move(line))
+}
+
+fn is_produce(line: &Line) -> bool
+    ensures { result ≡ is_produce line.now }
+{
+    matches!(line, Line::Produce)
+}
+
+fn is_move(line: &Line) -> bool
+    ensures { result ≡ is_move line.now }
+{
+    matches!(line, Line::Move { .. })
+}

@@ -1,0 +1,211 @@
+//! The reader of a script.
+ghost use Rattle.std.specs.Prelude.{◌≡◌, ℕ, ◌+◌, ◌<◌, ◌≤◌, ◌^◌, ◌⊎◌, length, All, Err, Ok, IfOk, IfSome, OnOk};
+ghost use Rattle.script_text.specs.Drafts.{Answers, Finishes, Goes, StartsWithStep, no_draft, so_far};
+ghost use Rattle.script_text.specs.Kept.{IsKept};
+ghost use Rattle.script_text.specs.Rules.{at_line, completed, script_from, script_of};
+ghost use Rattle.script_text.specs.Scenario.{IsChance, IsClient, IsScenario, IsStep};
+ghost use Rattle.script_text.specs.Script.{Script, no_line, no_steps};
+
+use crate::declarations::Declarations;
+use crate::draft::Draft;
+use crate::fault::ScriptFault;
+use crate::lines::Lines;
+use crate::scenario::Scenario;
+use crate::steps::Steps;
+use geo_base::Memory;
+use script_rows::{LineFault, Rule, Stage};
+use std::alloc::Global;
+
+/// Reads a script of fewer than 2^32 bytes.
+///
+/// `ScriptFault::Rule` comes exactly for a script with an offending line, and names the first one and the lowest rule
+/// that it breaks. `ScriptFault::Memory` may come at any script.
+pub fn read_script(alloc: Global, bytes: &[u8]) -> Result<Scenario, ScriptFault>
+    requires { length bytes.now < 2 ^ 32 }
+
+    // What is answered is what the script says.
+    ensures ok { IfOk result (λ scenario. script_of bytes.now ≡ Ok scenario) }
+    ensures rule { (line rule : ℕ) → result ≡ Err (ScriptFault.Rule line rule)
+        → script_of bytes.now ≡ Err (record { line = line; rule = rule }) }
+    ensures known { IfOk result IsScenario }
+
+    // What the script says is answered, unless memory is wanting.
+    ensures accepts { (script : Script) → script_of bytes.now ≡ Ok script
+        → (result ≡ Ok script) ⊎ (result ≡ Err ScriptFault.Memory) }
+    ensures refuses { (line rule : ℕ) → script_of bytes.now ≡ Err (record { line = line; rule = rule })
+        → (result ≡ Err (ScriptFault.Rule line rule)) ⊎ (result ≡ Err ScriptFault.Memory) }
+{
+    read(alloc, bytes)
+}
+
+/// The same, said at once.
+#[tactic(auto, using(crate::proofs::LineCounts::length_lines_of))]
+fn read(alloc: Global, bytes: &[u8]) -> Result<Scenario, ScriptFault>
+    requires { length bytes.now < 2 ^ 32 }
+    ensures answers { Answers result (script_of bytes.now) }
+    ensures known { IfOk result IsScenario }
+{
+    let mut lines = Lines::new(bytes);
+    read_lines(alloc, &mut lines)
+}
+
+/// The script of all lines.
+#[tactic(auto, using(crate::proofs::Answered::part_refused))]
+fn read_lines(alloc: Global, lines: &mut Lines<'_>) -> Result<Scenario, ScriptFault>
+    requires { length lines.old < 2 ^ 32 }
+    ensures answers { Answers result (script_from 1 no_line lines.old) }
+    ensures known { IfOk result IsScenario }
+{
+    let mut draft = Draft::new(alloc);
+    match draft.read_declarations(alloc, lines) {
+        Ok(number) => read_after(alloc, &mut draft, lines, number),
+        Err(fault) => Err(fault),
+    }
+}
+
+/// The script of a draft and of the lines that are left, of which the first has a number.
+#[tactic(auto, using(crate::proofs::Answered::unfinished))]
+fn read_after(
+    alloc: Global,
+    draft: &mut Draft<'_>,
+    lines: &Lines<'_>,
+    number: u64,
+) -> Result<Scenario, ScriptFault>
+    requires kept { IsKept number draft.old.declared }
+    requires starts { StartsWithStep lines.now }
+    requires few { number + length lines.now ≤ 2 ^ 32 }
+    ensures answers { Answers result (script_from number (so_far draft.old.declared) lines.now) }
+    ensures known { IfOk result IsScenario }
+{
+    match finished(alloc, draft, number) {
+        Ok(declared) => declared.read_rest(alloc, lines.copied(), number),
+        Err(fault) => Err(fault),
+    }
+}
+
+/// What the lines before line `number` declare.
+#[tactic(auto, using(crate::proofs::Accepted::kept_declared, crate::proofs::Accepted::kept_clients))]
+fn finished(alloc: Global, draft: &mut Draft<'_>, number: u64) -> Result<Declarations, ScriptFault>
+    requires kept { IsKept number draft.old.declared }
+    requires few { number ≤ 2 ^ 32 }
+    ensures declared { Finishes result draft.old.declared }
+    ensures clients { IfOk result (λ d. All IsClient d.setup.clients) }
+    ensures chance { IfOk result (λ d. IfSome d.chance IsChance) }
+{
+    match draft.finish(alloc) {
+        Ok(declared) => Ok(declared),
+        Err(Memory) => Err(ScriptFault::Memory),
+    }
+}
+
+impl<'a> Draft<'a> {
+    /// Takes in the lines before the first that schedules a step, and answers that line's number.
+    fn read_declarations(
+        &mut self,
+        alloc: Global,
+        lines: &mut Lines<'a>,
+    ) -> Result<u64, ScriptFault>
+        requires fresh { self.old ≡ no_draft }
+        requires few { length lines.old < 2 ^ 32 }
+        ensures goes { Goes result (script_from 1 no_line lines.old)
+            (λ number. script_from number (so_far self.new.declared) lines.new) }
+        ensures count { IfOk result (λ number. number + length lines.new ≤ length lines.old + 1) }
+        ensures kept { IfOk result (λ number. IsKept number self.new.declared) }
+        ensures starts { OnOk result (StartsWithStep lines.new) }
+    {
+        let mut number = 1;
+        while let Some(line) = lines.next_declaration() {
+            match self.read_line(alloc, &line) {
+                Ok(()) => number += 1,
+                Err(LineFault::Broken(rule)) => {
+                    return Err(ScriptFault::Rule {
+                        line: number,
+                        rule: rule.number(),
+                    });
+                }
+                Err(LineFault::Memory) => return Err(ScriptFault::Memory),
+            }
+        }
+        Ok(number)
+    }
+}
+
+impl Declarations {
+    /// The script of what is declared and of the lines that are left, of which the first has a number.
+    #[tactic(auto, using(crate::proofs::Answered::part_refused))]
+    fn read_rest(self, alloc: Global, lines: Lines<'_>, first: u64) -> Result<Scenario, ScriptFault>
+        requires clients { All IsClient self.setup.clients }
+        requires chance { IfSome self.chance IsChance }
+        requires starts { StartsWithStep lines }
+        requires few { first + length lines ≤ 2 ^ 32 }
+        ensures answers { Answers result (script_from first (so_far self) lines.entry) }
+        ensures known { IfOk result IsScenario }
+    {
+        let mut steps = Steps::new(alloc);
+        let end = self.read_steps(alloc, &mut steps, lines, first)?;
+        complete(self, steps, end)
+    }
+
+    /// Takes in the steps that lines schedule, of which the first has a number, and answers that of the line after the last.
+    fn read_steps(
+        &self,
+        alloc: Global,
+        steps: &mut Steps,
+        lines: Lines<'_>,
+        first: u64,
+    ) -> Result<u64, ScriptFault>
+        requires fresh { steps.old ≡ no_steps }
+        requires starts { StartsWithStep lines }
+        requires few { first + length lines ≤ 2 ^ 32 }
+        ensures goes { Goes result (script_from first (so_far self.now) lines.entry)
+            (λ number. at_line number (completed (record { declared = self.now; steps = steps.new })) Ok) }
+        ensures known { OnOk result (All (IsStep self.now.setup) steps.new.list) }
+    {
+        let names = match self.names(alloc) {
+            Ok(names) => names,
+            Err(Memory) => return Err(ScriptFault::Memory),
+        };
+        let mut lines = lines;
+        let mut progress = self.progress();
+        let mut number = first;
+        while let Some(line) = lines.next_line() {
+            match steps.read_line(alloc, progress, &names, number, &line) {
+                Ok(()) => {}
+                Err(LineFault::Broken(rule)) => {
+                    return Err(ScriptFault::Rule {
+                        line: number,
+                        rule: rule.number(),
+                    });
+                }
+                Err(LineFault::Memory) => return Err(ScriptFault::Memory),
+            }
+            progress.last = Stage::Event;
+            number += 1;
+        }
+        Ok(number)
+    }
+}
+
+/// The script that the lines make; `number` is that of the line after the last.
+#[tactic(auto, using(crate::proofs::Accepted::scenario_is))]
+fn complete(declared: Declarations, steps: Steps, number: u64) -> Result<Scenario, ScriptFault>
+    requires clients { All IsClient declared.setup.clients }
+    requires chance { IfSome declared.chance IsChance }
+    requires steps { All (IsStep declared.setup) steps.list }
+    ensures answers { Answers result (at_line number (completed (record { declared = declared; steps = steps })) Ok) }
+    ensures known { IfOk result IsScenario }
+{
+    if !declared.progress().begun {
+        return Err(ScriptFault::Rule {
+            line: number,
+            rule: Rule::Head.number(),
+        });
+    }
+    if declared.setup().topics().len() == 0 {
+        return Err(ScriptFault::Rule {
+            line: number,
+            rule: Rule::Lone.number(),
+        });
+    }
+    Ok(Scenario::new(declared, steps))
+}

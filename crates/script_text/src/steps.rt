@@ -1,0 +1,135 @@
+//! The steps that lines schedule.
+ghost use Rattle.std.specs.Prelude.{◌≡◌, Some, OnOk};
+ghost use Rattle.script_text.specs.Adding.{with_step};
+ghost use Rattle.script_text.specs.Drafts.{Judges, heads_step, says_step};
+ghost use Rattle.script_text.specs.Rules.{lowest, said_by};
+ghost use Rattle.script_text.specs.Schedule.{scheduled};
+ghost use Rattle.script_text.specs.Script.{no_steps};
+
+use crate::lines::TextLine;
+use geo_base::{Memory, Sequence, Step};
+use script_rows::{Heading, LineFault, Names, Progress, Rule, heading_of};
+use std::alloc::Global;
+use std::marker::Model;
+
+/// Steps in the order of their lines, and the number of the first one's line.
+#[derive(Debug, Drop)]
+pub(crate) struct Steps {
+    first: Option<u64>,
+    list: Sequence<Step>,
+}
+
+impl Model for Steps {
+    ghost use Rattle.script_text.specs.Script.{Steps};
+
+    ghost Value = { Steps };
+
+    ghost view = { λ s. record { first = s.first; list = s.list } };
+}
+
+impl Steps {
+    /// No step; takes no memory.
+    pub(crate) fn new(alloc: Global) -> Steps
+        ensures { result ≡ no_steps }
+    {
+        Steps {
+            first: None,
+            list: Sequence::new(alloc),
+        }
+    }
+
+    /// The number of the first one's line.
+    pub(crate) fn first(&self) -> Option<u64>
+        ensures { result ≡ self.now.first }
+    {
+        self.first
+    }
+
+    /// The steps.
+    pub(crate) fn as_slice(&self) -> &[Step]
+        ensures { result.now ≡ self.now.list }
+    {
+        self.list.as_slice()
+    }
+
+    /// The steps alone.
+    pub(crate) fn into_list(self) -> Sequence<Step>
+        ensures { result ≡ self.list }
+    {
+        self.list
+    }
+
+    /// Takes the step of a line in, unless the line breaks a rule.
+    pub(crate) fn read_line(
+        &mut self,
+        alloc: Global,
+        progress: Progress,
+        names: &Names<'_>,
+        number: u64,
+        line: &TextLine<'_>,
+    ) -> Result<(), LineFault>
+        ensures { Judges result self.new (scheduled number progress names.now self.old line.now) }
+    {
+        if line.is_skipped() {
+            return Ok(());
+        }
+        let heading = heading_of(line.bytes());
+        if let Some(rule) = lowest(progress, names, line, &heading) {
+            return Err(LineFault::Broken(rule));
+        }
+        if let Some(step) = names.step(alloc, &heading)? {
+            self.push(number, step)?;
+        }
+        Ok(())
+    }
+
+    /// One more step.
+    fn push(&mut self, number: u64, step: Step) -> Result<(), Memory>
+        ensures { OnOk result (self.new ≡ with_step number self.old (Some step)) }
+    {
+        self.list.push(step)?;
+        if self.first.is_none() {
+            self.first = Some(number);
+        }
+        Ok(())
+    }
+}
+
+/// The lowest rule that a line breaks.
+#[tactic(auto, using(crate::proofs::Lowest::not_plain, crate::proofs::Lowest::no_head, crate::proofs::Lowest::words_begun, crate::proofs::Lowest::words_head))]
+pub(crate) fn lowest(
+    progress: Progress,
+    names: &Names<'_>,
+    line: &TextLine<'_>,
+    heading: &Heading<'_>,
+) -> Option<Rule>
+    requires { heading.now ≡ said_by line.now }
+    ensures { result ≡ lowest progress names.now line.now }
+{
+    if !line.is_plain() {
+        return Some(Rule::Bytes);
+    }
+    if progress.begun {
+        return names.broken(progress, heading);
+    }
+    if line.bytes() == b"geo 1".as_slice() {
+        return names.broken(progress, heading);
+    }
+    Some(Rule::Head)
+}
+
+/// Whether a line schedules a step.
+pub(crate) fn says_step(line: &TextLine<'_>) -> bool
+    ensures { result ≡ says_step line.now }
+{
+    !line.is_skipped() && heads_step(&heading_of(line.bytes()))
+}
+
+fn heads_step(heading: &Heading<'_>) -> bool
+    ensures { result ≡ heads_step heading.now }
+{
+    match heading {
+        Heading::Headed(kind, _) => kind.schedules(),
+        Heading::Unknown | Heading::Formless => false,
+    }
+}
