@@ -1,0 +1,10 @@
+use Rattle.std.proofs.Common.{◌++◌, arith}
+use Rattle.geo_base.specs.Report.{entry_lines, with_line_feeds}
+use Rattle.report_lines.proofs.Added.{next_added}
+use Rattle.report_lines.proofs.entries.add_entries.Goals as goal
+
+pub loop-index-preserved : goal.loop-index-preserved
+loop-index-preserved g c =
+    let entries = g.S.EntryStore.entries c.args.store.now in let ledgers = g.S.EntryStore.ledgers c.args.store.now in let names = c.args.clusters.now in
+    next_added names ledgers entries c.loop-index.index c.loop-index.lines c.add_entry.new.lines (c.args.lines.now ++ with_line_feeds (entry_lines names ledgers 0 entries))
+    (omega arith) c.in_ok-add_entry.ensures c.loop-index.invariant

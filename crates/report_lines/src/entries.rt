@@ -1,0 +1,87 @@
+//! Lines behind lines.
+//!
+//! Where memory ends in the midst, it is left open what was appended, since a whole report is made apart from where it goes.
+ghost use Rattle.std.specs.Prelude.{◌≡◌, ◌≤◌, ◌<◌, ◌++◌, ◌∷◌, [], length, map, slice_get, Some, OnOk, string_bytes};
+ghost use Rattle.geo_base.specs.declared.entry.Entry.{Entry};
+ghost use Rattle.geo_base.specs.Report.{entry_line, entry_lines, got_line, with_line_feeds};
+ghost use Rattle.geo_base.specs.Topic.{position_at};
+
+use crate::lines::{entry_line, got_line};
+use geo_base::bytes::Blob;
+use geo_base::entry::Ident;
+use geo_base::entry_store::EntryStore;
+use geo_base::limits::CLUSTERS;
+use geo_base::memory::Memory;
+use geo_base::name::ClusterName;
+use geo_base::position::Position;
+use std::alloc::Global;
+
+/// Appends one more line.
+pub fn add(lines: &mut Blob, line: String) -> Result<(), Memory>
+    ensures { OnOk result (lines.new ≡ lines.old ++ string_bytes line) }
+{
+    lines.append(line.as_bytes())
+}
+
+/// Appends the entries of a topic, each at its position.
+pub fn add_entries<S: EntryStore>(
+    alloc: Global,
+    lines: &mut Blob,
+    clusters: &[ClusterName],
+    store: &S,
+) -> Result<(), Memory>
+    requires { length clusters.now ≤ CLUSTERS }
+    ensures { OnOk result (lines.new ≡ lines.old ++ with_line_feeds (entry_lines clusters.now (S.ledgers store.now) 0 (S.entries store.now))) }
+{
+    for index in 0..store.len() {
+        add_entry(alloc, lines, clusters, store, index)?;
+    }
+    Ok(())
+}
+
+/// The entry at an index.
+fn add_entry<S: EntryStore>(
+    alloc: Global,
+    lines: &mut Blob,
+    clusters: &[ClusterName],
+    store: &S,
+    index: usize,
+) -> Result<(), Memory>
+    requires few { length clusters.now ≤ CLUSTERS }
+    requires within { index < length (S.entries store.now) }
+    ensures { (e : Entry) → slice_get (S.entries store.now) index ≡ Some e → OnOk result (lines.new ≡ lines.old ++ (entry_line clusters.now (position_at (S.ledgers store.now) index) e ++ 10 ∷ [])) }
+{
+    let position = place(store, index);
+    match store.get(index) {
+        Some(entry) => add(lines, entry_line(alloc, clusters, position, entry)?),
+        None => unreachable!(),
+    }
+}
+
+/// The position of an index; 0:0 where nothing stands there.
+fn place<S: EntryStore>(store: &S, index: usize) -> Position
+    ensures { result ≡ position_at (S.ledgers store.now) index }
+{
+    match store.position_of(index) {
+        Some(position) => position,
+        None => Position {
+            ledger: 0,
+            entry: 0,
+        },
+    }
+}
+
+/// Appends the messages that a client got, in order of receipt.
+pub fn add_got(
+    alloc: Global,
+    lines: &mut Blob,
+    clusters: &[ClusterName],
+    got: &[Ident],
+) -> Result<(), Memory>
+    ensures { OnOk result (lines.new ≡ lines.old ++ with_line_feeds (map (got_line clusters.now) got.now)) }
+{
+    for ident in got {
+        add(lines, got_line(alloc, clusters, ident)?)?;
+    }
+    Ok(())
+}

@@ -1,0 +1,146 @@
+//! Each kind of line.
+ghost use Rattle.std.specs.Prelude.{◌≡◌, ◌≤◌, ◌++◌, ◌∷◌, [], length, codes, decimal, string_bytes, IfOk};
+ghost use Rattle.geo_base.specs.Report.{entry_line, got_line, shown_kind, shown_replicated, shown_seeks, shown_state, words};
+
+use crate::words::{
+    shown_content, shown_done, shown_ident, shown_kind, shown_position, shown_replicated,
+    shown_state, shown_targets,
+};
+use geo_base::entry::{Entry, Ident};
+use geo_base::frame::SubKind;
+use geo_base::limits::CLUSTERS;
+use geo_base::memory::Memory;
+use geo_base::name::ClusterName;
+use geo_base::position::Position;
+use geo_base::sender::SenderState;
+use std::alloc::Global;
+
+/// What a subscription's line shows of it. `mark` is its mark-delete, `backlog` counts messages, `seeks` how often it was sought.
+#[derive(Clone, Copy, Debug, Drop)]
+pub struct SubShown {
+    pub kind: SubKind,
+    pub is_replicated: bool,
+    pub mark: u64,
+    pub backlog: u64,
+    pub seeks: u64,
+}
+
+/// What a client has done of its lines, and what came: receipts, receipts of duplicates, errors.
+#[derive(Clone, Copy, Debug, Drop)]
+pub struct ClientCounts {
+    pub done: usize,
+    pub lines: usize,
+    pub receipts: u64,
+    pub duplicates: u64,
+    pub errors: u64,
+}
+
+/// The counts of a run.
+pub fn head_line(alloc: Global, events: u64, idle: u64, rounds: u64) -> Result<String, Memory>
+    ensures { IfOk result (λ line. string_bytes line ≡ words (codes "events" ∷ decimal events ∷ codes "idle" ∷ decimal idle ∷ codes "rounds" ∷ decimal rounds ∷ []) ++ 10 ∷ []) }
+{
+    Ok(format!(in alloc; "events {events} idle {idle} rounds {rounds}\n")?)
+}
+
+/// A topic at a cluster.
+pub fn place_line(alloc: Global, topic: &str, cluster: &str) -> Result<String, Memory>
+    ensures { IfOk result (λ line. string_bytes line ≡ words (codes "topic" ∷ topic.now ∷ codes "at" ∷ cluster.now ∷ []) ++ 10 ∷ []) }
+{
+    Ok(format!(in alloc; "topic {topic} at {cluster}\n")?)
+}
+
+/// An entry at its position: a message, a marker, or a marker that nobody reads.
+#[tactic(auto, using(crate::proofs::Wholes::entry_whole))]
+pub fn entry_line(
+    alloc: Global,
+    clusters: &[ClusterName],
+    position: Position,
+    entry: &Entry,
+) -> Result<String, Memory>
+    requires { length clusters.now ≤ CLUSTERS }
+    ensures { IfOk result (λ line. string_bytes line ≡ entry_line clusters.now position entry.now ++ 10 ∷ []) }
+{
+    let place = shown_position(alloc, position)?;
+    let ident = shown_ident(alloc, clusters, &entry.ident)?;
+    let to = shown_targets(alloc, clusters, entry.to)?;
+    let content = shown_content(alloc, clusters, entry)?;
+    Ok(format!(in alloc; "entry {place} {ident} {to} {content}\n")?)
+}
+
+/// The sender to a cluster.
+pub fn sender_line(
+    alloc: Global,
+    name: &str,
+    session: u64,
+    state: SenderState,
+    mark: u64,
+) -> Result<String, Memory>
+    ensures { IfOk result (λ line. string_bytes line ≡ words (codes "sender" ∷ name.now ∷ codes "session" ∷ decimal session ∷ shown_state state ∷ codes "mark" ∷ decimal mark ∷ []) ++ 10 ∷ []) }
+{
+    let state = shown_state(state);
+    Ok(format!(in alloc; "sender {name} session {session} {state} mark {mark}\n")?)
+}
+
+/// A subscription; its seeks are shown where there were any.
+pub fn sub_line(alloc: Global, name: &str, sub: &SubShown) -> Result<String, Memory>
+    ensures { IfOk result (λ line. string_bytes line ≡ words (codes "sub" ∷ name.now ∷ shown_kind sub.now.kind ∷ shown_replicated sub.now.is_replicated
+        ∷ codes "mark" ∷ decimal sub.now.mark ∷ codes "backlog" ∷ decimal sub.now.backlog ∷ shown_seeks sub.now.seeks) ++ 10 ∷ []) }
+{
+    if sub.seeks > 0 {
+        sought_line(alloc, name, sub)
+    } else {
+        unsought_line(alloc, name, sub)
+    }
+}
+
+fn unsought_line(alloc: Global, name: &str, sub: &SubShown) -> Result<String, Memory>
+    ensures { IfOk result (λ line. string_bytes line ≡ words (codes "sub" ∷ name.now ∷ shown_kind sub.now.kind ∷ shown_replicated sub.now.is_replicated
+        ∷ codes "mark" ∷ decimal sub.now.mark ∷ codes "backlog" ∷ decimal sub.now.backlog ∷ []) ++ 10 ∷ []) }
+{
+    let kind = shown_kind(sub.kind);
+    let replicated = shown_replicated(sub.is_replicated);
+    let mark = sub.mark;
+    let backlog = sub.backlog;
+    Ok(format!(in alloc; "sub {name} {kind} {replicated} mark {mark} backlog {backlog}\n")?)
+}
+
+fn sought_line(alloc: Global, name: &str, sub: &SubShown) -> Result<String, Memory>
+    ensures { IfOk result (λ line. string_bytes line ≡ words (codes "sub" ∷ name.now ∷ shown_kind sub.now.kind ∷ shown_replicated sub.now.is_replicated
+        ∷ codes "mark" ∷ decimal sub.now.mark ∷ codes "backlog" ∷ decimal sub.now.backlog ∷ codes "seeks" ∷ decimal sub.now.seeks ∷ []) ++ 10 ∷ []) }
+{
+    let kind = shown_kind(sub.kind);
+    let replicated = shown_replicated(sub.is_replicated);
+    let mark = sub.mark;
+    let backlog = sub.backlog;
+    let seeks = sub.seeks;
+    Ok(format!(in alloc;
+        "sub {name} {kind} {replicated} mark {mark} backlog {backlog} seeks {seeks}\n"
+    )?)
+}
+
+/// A client at its cluster.
+pub fn client_line(
+    alloc: Global,
+    name: &str,
+    cluster: &str,
+    counts: &ClientCounts,
+) -> Result<String, Memory>
+    ensures { IfOk result (λ line. string_bytes line ≡ words (codes "client" ∷ name.now ∷ codes "at" ∷ cluster.now ∷ codes "lines" ∷ (decimal counts.now.done ++ (47 ∷ decimal counts.now.lines))
+        ∷ codes "receipts" ∷ decimal counts.now.receipts ∷ codes "duplicates" ∷ decimal counts.now.duplicates ∷ codes "errors" ∷ decimal counts.now.errors ∷ []) ++ 10 ∷ []) }
+{
+    let done = shown_done(alloc, counts.done, counts.lines)?;
+    let receipts = counts.receipts;
+    let duplicates = counts.duplicates;
+    let errors = counts.errors;
+    Ok(format!(in alloc;
+        "client {name} at {cluster} lines {done} receipts {receipts} duplicates {duplicates} errors {errors}\n"
+    )?)
+}
+
+/// A message that a client got.
+pub fn got_line(alloc: Global, clusters: &[ClusterName], ident: &Ident) -> Result<String, Memory>
+    ensures { IfOk result (λ line. string_bytes line ≡ got_line clusters.now ident.now ++ 10 ∷ []) }
+{
+    let ident = shown_ident(alloc, clusters, ident)?;
+    Ok(format!(in alloc; "got {ident}\n")?)
+}
