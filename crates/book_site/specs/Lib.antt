@@ -1,0 +1,3 @@
+pub mod Storable
+pub mod Prepared
+pub mod Updates
