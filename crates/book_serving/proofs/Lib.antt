@@ -1,0 +1,6 @@
+pub mod Shapes
+pub mod Sessions
+pub mod Producers
+pub mod Joins
+pub mod Acks
+pub mod Commands

@@ -1,0 +1,4 @@
+pub mod Serving
+pub mod Producing
+pub mod Subscribing
+pub mod Acknowledging
