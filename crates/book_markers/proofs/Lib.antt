@@ -1,0 +1,5 @@
+pub mod Plans
+pub mod Entries
+pub mod Heard
+pub mod Sizes
+pub mod Passes
