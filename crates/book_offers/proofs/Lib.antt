@@ -1,0 +1,4 @@
+pub mod Shapes
+pub mod Offers
+pub mod Seeks
+pub mod Cuts
