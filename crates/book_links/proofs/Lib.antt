@@ -1,0 +1,9 @@
+pub mod Again
+pub mod Answered
+pub mod Plans
+pub mod Receipts
+pub mod Resets
+pub mod Small
+pub mod Storable
+pub mod Takes
+pub mod Twice
