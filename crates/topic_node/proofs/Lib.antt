@@ -1,0 +1,9 @@
+pub mod Keeps
+pub mod ReadFrames
+pub mod Inputs
+pub mod Ready
+pub mod Restarts
+pub mod Halting
+pub mod Prepares
+pub mod Acts
+pub mod Planned
