@@ -1,8 +1,8 @@
 //! A broker, which owns one topic at one cluster. Each event is prepared, which takes all its memory and changes nothing, and
 //! then committed, which cannot fail.
 //!
-//! Built so far are the events of publishing, of replication, and of subscriptions of kind Exclusive that are not replicated.
-//! Entries are messages; the types of entries and packets say so.
+//! It has the events of publishing, of replication, and of subscriptions of kind Exclusive that are not replicated. Entries are
+//! messages; the types of entries and packets say so.
 #![tactic(auto)]
 
 pub mod ack_room;
