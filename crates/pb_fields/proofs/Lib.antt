@@ -7,3 +7,4 @@ pub mod Messages
 pub mod Nested
 pub mod LastValues
 pub mod Parts
+pub mod Order

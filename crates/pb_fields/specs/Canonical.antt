@@ -1,5 +1,5 @@
 -- The canonical text of a list of fields: the fields in their order, each varint as short as can be.
-use Rattle.std.specs.Prelude.{◌≡◌, ℕ, zero, suc, ◌+◌, ◌*◌, ◌/◌, ◌%◌, List, [], ◌∷◌, ◌++◌, Option, Some, None, length, take, nat_lt, if◌then◌else◌}
+use Rattle.std.specs.Prelude.{◌≡◌, ℕ, zero, suc, ◌+◌, ◌*◌, ◌/◌, ◌%◌, ◌≤◌, List, [], ◌∷◌, ◌++◌, Option, Some, None, length, take, nat_lt, if◌then◌else◌}
 use Rattle.std.specs.List.{flat_map}
 use Rattle.std.specs.Int.{w32, w64, to_le_bytes}
 use Rattle.pb_fields.specs.declared.field.Field.{Field}
@@ -32,6 +32,12 @@ text fs = flat_map field_text fs
 abbrev pub optional : {X : Type 0} → (X → Field) → Option X → List Field
 optional make None = []
 optional make (Some x) = make x ∷ []
+
+-- The fields stand by ascending number, from low on; those of a repeated field, which have one number, side by side
+-- (Protocol Buffers encoding, "Field Order", leaves the order to the writer; this one is own).
+abbrev pub AscendFrom : ℕ → List Field → Type 0
+AscendFrom low [] = Unit {0}
+AscendFrom low (f ∷ fs) = (low ≤ f.number) × AscendFrom f.number fs
 
 -- new begins as old
 abbrev pub Extends : List ℕ → List ℕ → Type 0

@@ -5,3 +5,4 @@ pub mod Faults
 pub mod Canonical
 pub mod Message
 pub mod Embedded
+pub mod Printed

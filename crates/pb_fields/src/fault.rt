@@ -7,7 +7,8 @@ ghost use Rattle.pb_fields.specs.Faults.{fault_at};
 
 use crate::memory::Memory;
 use std::alloc::{AllocError, AllocFailed};
-use thiserror::Error;
+use std::error::Error;
+use std::fmt;
 
 /// Why the bytes at a place are no field. A field is judged in this order: its tag as a varint, the tag's wire
 /// type, its number, its value; and in a value its length, as a varint, before its content.
@@ -62,24 +63,38 @@ impl From<Memory> for FieldError {
 }
 
 /// Why bytes were not read: the first field without a reading, `at` being the offset of its tag's first byte.
-#[derive(Clone, Copy, Debug, PartialEq, Eq, Error)]
+#[derive(Clone, Copy, Debug, PartialEq, Eq)]
 pub enum PbFault {
     /// The bytes end within the field.
-    #[error("Truncated(1, {at})")]
     Truncated { at: usize },
     /// A varint is 2^64 or more or has more than ten bytes, or the tag is 2^32 or more.
-    #[error("Varint(2, {at})")]
     Varint { at: usize },
     /// The wire type is 3, 4, 6 or 7.
-    #[error("WireType(3, {at})")]
     WireType { at: usize },
     /// The field's number is 0.
-    #[error("FieldZero(4, {at})")]
     FieldZero { at: usize },
     /// No memory was left. It says nothing of the bytes.
-    #[error("Memory")]
     Memory,
 }
+
+impl fmt::Display for PbFault {
+    ghost use Rattle.std.specs.Prelude.{Some};
+    ghost use Rattle.pb_fields.specs.Printed.{pb_fault_text};
+
+    ghost output = { λ fault. Some (pb_fault_text fault) };
+
+    fn fmt<W: fmt::Write>(&self, f: &mut fmt::Formatter<W>) -> fmt::Result {
+        match self {
+            PbFault::Truncated { at } => write!(f, "Truncated(1, {at})"),
+            PbFault::Varint { at } => write!(f, "Varint(2, {at})"),
+            PbFault::WireType { at } => write!(f, "WireType(3, {at})"),
+            PbFault::FieldZero { at } => write!(f, "FieldZero(4, {at})"),
+            PbFault::Memory => write!(f, "Memory"),
+        }
+    }
+}
+
+impl Error for PbFault {}
 
 impl From<AllocError> for PbFault {
     ghost from_gives = { λ _ e. e ≡ pb.Memory };

@@ -118,11 +118,6 @@ pub struct Field {
     pub value: Value,
 }
 
-impl Field {
-    /// The greatest number of a field: 29 bits, since a tag has 32 and its type takes three.
-    pub const MAX_NUMBER: u32 = 536_870_911;
-}
-
 /// Fields in order, each with a number from 1 to 536870911.
 #[derive(Debug, Drop)]
 pub struct FieldList {

@@ -18,7 +18,8 @@ pub use crate::values::{
     required_text, required_varint,
 };
 use std::alloc::Global;
-use thiserror::Error;
+use std::error::Error;
+use std::fmt;
 
 /// What the values of a field are.
 #[derive(Clone, Copy, Debug, PartialEq, Eq)]
@@ -56,24 +57,38 @@ pub struct Row {
 
 /// Why bytes are no message of a table, in the order of judgement: first the bytes as fields; then the fields in
 /// their order; then what is missing.
-#[derive(Clone, Copy, Debug, PartialEq, Eq, Error)]
+#[derive(Clone, Copy, Debug, PartialEq, Eq)]
 pub enum MessageFault {
     /// The bytes are no fields.
-    #[error("Pb({0})")]
     Pb(PbFault),
     /// A field of this number has another wire type than its row.
-    #[error("WrongWire({0})")]
     WrongWire(u32),
     /// A text of this number is not UTF-8.
-    #[error("NotText({0})")]
     NotText(u32),
     /// No field has this required number, and the lower ones that are required are there.
-    #[error("Missing({0})")]
     Missing(u32),
     /// No memory was left. It says nothing of the bytes.
-    #[error("Memory")]
     Memory,
 }
+
+impl fmt::Display for MessageFault {
+    ghost use Rattle.std.specs.Prelude.{Some};
+    ghost use Rattle.pb_fields.specs.Printed.{message_fault_text};
+
+    ghost output = { λ fault. Some (message_fault_text fault) };
+
+    fn fmt<W: fmt::Write>(&self, f: &mut fmt::Formatter<W>) -> fmt::Result {
+        match self {
+            MessageFault::Pb(why) => write!(f, "Pb({why})"),
+            MessageFault::WrongWire(number) => write!(f, "WrongWire({number})"),
+            MessageFault::NotText(number) => write!(f, "NotText({number})"),
+            MessageFault::Missing(number) => write!(f, "Missing({number})"),
+            MessageFault::Memory => write!(f, "Memory"),
+        }
+    }
+}
+
+impl Error for MessageFault {}
 
 impl From<PbFault> for MessageFault {
     ghost from_gives = { λ from e. e ≡ pb_fault from };
@@ -83,6 +98,16 @@ impl From<PbFault> for MessageFault {
             PbFault::Memory => MessageFault::Memory,
             _ => MessageFault::Pb(fault),
         }
+    }
+}
+
+impl From<geo_base::Memory> for MessageFault {
+    ghost use Rattle.pb_fields.specs.declared.message.MessageFault.TheVariants as fault;
+
+    ghost from_gives = { λ _ e. e ≡ fault.Memory };
+
+    fn from(_error: geo_base::Memory) -> MessageFault {
+        MessageFault::Memory
     }
 }
 
