@@ -8,7 +8,7 @@ use Rattle.pb_fields.specs.Field.{IsField}
 use Rattle.pb_fields.specs.Message.{IsUnknown}
 use Rattle.pb_fields.proofs.Parts.{AllByRecursion-append}
 use Rattle.message_meta.specs.declared.known.KnownMeta.{KnownMeta}
-use Rattle.message_meta.specs.declared.table.TheConstants.{ROWS}
+use Rattle.message_meta.specs.Table.{rows}
 use Rattle.message_meta.specs.Metadata.{Metadata, IsMetaText}
 use Rattle.message_meta.specs.Canonical.{IsMetadata, canonical_fields, optional_fields, required_fields}
 use Rattle.message_meta.specs.Known.{IsJoinedText, IsKnown, IsRest, joined, known_fields}
@@ -20,7 +20,7 @@ joined_text k fields =
     let o : List Field = optional_fields (joined k []) in
     sym (flat_map-append field_text (r ++ o) fields) ∙ ap (λ (fs : List Field). text fs) (append_assoc r o fields)
 
-joined_metadata : (k : KnownMeta) (fields : List Field) → IsKnown k → AllByRecursion IsField fields → AllByRecursion (IsUnknown ROWS) fields → IsMetadata (joined k fields)
+joined_metadata : (k : KnownMeta) (fields : List Field) → IsKnown k → AllByRecursion IsField fields → AllByRecursion (IsUnknown rows) fields → IsMetadata (joined k fields)
 joined_metadata k fields h writable unknown = record {
   fields = AllByRecursion-append IsField (required_fields (joined k [])) (optional_fields (joined k []) ++ fields) h.required (AllByRecursion-append IsField (optional_fields (joined k [])) fields h.others writable);
   producer = h.producer;
@@ -33,7 +33,7 @@ joined_metadata k fields h writable unknown = record {
 pub same_text : (k : KnownMeta) (m : Metadata) → joined k m.rest ≡ m → text (known_fields k) ++ text m.rest ≡ text (canonical_fields m)
 same_text k m same = joined_text k m.rest ∙ ap (λ (x : Metadata). text (canonical_fields x)) same
 
-pub same_metadata : (k : KnownMeta) (m : Metadata) → joined k m.rest ≡ m → IsKnown k → AllByRecursion IsField m.rest → AllByRecursion (IsUnknown ROWS) m.rest → IsMetadata m
+pub same_metadata : (k : KnownMeta) (m : Metadata) → joined k m.rest ≡ m → IsKnown k → AllByRecursion IsField m.rest → AllByRecursion (IsUnknown rows) m.rest → IsMetadata m
 same_metadata k m same h writable unknown = subst (λ (x : Metadata). IsMetadata x) same (joined_metadata k m.rest h writable unknown)
 
 pub joined_is : (k : KnownMeta) (rest bytes : List ℕ) → IsRest rest → IsKnown k → bytes ≡ text (known_fields k) ++ rest → IsJoinedText k rest bytes

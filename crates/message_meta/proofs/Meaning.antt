@@ -11,7 +11,7 @@ use Rattle.pb_fields.specs.Faults.{Answers}
 use Rattle.pb_fields.specs.Message.{WrongMessage, IsWrongOrMemory}
 use Rattle.pb_fields.proofs.Unique.{text_one}
 use Rattle.pb_fields.proofs.Messages.{message_one, message_sound}
-use Rattle.message_meta.specs.declared.table.TheConstants.{ROWS}
+use Rattle.message_meta.specs.Table.{rows}
 use Rattle.message_meta.specs.Metadata.{Metadata, IsMeta, IsMetaText}
 
 same_bytes : (a b : List ℕ) → ◌≡◌ {A = Option Value} (Some (value.Bytes a)) (Some (value.Bytes b)) → a ≡ b
@@ -60,18 +60,18 @@ meta_one fs m n h k =
 pub meta_text_one : (bytes : List ℕ) (m n : Metadata) → IsMetaText bytes m → IsMetaText bytes n → m ≡ n
 meta_text_one bytes m n h k = meta_one k.fields m n (subst (λ (fs : List Field). IsMeta fs m) (text_one h.text k.text) h.means) k.means
 
-pub only : (bytes : List ℕ) (r : Result Metadata MessageFault) → IfOk r (IsMetaText bytes) → IfErr r (IsWrongOrMemory (WrongMessage ROWS bytes)) → (m : Metadata) → IsMetaText bytes m → Answers fault.Memory r (Ok m)
+pub only : (bytes : List ℕ) (r : Result Metadata MessageFault) → IfOk r (IsMetaText bytes) → IfErr r (IsWrongOrMemory (WrongMessage rows bytes)) → (m : Metadata) → IsMetaText bytes m → Answers fault.Memory r (Ok m)
 only bytes (Ok n) found wrong m h = inr (let same = meta_text_one bytes m n h found in cc)
 only bytes (Err fault.Memory) found wrong m h = inl refl
-only bytes (Err (fault.Pb x)) found wrong m h = absurd (message_sound ROWS bytes h.fields (fault.Pb x) h.text h.means.message wrong)
-only bytes (Err (fault.WrongWire x)) found wrong m h = absurd (message_sound ROWS bytes h.fields (fault.WrongWire x) h.text h.means.message wrong)
-only bytes (Err (fault.NotText x)) found wrong m h = absurd (message_sound ROWS bytes h.fields (fault.NotText x) h.text h.means.message wrong)
-only bytes (Err (fault.Missing x)) found wrong m h = absurd (message_sound ROWS bytes h.fields (fault.Missing x) h.text h.means.message wrong)
+only bytes (Err (fault.Pb x)) found wrong m h = absurd (message_sound rows bytes h.fields (fault.Pb x) h.text h.means.message wrong)
+only bytes (Err (fault.WrongWire x)) found wrong m h = absurd (message_sound rows bytes h.fields (fault.WrongWire x) h.text h.means.message wrong)
+only bytes (Err (fault.NotText x)) found wrong m h = absurd (message_sound rows bytes h.fields (fault.NotText x) h.text h.means.message wrong)
+only bytes (Err (fault.Missing x)) found wrong m h = absurd (message_sound rows bytes h.fields (fault.Missing x) h.text h.means.message wrong)
 
-pub refused : (bytes : List ℕ) (r : Result Metadata MessageFault) → IfOk r (IsMetaText bytes) → IfErr r (IsWrongOrMemory (WrongMessage ROWS bytes)) → (e : MessageFault) → WrongMessage ROWS bytes e → Answers fault.Memory r (Err e)
-refused bytes (Ok m) found wrong e h = absurd (message_sound ROWS bytes found.fields e found.text found.means.message h)
+pub refused : (bytes : List ℕ) (r : Result Metadata MessageFault) → IfOk r (IsMetaText bytes) → IfErr r (IsWrongOrMemory (WrongMessage rows bytes)) → (e : MessageFault) → WrongMessage rows bytes e → Answers fault.Memory r (Err e)
+refused bytes (Ok m) found wrong e h = absurd (message_sound rows bytes found.fields e found.text found.means.message h)
 refused bytes (Err fault.Memory) found wrong e h = inl refl
-refused bytes (Err (fault.Pb x)) found wrong e h = inr (let same = message_one ROWS bytes (fault.Pb x) e wrong h in cc)
-refused bytes (Err (fault.WrongWire x)) found wrong e h = inr (let same = message_one ROWS bytes (fault.WrongWire x) e wrong h in cc)
-refused bytes (Err (fault.NotText x)) found wrong e h = inr (let same = message_one ROWS bytes (fault.NotText x) e wrong h in cc)
-refused bytes (Err (fault.Missing x)) found wrong e h = inr (let same = message_one ROWS bytes (fault.Missing x) e wrong h in cc)
+refused bytes (Err (fault.Pb x)) found wrong e h = inr (let same = message_one rows bytes (fault.Pb x) e wrong h in cc)
+refused bytes (Err (fault.WrongWire x)) found wrong e h = inr (let same = message_one rows bytes (fault.WrongWire x) e wrong h in cc)
+refused bytes (Err (fault.NotText x)) found wrong e h = inr (let same = message_one rows bytes (fault.NotText x) e wrong h in cc)
+refused bytes (Err (fault.Missing x)) found wrong e h = inr (let same = message_one rows bytes (fault.Missing x) e wrong h in cc)

@@ -5,16 +5,16 @@ use Rattle.pb_fields.specs.declared.field.Field.{Field}
 use Rattle.pb_fields.specs.Field.{varint_field, bytes_field, IsField}
 use Rattle.pb_fields.specs.Canonical.{optional}
 use Rattle.pb_fields.specs.Message.{IsUnknown}
-use Rattle.message_meta.specs.declared.table.TheConstants.{ROWS, PRODUCER_NAME, SEQUENCE_ID, PUBLISH_TIME, REPLICATED_FROM, PARTITION_KEY, REPLICATE_TO, MARKER_TYPE}
+use Rattle.message_meta.specs.Table as field
 use Rattle.message_meta.specs.Metadata.{Metadata}
 
 -- the fields that are always there
 abbrev pub required_fields : Metadata → List Field
-required_fields m = bytes_field PRODUCER_NAME m.producer ∷ varint_field SEQUENCE_ID m.seq ∷ varint_field PUBLISH_TIME m.publish_time ∷ []
+required_fields m = bytes_field field.producer_name m.producer ∷ varint_field field.sequence_id m.seq ∷ varint_field field.publish_time m.publish_time ∷ []
 
 -- the known fields that need not be there
 abbrev pub optional_fields : Metadata → List Field
-optional_fields m = optional (bytes_field REPLICATED_FROM) m.replicated_from ++ (optional (bytes_field PARTITION_KEY) m.key ++ (map (bytes_field REPLICATE_TO) m.replicate_to ++ optional (varint_field MARKER_TYPE) m.marker))
+optional_fields m = optional (bytes_field field.replicated_from) m.replicated_from ++ (optional (bytes_field field.partition_key) m.key ++ (map (bytes_field field.replicate_to) m.replicate_to ++ optional (varint_field field.marker_type) m.marker))
 
 -- The known fields by ascending number, a list in its order; then the unknown ones in their order (own).
 abbrev pub canonical_fields : Metadata → List Field
@@ -28,4 +28,4 @@ pub record IsMetadata (m : Metadata) : Type 0 where
   pub replicated_from : IfSome m.replicated_from IsUtf8
   pub key : IfSome m.key IsUtf8
   pub replicate_to : AllByRecursion IsUtf8 m.replicate_to
-  pub rest : AllByRecursion (IsUnknown ROWS) m.rest
+  pub rest : AllByRecursion (IsUnknown field.rows) m.rest

@@ -7,7 +7,7 @@ use Rattle.pb_fields.specs.Canonical.{text}
 use Rattle.pb_fields.specs.Field.{IsField}
 use Rattle.pb_fields.specs.Message.{IsUnknown}
 use Rattle.message_meta.specs.declared.known.KnownMeta.{KnownMeta}
-use Rattle.message_meta.specs.declared.table.TheConstants.{ROWS}
+use Rattle.message_meta.specs.Table.{rows}
 use Rattle.message_meta.specs.Metadata.{Metadata, IsMetaText}
 use Rattle.message_meta.specs.Canonical.{canonical_fields, optional_fields, required_fields}
 
@@ -16,7 +16,7 @@ pub record IsRest (bytes : List ℕ) : Type 0 where
   pub fields : List Field
   pub is : bytes ≡ text fields
   pub writable : AllByRecursion IsField fields
-  pub unknown : AllByRecursion (IsUnknown ROWS) fields
+  pub unknown : AllByRecursion (IsUnknown rows) fields
 
 -- the metadata of known fields, without where they lie in memory, and of the others
 abbrev pub joined : KnownMeta → List Field → Metadata

@@ -1,3 +1,4 @@
+pub mod Table
 pub mod Metadata
 pub mod Canonical
 pub mod Known

@@ -5,7 +5,7 @@ use Rattle.pb_fields.specs.declared.field.Field.{Field}
 use Rattle.pb_fields.specs.declared.field.Value.TheVariants as value
 use Rattle.pb_fields.specs.Text.{IsText}
 use Rattle.pb_fields.specs.Message.{IsMessage, values, last_value, unknown}
-use Rattle.message_meta.specs.declared.table.TheConstants.{ROWS, PRODUCER_NAME, SEQUENCE_ID, PUBLISH_TIME, REPLICATED_FROM, PARTITION_KEY, REPLICATE_TO, MARKER_TYPE}
+use Rattle.message_meta.specs.Table as field
 
 pub record Metadata : Type 0 where
   pub producer : List ℕ
@@ -20,15 +20,15 @@ pub record Metadata : Type 0 where
 -- What fields say as metadata. A field that is not repeated counts by its last value; fields that the table does not
 -- name are kept in their order (own).
 pub record IsMeta (fields : List Field) (m : Metadata) : Type 0 where
-  pub message : IsMessage ROWS fields
-  pub producer_name : last_value PRODUCER_NAME fields ≡ Some (value.Bytes m.producer)
-  pub sequence_id : last_value SEQUENCE_ID fields ≡ Some (value.Varint m.seq)
-  pub publish_time : last_value PUBLISH_TIME fields ≡ Some (value.Varint m.publish_time)
-  pub replicated_from : last_value REPLICATED_FROM fields ≡ option_map value.Bytes m.replicated_from
-  pub partition_key : last_value PARTITION_KEY fields ≡ option_map value.Bytes m.key
-  pub replicate_to : values REPLICATE_TO fields ≡ map value.Bytes m.replicate_to
-  pub marker_type : last_value MARKER_TYPE fields ≡ option_map value.Varint m.marker
-  pub rest : unknown ROWS fields ≡ m.rest
+  pub message : IsMessage field.rows fields
+  pub producer_name : last_value field.producer_name fields ≡ Some (value.Bytes m.producer)
+  pub sequence_id : last_value field.sequence_id fields ≡ Some (value.Varint m.seq)
+  pub publish_time : last_value field.publish_time fields ≡ Some (value.Varint m.publish_time)
+  pub replicated_from : last_value field.replicated_from fields ≡ option_map value.Bytes m.replicated_from
+  pub partition_key : last_value field.partition_key fields ≡ option_map value.Bytes m.key
+  pub replicate_to : values field.replicate_to fields ≡ map value.Bytes m.replicate_to
+  pub marker_type : last_value field.marker_type fields ≡ option_map value.Varint m.marker
+  pub rest : unknown field.rows fields ≡ m.rest
 
 -- The bytes are a text of the metadata.
 pub record IsMetaText (bytes : List ℕ) (m : Metadata) : Type 0 where

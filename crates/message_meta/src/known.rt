@@ -44,10 +44,8 @@ impl KnownMeta<'_> {
     {
         let known = written(alloc, self)?;
         let mut bytes = known.into_vec();
-        match bytes.extend_from_slice(rest) {
-            Ok(()) => Ok(ByteList::from_vec(bytes)),
-            Err(_) => Err(Memory),
-        }
+        bytes.extend_from_slice(rest)?;
+        Ok(ByteList::from_vec(bytes))
     }
 }
 
@@ -56,14 +54,9 @@ fn written(alloc: Global, known: KnownMeta<'_>) -> Result<ByteList, Memory>
     ensures text { IfOk result (λ bytes. bytes ≡ text (known_fields known.entry)) }
     ensures fits { OnOk result (IsKnown known.entry) }
 {
-    let Ok(room) = Vec::with_capacity(alloc, COMMON_BYTES) else {
-        return Err(Memory);
-    };
-    let mut out = ByteList::from_vec(room);
-    match append_known(&mut out, known) {
-        Ok(()) => Ok(out),
-        Err(_) => Err(Memory),
-    }
+    let mut out = ByteList::from_vec(Vec::with_capacity(alloc, COMMON_BYTES)?);
+    append_known(&mut out, known)?;
+    Ok(out)
 }
 
 impl Meta {

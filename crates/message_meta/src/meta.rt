@@ -36,7 +36,7 @@ pub struct Meta {
 impl Model for Meta {
     ghost use Rattle.std.specs.List.{AllByRecursion};
     ghost use Rattle.pb_fields.specs.Message.{IsUnknown};
-    ghost use Rattle.message_meta.specs.declared.table.TheConstants.{ROWS};
+    ghost use Rattle.message_meta.specs.Table.{rows};
     ghost use Rattle.message_meta.specs.Metadata.{Metadata};
 
     ghost Value = { Metadata };
@@ -52,7 +52,7 @@ impl Model for Meta {
       rest = m.rest;
     } };
 
-    ghost invariant = { λ m. AllByRecursion (IsUnknown ROWS) m.rest };
+    ghost invariant = { λ m. AllByRecursion (IsUnknown rows) m.rest };
 }
 
 impl Meta {

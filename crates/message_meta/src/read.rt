@@ -8,6 +8,7 @@ ghost use Rattle.pb_fields.specs.declared.message.Form.TheVariants as form;
 ghost use Rattle.pb_fields.specs.declared.message.MessageFault.{MessageFault};
 ghost use Rattle.pb_fields.specs.Faults.{Answers};
 ghost use Rattle.pb_fields.specs.Message.{HasForm, IsMessage, WrongMessage, IsWrongOrMemory, values};
+ghost use Rattle.message_meta.specs.Table.{rows};
 ghost use Rattle.message_meta.specs.Metadata.{Metadata, IsMeta, IsMetaText};
 
 use crate::MetaFault;
@@ -31,9 +32,9 @@ impl Meta {
         // What the bytes say is read, unless memory runs out.
         ensures only { (m : Metadata) → IsMetaText bytes.now m → Answers MetaFault.Memory result (Ok m) }
         // A fault is the first by the order of judgement.
-        ensures fault { IfErr result (IsWrongOrMemory (WrongMessage ROWS bytes.now)) }
+        ensures fault { IfErr result (IsWrongOrMemory (WrongMessage rows bytes.now)) }
         // The first fault is answered, unless memory runs out.
-        ensures refused { (e : MessageFault) → WrongMessage ROWS bytes.now e → Answers MetaFault.Memory result (Err e) }
+        ensures refused { (e : MessageFault) → WrongMessage rows bytes.now e → Answers MetaFault.Memory result (Err e) }
     {
         meta_of_bytes(alloc, bytes)
     }
@@ -42,18 +43,15 @@ impl Meta {
 /// Reads the fields, and takes from them what the table names.
 fn meta_of_bytes(alloc: Global, bytes: &[u8]) -> Result<Meta, MetaFault>
     ensures found { IfOk result (IsMetaText bytes.now) }
-    ensures fault { IfErr result (IsWrongOrMemory (WrongMessage ROWS bytes.now)) }
+    ensures fault { IfErr result (IsWrongOrMemory (WrongMessage rows bytes.now)) }
 {
     let fields = read_message(alloc, &ROWS, bytes)?;
-    match meta_of_fields(alloc, fields) {
-        Ok(meta) => Ok(meta),
-        Err(Memory) => Err(MetaFault::Memory),
-    }
+    Ok(meta_of_fields(alloc, fields)?)
 }
 
 /// What the fields say.
 fn meta_of_fields(alloc: Global, fields: FieldList) -> Result<Meta, Memory>
-    requires { IsMessage ROWS fields }
+    requires { IsMessage rows fields }
     ensures { IfOk result (IsMeta fields) }
 {
     let known = fields.as_slice();

@@ -1,5 +1,8 @@
 //! The fields of message metadata that are read.
 
+ghost use Rattle.std.specs.Prelude.{◌≡◌};
+ghost use Rattle.message_meta.specs.Table as field;
+
 use pb_fields::message::{Form, Row};
 
 /// The name of the producer that published the message.
@@ -61,3 +64,15 @@ pub const ROWS: [Row; 7] = [
         required: false,
     },
 ];
+
+/// The numbers of the protocol: the definitions write each themselves, and the constants here are the same.
+pub fn protocol_numbers()
+    ensures producer_name { PRODUCER_NAME ≡ field.producer_name }
+    ensures sequence_id { SEQUENCE_ID ≡ field.sequence_id }
+    ensures publish_time { PUBLISH_TIME ≡ field.publish_time }
+    ensures replicated_from { REPLICATED_FROM ≡ field.replicated_from }
+    ensures partition_key { PARTITION_KEY ≡ field.partition_key }
+    ensures replicate_to { REPLICATE_TO ≡ field.replicate_to }
+    ensures marker_type { MARKER_TYPE ≡ field.marker_type }
+    ensures rows { ROWS ≡ field.rows }
+{}

@@ -27,10 +27,8 @@ impl Meta {
         ensures text { IfOk result (λ bytes. IsMetaText bytes self.now) }
     {
         let mut out = ByteList::new(alloc);
-        match append_meta(&mut out, self) {
-            Ok(()) => Ok(out),
-            Err(_) => Err(Memory),
-        }
+        append_meta(&mut out, self)?;
+        Ok(out)
     }
 }
 
