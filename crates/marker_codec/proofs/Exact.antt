@@ -5,14 +5,14 @@ use Rattle.pb_fields.specs.Embedded.{IsExact, AnyContent, NoFault}
 use Rattle.pb_fields.proofs.Nested.{unread_exact, of_table}
 use Rattle.marker_codec.specs.declared.kind.MarkerKind.{MarkerKind}
 use Rattle.marker_codec.specs.declared.kind.MarkerKind.TheVariants as kind
-use Rattle.marker_codec.specs.declared.table.TheConstants.{CLUSTER_ROWS, POSITION_ROWS}
+use Rattle.marker_codec.specs.Table.{cluster_rows, position_rows}
 use Rattle.marker_codec.specs.Kinds.{RightPosition, WrongPosition, RightCluster, WrongCluster, RightInSnapshot, WrongInSnapshot, local, clusters, RightPart, WrongPart}
 
 pub position_exact : IsExact RightPosition WrongPosition
-position_exact = of_table AnyContent NoFault unread_exact POSITION_ROWS
+position_exact = of_table AnyContent NoFault unread_exact position_rows
 
 pub cluster_exact : IsExact RightCluster WrongCluster
-cluster_exact = of_table RightPosition WrongPosition position_exact CLUSTER_ROWS
+cluster_exact = of_table RightPosition WrongPosition position_exact cluster_rows
 
 snapshot_exact : IsExact RightInSnapshot WrongInSnapshot
 snapshot_exact = record { either = either; one = one }

@@ -7,16 +7,17 @@ use Rattle.pb_fields.specs.declared.field.Value.{Value}
 use Rattle.pb_fields.specs.declared.field.Value.TheVariants as value
 use Rattle.pb_fields.specs.declared.message.Form.TheVariants as form
 use Rattle.pb_fields.specs.declared.message.Row.{Row}
-use Rattle.pb_fields.specs.Canonical.{text}
+use Rattle.pb_fields.specs.Canonical.{text, AscendFrom}
 use Rattle.pb_fields.specs.Field.{varint_field, bytes_field}
 use Rattle.pb_fields.specs.Message.{row_of, values}
 use Rattle.pb_fields.specs.Embedded.{Holds, FitsWith, IsMessageWith, AnyContent}
 use Rattle.pb_fields.proofs.Parts.{AllByRecursion-map, fits_row, values-map, values-map_other}
+use Rattle.pb_fields.proofs.Order.{ascend_map}
 use Rattle.pb_fields.proofs.Written.{text-is}
 use Rattle.marker_codec.specs.declared.marker.Marker.{Marker}
 use Rattle.marker_codec.specs.declared.marker.Marker.TheVariants as marker
 use Rattle.marker_codec.specs.declared.marker.ClusterMessageId.{ClusterMessageId}
-use Rattle.marker_codec.specs.declared.table.TheConstants.{REQUEST_ROWS, RESPONSE_ROWS, SNAPSHOT_ROWS, UPDATE_ROWS, CLUSTER_ROWS, POSITION_ROWS}
+use Rattle.marker_codec.specs.Table.{request_rows, response_rows, snapshot_rows, update_rows, cluster_rows, position_rows}
 use Rattle.marker_codec.specs.Kinds.{kind_number, marker_kind, RightPosition, RightCluster, RightInSnapshot}
 use Rattle.marker_codec.specs.Markers.{IsPositionText, IsClusterText, AreClusters, MeansMarker, IsMarkerText}
 use Rattle.marker_codec.specs.Canonical.{position_fields, cluster_fields, clusters_fields, canonical_fields, IsPosition, IsCluster, IsMarker}
@@ -59,9 +60,9 @@ fits_message Right rows n q b is message right = record {
 
 -- ---- embedded messages
 
-position_message : (p : Position) → IsMessageWith AnyContent POSITION_ROWS (position_fields p)
+position_message : (p : Position) → IsMessageWith AnyContent position_rows (position_fields p)
 position_message p = record {
-  fit = (fits_varint AnyContent POSITION_ROWS 1 _ p.ledger refl refl, (fits_varint AnyContent POSITION_ROWS 2 _ p.entry refl refl, tt));
+  fit = (fits_varint AnyContent position_rows 1 _ p.ledger refl refl, (fits_varint AnyContent position_rows 2 _ p.entry refl refl, tt));
   complete = refl;
 }
 
@@ -76,9 +77,9 @@ position_is p h = record {
 right_position : (n : ℕ) (p : Position) → IsPosition p → RightPosition n (text (position_fields p))
 right_position n p h = record { fields = position_fields p; text = text-is (position_fields p) h; message = position_message p }
 
-cluster_message : (c : ClusterMessageId) → IsCluster c → IsMessageWith RightPosition CLUSTER_ROWS (cluster_fields c)
+cluster_message : (c : ClusterMessageId) → IsCluster c → IsMessageWith RightPosition cluster_rows (cluster_fields c)
 cluster_message c h = record {
-  fit = (fits_text RightPosition CLUSTER_ROWS 1 _ c.cluster refl refl h.cluster, (fits_message RightPosition CLUSTER_ROWS 2 _ (text (position_fields c.message_id)) refl refl (right_position 2 c.message_id h.message_id), tt));
+  fit = (fits_text RightPosition cluster_rows 1 _ c.cluster refl refl h.cluster, (fits_message RightPosition cluster_rows 2 _ (text (position_fields c.message_id)) refl refl (right_position 2 c.message_id h.message_id), tt));
   complete = refl;
 }
 
@@ -118,12 +119,12 @@ last_other n k v cs other = ap (λ (vs : List Value). last_or (Some v) vs) (valu
 
 pub means : (m : Marker) → IsMarker m → MeansMarker (canonical_fields m) m
 means (marker.Request id source) h = record {
-  message = record { fit = (fits_text AnyContent REQUEST_ROWS 1 _ id refl refl h.parts.0, (fits_text AnyContent REQUEST_ROWS 2 _ source refl refl h.parts.1, tt)); complete = refl };
+  message = record { fit = (fits_text AnyContent request_rows 1 _ id refl refl h.parts.0, (fits_text AnyContent request_rows 2 _ source refl refl h.parts.1, tt)); complete = refl };
   says = record { snapshot_id = refl; source_cluster = refl };
 }
 means (marker.Response id cluster) h = record {
   message = record {
-    fit = (fits_text RightCluster RESPONSE_ROWS 1 _ id refl refl h.parts.0, (fits_message RightCluster RESPONSE_ROWS 2 _ (text (cluster_fields cluster)) refl refl (right_cluster 2 cluster h.parts.1), tt));
+    fit = (fits_text RightCluster response_rows 1 _ id refl refl h.parts.0, (fits_message RightCluster response_rows 2 _ (text (cluster_fields cluster)) refl refl (right_cluster 2 cluster h.parts.1), tt));
     complete = refl;
   };
   says = record { snapshot_id = refl; cluster = record { content = text (cluster_fields cluster); last = refl; means = cluster_is cluster h.parts.1 } };
@@ -131,10 +132,10 @@ means (marker.Response id cluster) h = record {
 means (marker.Snapshot id local clusters) h = record {
   message = record {
     fit = (
-      fits_text RightInSnapshot SNAPSHOT_ROWS 1 _ id refl refl h.parts.0,
+      fits_text RightInSnapshot snapshot_rows 1 _ id refl refl h.parts.0,
       (
-        fits_message RightInSnapshot SNAPSHOT_ROWS 2 _ (text (position_fields local)) refl refl (record { local = λ e. right_position 2 local h.parts.1; clusters = λ other. absurd (other refl) }),
-        clusters_fit RightInSnapshot SNAPSHOT_ROWS 3 _ clusters refl refl (λ content right. record { local = λ e. absurd (omega arith); clusters = λ other. right }) h.parts.2,
+        fits_message RightInSnapshot snapshot_rows 2 _ (text (position_fields local)) refl refl (record { local = λ e. right_position 2 local h.parts.1; clusters = λ other. absurd (other refl) }),
+        clusters_fit RightInSnapshot snapshot_rows 3 _ clusters refl refl (λ content right. record { local = λ e. absurd (omega arith); clusters = λ other. right }) h.parts.2,
       ),
     );
     complete = refl;
@@ -147,7 +148,7 @@ means (marker.Snapshot id local clusters) h = record {
 }
 means (marker.Update name clusters) h = record {
   message = record {
-    fit = (fits_text RightCluster UPDATE_ROWS 1 _ name refl refl h.parts.0, clusters_fit RightCluster UPDATE_ROWS 2 _ clusters refl refl (λ content right. right) h.parts.1);
+    fit = (fits_text RightCluster update_rows 1 _ name refl refl h.parts.0, clusters_fit RightCluster update_rows 2 _ clusters refl refl (λ content right. right) h.parts.1);
     complete = refl;
   };
   says = record {
@@ -158,3 +159,14 @@ means (marker.Update name clusters) h = record {
 
 pub canonical_is : (m : Marker) → IsMarker m → IsMarkerText (kind_number (marker_kind m)) (text (canonical_fields m)) m
 canonical_is m h = record { kind = refl; fields = canonical_fields m; text = text-is (canonical_fields m) h.fields; means = means m h }
+
+-- ---- their order
+
+pub ascend : (m : Marker) → AscendFrom 1 (canonical_fields m)
+ascend (marker.Request id source) = (omega arith, (omega arith, tt))
+ascend (marker.Response id cluster) = (omega arith, (omega arith, tt))
+ascend (marker.Snapshot id local clusters) = (omega arith, (omega arith, ascend_map 2 3 (λ c. bytes_field 3 (text (cluster_fields c))) clusters (λ c. refl) (omega arith)))
+ascend (marker.Update name clusters) = (omega arith, ascend_map 1 2 (λ c. bytes_field 2 (text (cluster_fields c))) clusters (λ c. refl) (omega arith))
+
+pub ascend_within : (c : ClusterMessageId) → AscendFrom 1 (cluster_fields c) × AscendFrom 1 (position_fields c.message_id)
+ascend_within c = ((omega arith, (omega arith, tt)), (omega arith, (omega arith, tt)))

@@ -8,23 +8,23 @@ use Rattle.pb_fields.specs.Canonical.{text}
 use Rattle.marker_codec.specs.declared.marker.Marker.{Marker}
 use Rattle.marker_codec.specs.declared.marker.Marker.TheVariants as marker
 use Rattle.marker_codec.specs.declared.marker.ClusterMessageId.{ClusterMessageId}
-use Rattle.marker_codec.specs.declared.table.TheConstants.{SNAPSHOT_ID, SOURCE_CLUSTER, RESPONSE_CLUSTER, LOCAL_MESSAGE_ID, SNAPSHOT_CLUSTERS, SUBSCRIPTION_NAME, UPDATE_CLUSTERS, CLUSTER, MESSAGE_ID, LEDGER_ID, ENTRY_ID}
+use Rattle.marker_codec.specs.Table as field
 
 -- Fields stand by ascending number, a list in its order. An embedded message is its own canonical text.
 abbrev pub position_fields : Position → List Field
-position_fields p = varint_field LEDGER_ID p.ledger ∷ varint_field ENTRY_ID p.entry ∷ []
+position_fields p = varint_field field.ledger_id p.ledger ∷ varint_field field.entry_id p.entry ∷ []
 
 abbrev pub cluster_fields : ClusterMessageId → List Field
-cluster_fields c = bytes_field CLUSTER c.cluster ∷ bytes_field MESSAGE_ID (text (position_fields c.message_id)) ∷ []
+cluster_fields c = bytes_field field.cluster c.cluster ∷ bytes_field field.message_id (text (position_fields c.message_id)) ∷ []
 
 abbrev pub clusters_fields : ℕ → List ClusterMessageId → List Field
 clusters_fields number clusters = map (λ c. bytes_field number (text (cluster_fields c))) clusters
 
 abbrev pub canonical_fields : Marker → List Field
-canonical_fields (marker.Request id source) = bytes_field SNAPSHOT_ID id ∷ bytes_field SOURCE_CLUSTER source ∷ []
-canonical_fields (marker.Response id cluster) = bytes_field SNAPSHOT_ID id ∷ bytes_field RESPONSE_CLUSTER (text (cluster_fields cluster)) ∷ []
-canonical_fields (marker.Snapshot id local clusters) = bytes_field SNAPSHOT_ID id ∷ bytes_field LOCAL_MESSAGE_ID (text (position_fields local)) ∷ clusters_fields SNAPSHOT_CLUSTERS clusters
-canonical_fields (marker.Update name clusters) = bytes_field SUBSCRIPTION_NAME name ∷ clusters_fields UPDATE_CLUSTERS clusters
+canonical_fields (marker.Request id source) = bytes_field field.snapshot_id id ∷ bytes_field field.source_cluster source ∷ []
+canonical_fields (marker.Response id cluster) = bytes_field field.snapshot_id id ∷ bytes_field field.response_cluster (text (cluster_fields cluster)) ∷ []
+canonical_fields (marker.Snapshot id local clusters) = bytes_field field.snapshot_id id ∷ bytes_field field.local_message_id (text (position_fields local)) ∷ clusters_fields field.snapshot_clusters clusters
+canonical_fields (marker.Update name clusters) = bytes_field field.subscription_name name ∷ clusters_fields field.update_clusters clusters
 
 -- What can be written: numbers and lengths have 64 bits, texts are UTF-8.
 abbrev pub IsPosition : Position → Type 0

@@ -7,19 +7,21 @@ use Rattle.marker_codec.specs.declared.kind.MarkerKind.{MarkerKind}
 use Rattle.marker_codec.specs.declared.kind.MarkerKind.TheVariants as kind
 use Rattle.marker_codec.specs.declared.marker.Marker.{Marker}
 use Rattle.marker_codec.specs.declared.marker.Marker.TheVariants as marker
-use Rattle.marker_codec.specs.declared.table.TheConstants.{REQUEST, RESPONSE, SNAPSHOT, UPDATE, REQUEST_ROWS, RESPONSE_ROWS, SNAPSHOT_ROWS, UPDATE_ROWS, CLUSTER_ROWS, POSITION_ROWS, LOCAL_MESSAGE_ID}
+use Rattle.marker_codec.specs.Table as field
+use Rattle.marker_codec.specs.Table.{request_rows, response_rows, snapshot_rows, update_rows, cluster_rows, position_rows}
 
+-- the number of the kind, which the metadata of a marker's entry names (marker_type)
 abbrev pub kind_number : MarkerKind → ℕ
-kind_number kind.Request = REQUEST
-kind_number kind.Response = RESPONSE
-kind_number kind.Snapshot = SNAPSHOT
-kind_number kind.Update = UPDATE
+kind_number kind.Request = 10
+kind_number kind.Response = 11
+kind_number kind.Snapshot = 12
+kind_number kind.Update = 13
 
 abbrev pub kind_rows : MarkerKind → List Row
-kind_rows kind.Request = REQUEST_ROWS
-kind_rows kind.Response = RESPONSE_ROWS
-kind_rows kind.Snapshot = SNAPSHOT_ROWS
-kind_rows kind.Update = UPDATE_ROWS
+kind_rows kind.Request = request_rows
+kind_rows kind.Response = response_rows
+kind_rows kind.Snapshot = snapshot_rows
+kind_rows kind.Update = update_rows
 
 abbrev pub marker_kind : Marker → MarkerKind
 marker_kind (marker.Request id source) = kind.Request
@@ -31,26 +33,26 @@ marker_kind (marker.Update name clusters) = kind.Update
 
 -- a MarkersMessageIdData
 abbrev pub RightPosition : ℕ → List ℕ → Type 0
-RightPosition number = IsMessageText AnyContent POSITION_ROWS
+RightPosition number = IsMessageText AnyContent position_rows
 
 abbrev pub WrongPosition : ℕ → List ℕ → MessageFault → Type 0
-WrongPosition number = WrongMessageWith AnyContent NoFault POSITION_ROWS
+WrongPosition number = WrongMessageWith AnyContent NoFault position_rows
 
 -- a ClusterMessageId, which holds a MarkersMessageIdData
 abbrev pub RightCluster : ℕ → List ℕ → Type 0
-RightCluster number = IsMessageText RightPosition CLUSTER_ROWS
+RightCluster number = IsMessageText RightPosition cluster_rows
 
 abbrev pub WrongCluster : ℕ → List ℕ → MessageFault → Type 0
-WrongCluster number = WrongMessageWith RightPosition WrongPosition CLUSTER_ROWS
+WrongCluster number = WrongMessageWith RightPosition WrongPosition cluster_rows
 
 -- A snapshot holds the own position in one field, and the clusters' in the other.
 pub record RightInSnapshot (number : ℕ) (content : List ℕ) : Type 0 where
-  pub local : number ≡ LOCAL_MESSAGE_ID → RightPosition number content
-  pub clusters : number ≢ LOCAL_MESSAGE_ID → RightCluster number content
+  pub local : number ≡ field.local_message_id → RightPosition number content
+  pub clusters : number ≢ field.local_message_id → RightCluster number content
 
 pub data WrongInSnapshot (number : ℕ) (content : List ℕ) (e : MessageFault) : Type 0 where
-  local : number ≡ LOCAL_MESSAGE_ID → WrongPosition number content e → WrongInSnapshot number content e
-  clusters : number ≢ LOCAL_MESSAGE_ID → WrongCluster number content e → WrongInSnapshot number content e
+  local : number ≡ field.local_message_id → WrongPosition number content e → WrongInSnapshot number content e
+  clusters : number ≢ field.local_message_id → WrongCluster number content e → WrongInSnapshot number content e
 
 -- which contents of the embedded messages of a kind are right, and what is wrong with the others
 abbrev pub RightPart : MarkerKind → ℕ → List ℕ → Type 0

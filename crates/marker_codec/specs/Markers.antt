@@ -13,18 +13,19 @@ use Rattle.pb_fields.specs.Embedded.{IsMessageWith, AnyContent}
 use Rattle.marker_codec.specs.declared.marker.Marker.{Marker}
 use Rattle.marker_codec.specs.declared.marker.Marker.TheVariants as marker
 use Rattle.marker_codec.specs.declared.marker.ClusterMessageId.{ClusterMessageId}
-use Rattle.marker_codec.specs.declared.table.TheConstants.{CLUSTER_ROWS, POSITION_ROWS, SNAPSHOT_ID, SOURCE_CLUSTER, RESPONSE_CLUSTER, LOCAL_MESSAGE_ID, SNAPSHOT_CLUSTERS, SUBSCRIPTION_NAME, UPDATE_CLUSTERS, CLUSTER, MESSAGE_ID, LEDGER_ID, ENTRY_ID}
+use Rattle.marker_codec.specs.Table as field
+use Rattle.marker_codec.specs.Table.{cluster_rows, position_rows}
 use Rattle.marker_codec.specs.Kinds.{kind_number, kind_rows, marker_kind, RightPosition, RightPart}
 
 -- a MarkersMessageIdData
 pub record SaysPosition (fields : List Field) (p : Position) : Type 0 where
-  pub ledger_id : last_value LEDGER_ID fields ≡ Some (value.Varint p.ledger)
-  pub entry_id : last_value ENTRY_ID fields ≡ Some (value.Varint p.entry)
+  pub ledger_id : last_value field.ledger_id fields ≡ Some (value.Varint p.ledger)
+  pub entry_id : last_value field.entry_id fields ≡ Some (value.Varint p.entry)
 
 pub record IsPositionText (bytes : List ℕ) (p : Position) : Type 0 where
   pub fields : List Field
   pub text : IsText bytes fields
-  pub message : IsMessageWith AnyContent POSITION_ROWS fields
+  pub message : IsMessageWith AnyContent position_rows fields
   pub says : SaysPosition fields p
 
 -- The last value of a number counts, and its content is as P says.
@@ -35,13 +36,13 @@ pub record LastHolds (number : ℕ) (fields : List Field) (P : List ℕ → Type
 
 -- a ClusterMessageId
 pub record SaysCluster (fields : List Field) (c : ClusterMessageId) : Type 0 where
-  pub cluster : last_value CLUSTER fields ≡ Some (value.Bytes c.cluster)
-  pub message_id : LastHolds MESSAGE_ID fields (λ content. IsPositionText content c.message_id)
+  pub cluster : last_value field.cluster fields ≡ Some (value.Bytes c.cluster)
+  pub message_id : LastHolds field.message_id fields (λ content. IsPositionText content c.message_id)
 
 pub record IsClusterText (bytes : List ℕ) (c : ClusterMessageId) : Type 0 where
   pub fields : List Field
   pub text : IsText bytes fields
-  pub message : IsMessageWith RightPosition CLUSTER_ROWS fields
+  pub message : IsMessageWith RightPosition cluster_rows fields
   pub says : SaysCluster fields c
 
 pub record HoldsCluster (v : Value) (c : ClusterMessageId) : Type 0 where
@@ -58,21 +59,21 @@ AreClusters vs cs = ⊥
 -- ---- what the fields of a marker say
 
 pub record SaysRequest (fields : List Field) (id source : List ℕ) : Type 0 where
-  pub snapshot_id : last_value SNAPSHOT_ID fields ≡ Some (value.Bytes id)
-  pub source_cluster : last_value SOURCE_CLUSTER fields ≡ Some (value.Bytes source)
+  pub snapshot_id : last_value field.snapshot_id fields ≡ Some (value.Bytes id)
+  pub source_cluster : last_value field.source_cluster fields ≡ Some (value.Bytes source)
 
 pub record SaysResponse (fields : List Field) (id : List ℕ) (answer : ClusterMessageId) : Type 0 where
-  pub snapshot_id : last_value SNAPSHOT_ID fields ≡ Some (value.Bytes id)
-  pub cluster : LastHolds RESPONSE_CLUSTER fields (λ content. IsClusterText content answer)
+  pub snapshot_id : last_value field.snapshot_id fields ≡ Some (value.Bytes id)
+  pub cluster : LastHolds field.response_cluster fields (λ content. IsClusterText content answer)
 
 pub record SaysSnapshot (fields : List Field) (id : List ℕ) (local : Position) (remote : List ClusterMessageId) : Type 0 where
-  pub snapshot_id : last_value SNAPSHOT_ID fields ≡ Some (value.Bytes id)
-  pub local_message_id : LastHolds LOCAL_MESSAGE_ID fields (λ content. IsPositionText content local)
-  pub clusters : AreClusters (values SNAPSHOT_CLUSTERS fields) remote
+  pub snapshot_id : last_value field.snapshot_id fields ≡ Some (value.Bytes id)
+  pub local_message_id : LastHolds field.local_message_id fields (λ content. IsPositionText content local)
+  pub clusters : AreClusters (values field.snapshot_clusters fields) remote
 
 pub record SaysUpdate (fields : List Field) (name : List ℕ) (remote : List ClusterMessageId) : Type 0 where
-  pub subscription_name : last_value SUBSCRIPTION_NAME fields ≡ Some (value.Bytes name)
-  pub clusters : AreClusters (values UPDATE_CLUSTERS fields) remote
+  pub subscription_name : last_value field.subscription_name fields ≡ Some (value.Bytes name)
+  pub clusters : AreClusters (values field.update_clusters fields) remote
 
 abbrev pub Says : List Field → Marker → Type 0
 Says fields (marker.Request id source) = SaysRequest fields id source

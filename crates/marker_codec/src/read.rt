@@ -9,6 +9,7 @@ ghost use Rattle.pb_fields.proofs.Nested.{IsHeld};
 ghost use Rattle.marker_codec.specs.declared.fault.MarkerFault.{MarkerFault};
 ghost use Rattle.marker_codec.specs.declared.kind.MarkerKind.TheVariants as kind;
 ghost use Rattle.marker_codec.specs.declared.marker.Marker.{Marker};
+ghost use Rattle.marker_codec.specs.Table.{request_rows, response_rows, snapshot_rows, update_rows, cluster_rows};
 ghost use Rattle.marker_codec.specs.Kinds.{kind_number, kind_rows, marker_kind, RightPosition, RightCluster, RightPart};
 ghost use Rattle.marker_codec.specs.Markers.{IsPositionText, IsClusterText, SaysCluster, HoldsCluster, AreClusters, Says, IsMarkerText};
 ghost use Rattle.marker_codec.specs.Faults.{IsNoKind, WrongMarker, IsWrongOrMemory};
@@ -54,10 +55,7 @@ fn marker_of_kind(alloc: Global, kind: MarkerKind, bytes: &[u8]) -> Result<Marke
     ensures fault { IfErr result (IsWrongOrMemory (WrongMarker (kind_number kind) bytes.now)) }
 {
     let fields = read_message_with(alloc, kind.rows(), &kind, bytes)?;
-    match marker_of_fields(alloc, kind, fields.as_slice()) {
-        Ok(marker) => Ok(marker),
-        Err(Memory) => Err(MarkerFault::Memory),
-    }
+    Ok(marker_of_fields(alloc, kind, fields.as_slice())?)
 }
 
 /// What the fields say.
@@ -75,7 +73,7 @@ fn marker_of_fields(alloc: Global, kind: MarkerKind, fields: &[Field]) -> Result
 }
 
 fn request_of(alloc: Global, fields: &[Field]) -> Result<Marker, Memory>
-    requires { IsMessageWith (RightPart kind.Request) REQUEST_ROWS fields.now }
+    requires { IsMessageWith (RightPart kind.Request) request_rows fields.now }
     ensures kind { IfOk result (λ m. marker_kind m ≡ kind.Request) }
     ensures says { IfOk result (Says fields.now) }
 {
@@ -88,7 +86,7 @@ fn request_of(alloc: Global, fields: &[Field]) -> Result<Marker, Memory>
 }
 
 fn response_of(alloc: Global, fields: &[Field]) -> Result<Marker, Memory>
-    requires { IsMessageWith (RightPart kind.Response) RESPONSE_ROWS fields.now }
+    requires { IsMessageWith (RightPart kind.Response) response_rows fields.now }
     ensures kind { IfOk result (λ m. marker_kind m ≡ kind.Response) }
     ensures says { IfOk result (Says fields.now) }
 {
@@ -107,7 +105,7 @@ fn response_of(alloc: Global, fields: &[Field]) -> Result<Marker, Memory>
 }
 
 fn snapshot_of(alloc: Global, fields: &[Field]) -> Result<Marker, Memory>
-    requires { IsMessageWith (RightPart kind.Snapshot) SNAPSHOT_ROWS fields.now }
+    requires { IsMessageWith (RightPart kind.Snapshot) snapshot_rows fields.now }
     ensures kind { IfOk result (λ m. marker_kind m ≡ kind.Snapshot) }
     ensures says { IfOk result (Says fields.now) }
 {
@@ -128,7 +126,7 @@ fn snapshot_of(alloc: Global, fields: &[Field]) -> Result<Marker, Memory>
 }
 
 fn update_of(alloc: Global, fields: &[Field]) -> Result<Marker, Memory>
-    requires { IsMessageWith (RightPart kind.Update) UPDATE_ROWS fields.now }
+    requires { IsMessageWith (RightPart kind.Update) update_rows fields.now }
     ensures kind { IfOk result (λ m. marker_kind m ≡ kind.Update) }
     ensures says { IfOk result (Says fields.now) }
 {
@@ -179,7 +177,7 @@ fn cluster_of(alloc: Global, content: &[u8]) -> Result<ClusterMessageId, Memory>
 }
 
 fn cluster_of_fields(alloc: Global, fields: &[Field]) -> Result<ClusterMessageId, Memory>
-    requires { IsMessageWith RightPosition CLUSTER_ROWS fields.now }
+    requires { IsMessageWith RightPosition cluster_rows fields.now }
     ensures { IfOk result (SaysCluster fields.now) }
 {
     let name = Text::from_str(alloc, required_text(&CLUSTER_ROWS, fields, CLUSTER))?;

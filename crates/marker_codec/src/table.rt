@@ -1,6 +1,11 @@
 //! The kinds of markers, and the fields of each (PulsarMarkers.proto). In this project every field that is not repeated
 //! is required (own).
 
+ghost use Rattle.std.specs.Prelude.{◌≡◌};
+ghost use Rattle.marker_codec.specs.declared.kind.MarkerKind.TheVariants as kind;
+ghost use Rattle.marker_codec.specs.Kinds.{kind_number};
+ghost use Rattle.marker_codec.specs.Table as field;
+
 use pb_fields::embedded::{OfTable, Unread};
 use pb_fields::message::{Form, Row};
 
@@ -137,6 +142,31 @@ pub const POSITION_ROWS: [Row; 2] = [
         required: true,
     },
 ];
+
+/// The numbers of the protocol: the definitions write each themselves, and the constants here are the same.
+pub fn protocol_numbers()
+    ensures request { REQUEST ≡ kind_number kind.Request }
+    ensures response { RESPONSE ≡ kind_number kind.Response }
+    ensures snapshot { SNAPSHOT ≡ kind_number kind.Snapshot }
+    ensures update { UPDATE ≡ kind_number kind.Update }
+    ensures snapshot_id { SNAPSHOT_ID ≡ field.snapshot_id }
+    ensures source_cluster { SOURCE_CLUSTER ≡ field.source_cluster }
+    ensures response_cluster { RESPONSE_CLUSTER ≡ field.response_cluster }
+    ensures local_message_id { LOCAL_MESSAGE_ID ≡ field.local_message_id }
+    ensures snapshot_clusters { SNAPSHOT_CLUSTERS ≡ field.snapshot_clusters }
+    ensures subscription_name { SUBSCRIPTION_NAME ≡ field.subscription_name }
+    ensures update_clusters { UPDATE_CLUSTERS ≡ field.update_clusters }
+    ensures cluster { CLUSTER ≡ field.cluster }
+    ensures message_id { MESSAGE_ID ≡ field.message_id }
+    ensures ledger_id { LEDGER_ID ≡ field.ledger_id }
+    ensures entry_id { ENTRY_ID ≡ field.entry_id }
+    ensures request_rows { REQUEST_ROWS ≡ field.request_rows }
+    ensures response_rows { RESPONSE_ROWS ≡ field.response_rows }
+    ensures snapshot_rows { SNAPSHOT_ROWS ≡ field.snapshot_rows }
+    ensures update_rows { UPDATE_ROWS ≡ field.update_rows }
+    ensures cluster_rows { CLUSTER_ROWS ≡ field.cluster_rows }
+    ensures position_rows { POSITION_ROWS ≡ field.position_rows }
+{}
 
 /// Embedded messages that are each a MarkersMessageIdData.
 pub(crate) const POSITION_PARTS: OfTable<'static, Unread> = OfTable {

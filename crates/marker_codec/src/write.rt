@@ -25,10 +25,8 @@ impl Marker {
         ensures text { IfOk result (λ bytes. IsMarkerText (kind_number (marker_kind self.now)) bytes self.now) }
     {
         let mut out = ByteList::new(alloc);
-        match append_marker(alloc, &mut out, self) {
-            Ok(()) => Ok(out),
-            Err(_) => Err(Memory),
-        }
+        append_marker(alloc, &mut out, self)?;
+        Ok(out)
     }
 }
 
