@@ -1,5 +1,5 @@
 -- The canonical fields of parts whose places ascend: each place has the values of its own part.
-use Rattle.std.proofs.Common.{◌≡◌, ℕ, ◌<◌, arith, Bool, true, false, eqb, eq-eqb, ne_eqb, List, [], ◌∷◌, ◌++◌, Some, None, map, refl, sym, ap, ◌∙◌}
+use Rattle.std.proofs.Common.{◌≡◌, ℕ, ◌+◌, ◌<◌, ◌≤◌, arith, Bool, true, false, eqb, eq-eqb, ne_eqb, List, [], ◌∷◌, ◌++◌, Some, None, map, refl, sym, ap, subst, ◌∙◌}
 use Rattle.std.specs.Prelude.{nat_lt, ◌&&◌, ◌^◌}
 use Rattle.std.specs.List.{AllByRecursion, flat_map}
 use Rattle.std.proofs.lemmas.List.{append-nil}
@@ -8,9 +8,11 @@ use Rattle.pb_fields.specs.declared.field.Field.{Field}
 use Rattle.pb_fields.specs.declared.field.Value.{Value}
 use Rattle.pb_fields.specs.declared.message.Form.TheVariants as form
 use Rattle.pb_fields.specs.declared.message.Row.{Row}
+use Rattle.pb_fields.specs.Canonical.{AscendFrom}
 use Rattle.pb_fields.specs.Field.{IsFieldNumber}
 use Rattle.pb_fields.specs.Message.{row_of, values}
 use Rattle.pb_fields.proofs.LastValues.{values-other}
+use Rattle.pb_fields.proofs.Order.{from_lower}
 use Rattle.pb_fields.proofs.Parts.{values-append}
 use Rattle.pulsar_commands.specs.Table.{required, optional}
 use Rattle.pulsar_commands.specs.Part.{Part, text, optional_text, number, optional_number, number_or, flag, id, optional_id, ids, place}
@@ -107,6 +109,20 @@ at_place low (p ∷ ps) h =
           ∙ append-nil (values (place p) (part_fields p)),
       in_front p ps ps higher (at_place (place p) ps rest),
     )
+
+-- ---- their order
+
+behind_numbered : (low n : ℕ) (fs gs : List Field) → AllByRecursion (λ f. f.number ≡ n) fs → low ≤ n → AscendFrom n gs → AscendFrom low (fs ++ gs)
+behind_numbered low n [] gs is le h = from_lower low n gs le h
+behind_numbered low n (f ∷ fs) gs is le h =
+    (omega (arith, le, is.0), subst (λ (k : ℕ). AscendFrom k (fs ++ gs)) (sym is.0) (behind_numbered n n fs gs is.1 (omega arith) h))
+
+pub fields_ascend : (low : ℕ) (ps : List Part) → above low ps ≡ true → AscendFrom (low + 1) (flat_map part_fields ps)
+fields_ascend low [] h = tt
+fields_ascend low (p ∷ ps) h =
+    let first : low < place p = lower low p ps h in
+    let rest = from_lower (place p) (place p + 1) (flat_map part_fields ps) (omega arith) (fields_ascend (place p) ps (others low p ps h)) in
+    subst (λ (fs : List Field). AscendFrom (low + 1) fs) (sym (flat_map-cons part_fields p ps)) (behind_numbered (low + 1) (place p) (part_fields p) (flat_map part_fields ps) (placed p) (omega (arith, first)) rest)
 
 -- ---- rows
 

@@ -13,6 +13,7 @@ use Rattle.pb_fields.specs.declared.field.Value.TheVariants as value
 use Rattle.pb_fields.specs.declared.message.Form.TheVariants as form
 use Rattle.pb_fields.specs.declared.message.Row.{Row}
 use Rattle.pb_fields.specs.Field.{IsFieldNumber, IsField, varint_field, bytes_field}
+use Rattle.pb_fields.specs.Canonical.{AscendFrom}
 use Rattle.pb_fields.specs.Text.{IsText}
 use Rattle.pb_fields.specs.Message.{row_of, Fits, values, last_value, lowest_absent, IsMessage}
 use Rattle.pb_fields.specs.Embedded.{FitsWith, IsMessageWith, IsMessageText}
@@ -28,7 +29,7 @@ use Rattle.pulsar_commands.specs.Part.{Part, number, place, Told, Says}
 use Rattle.pulsar_commands.specs.Parts.{kind_of, parts, sub_number, ack_number}
 use Rattle.pulsar_commands.specs.Text.{IdRight, BodyRight, IsCommandText}
 use Rattle.pulsar_commands.specs.Canonical.{part_fields, IsPart, body_text, command_fields, command_text, IsWritable}
-use Rattle.pulsar_commands.proofs.Ascending.{above, all_numbers, at_place, row, row_at}
+use Rattle.pulsar_commands.proofs.Ascending.{above, all_numbers, at_place, fields_ascend, row, row_at}
 use Rattle.pulsar_commands.proofs.Told.{told, part_fits, part_ok}
 
 abbrev held_fields : Command → List Field
@@ -302,3 +303,11 @@ canonical_is c h =
         tells = record { kind = refl; says = says c h };
       };
     }
+
+-- ---- its order
+
+pub command_ascends : (c : Command) → AscendFrom 1 (command_fields c)
+command_ascends c = let more = (bounds (kind_of c)).0 in (omega arith, (omega (arith, more), tt))
+
+pub body_ascends : (c : Command) → AscendFrom 1 (flat_map part_fields (parts c))
+body_ascends c = fields_ascend 0 (parts c) (ascending c)

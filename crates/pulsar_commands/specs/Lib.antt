@@ -5,3 +5,4 @@ pub mod Senders
 pub mod Text
 pub mod Faults
 pub mod Canonical
+pub mod Printed

@@ -7,31 +7,46 @@ ghost use Rattle.pulsar_commands.specs.Faults.{of_message};
 use geo_base::Memory;
 use pb_fields::PbFault;
 use pb_fields::message::MessageFault;
-use thiserror::Error;
+use std::error::Error;
+use std::fmt;
 
 /// Why bytes are no command, in the order of judgement: first the bytes as fields; then field 1, the type; then the
 /// type's number; then the field of that number, with what it holds; then the values of enumerations.
-#[derive(Clone, Copy, Debug, PartialEq, Eq, Error)]
+#[derive(Clone, Copy, Debug, PartialEq, Eq)]
 pub enum CommandFault {
     /// The bytes, or those of a message in them, are no fields. The offset counts from that message's first byte.
-    #[error("Pb({0})")]
     Pb(PbFault),
     /// A field of this number has another wire type than its row.
-    #[error("WrongWire({0})")]
     WrongWire(u32),
     /// A text of this number is not UTF-8.
-    #[error("NotText({0})")]
     NotText(u32),
     /// No field has this required number, and the lower ones that are required are there.
-    #[error("Missing({0})")]
     Missing(u32),
     /// The command's type is not 2 to 19, or an enumeration does not have this value.
-    #[error("UnknownType({0})")]
     UnknownType(u64),
     /// No memory was left. It says nothing of the bytes.
-    #[error("Memory")]
     Memory,
 }
+
+impl fmt::Display for CommandFault {
+    ghost use Rattle.std.specs.Prelude.{Some};
+    ghost use Rattle.pulsar_commands.specs.Printed.{command_fault_text};
+
+    ghost output = { λ fault. Some (command_fault_text fault) };
+
+    fn fmt<W: fmt::Write>(&self, f: &mut fmt::Formatter<W>) -> fmt::Result {
+        match self {
+            CommandFault::Pb(why) => write!(f, "Pb({why})"),
+            CommandFault::WrongWire(number) => write!(f, "WrongWire({number})"),
+            CommandFault::NotText(number) => write!(f, "NotText({number})"),
+            CommandFault::Missing(number) => write!(f, "Missing({number})"),
+            CommandFault::UnknownType(number) => write!(f, "UnknownType({number})"),
+            CommandFault::Memory => write!(f, "Memory"),
+        }
+    }
+}
+
+impl Error for CommandFault {}
 
 impl From<MessageFault> for CommandFault {
     ghost from_gives = { λ from e. e ≡ of_message from };

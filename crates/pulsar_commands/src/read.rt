@@ -18,7 +18,6 @@ use crate::fault::CommandFault;
 use crate::ids::Ids;
 use crate::kind::Kind;
 use crate::table::{Choice, TYPE, TYPE_ROWS};
-use geo_base::Memory;
 use pb_fields::embedded::{Embedded, check_fields_with, read_message_with, required_message};
 use pb_fields::message::{Form, MessageFault, Row, last_varint, read_message, required_varint};
 use pb_fields::{Field, FieldList};
@@ -63,10 +62,7 @@ fn command_of_kind(alloc: Global, kind: Kind, fields: &[Field]) -> Result<Comman
     if let Some(value) = unknown_value(kind.choices(), held.as_slice()) {
         return Err(CommandFault::UnknownType(value));
     }
-    match command_of_body(alloc, kind, held.as_slice()) {
-        Ok(command) => Ok(command),
-        Err(Memory) => Err(CommandFault::Memory),
-    }
+    Ok(command_of_body(alloc, kind, held.as_slice())?)
 }
 
 /// The fields of the message in the field of the type's number.

@@ -22,10 +22,7 @@ impl Command {
         ensures canonical { IfOk result (λ bytes. bytes ≡ command_text self.now) }
         ensures text { IfOk result (λ bytes. IsCommandText bytes self.now) }
     {
-        match written(alloc, self) {
-            Ok(bytes) => Ok(bytes),
-            Err(_) => Err(Memory),
-        }
+        Ok(written(alloc, self)?)
     }
 }
 
