@@ -2,10 +2,9 @@
 -- wrong, less than a frame.
 use Rattle.std.proofs.Common.{◌≡◌, ℕ, ◌+◌, ◌<◌, ◌≤◌, ◌^◌, List, ◌∷◌, ◌++◌, Option, Some, None, length, take, drop, refl, sym, ap, subst, ◌∙◌, append_assoc, length-append, arith}
 use Rattle.std.proofs.lemmas.List.{take_at, drop_at}
-use Rattle.geo_base.specs.declared.limits.TheConstants.{FRAME_BYTES}
 use Rattle.pulsar_frames.specs.declared.fault.FrameFault.{FrameFault}
 use Rattle.pulsar_frames.specs.declared.fault.FrameFault.TheVariants as fault
-use Rattle.pulsar_frames.specs.Layout.{size, sized, Layout, BodyLayout, body_text, content_text, layout_text, Fits, TakesLayout, IsUnfinished, begun, under_way, IsCut, no_size, short, HasChecksum, BrokenContent, command, checksum, meta, BrokenLayout, too_large, content}
+use Rattle.pulsar_frames.specs.Layout.{size, sized, Layout, BodyLayout, body_text, content_text, layout_text, Fits, TakesLayout, IsUnfinished, begun, under_way, IsCut, no_size, short, HasChecksum, BrokenContent, command, checksum, meta, BrokenLayout, too_large, content, frame_limit}
 use Rattle.pulsar_frames.proofs.SizeTexts.{length-size, size_one}
 
 -- two lists that are one, cut at the same length
@@ -37,13 +36,13 @@ length-front n a = omega (arith, length-append (size n) a, length-size n)
 pub content_length : (l : Layout) → length (content_text l) ≡ 4 + length l.command + length (body_text l.body)
 content_length l = omega (arith, length-append (sized l.command) (body_text l.body), length-sized l.command)
 
-command_fits : (l : Layout) → Fits l → length l.command ≤ FRAME_BYTES
+command_fits : (l : Layout) → Fits l → length l.command ≤ frame_limit
 command_fits l h = let total = h.total in omega (arith, content_length l)
 
-body_fits : (l : Layout) → Fits l → length (body_text l.body) ≤ FRAME_BYTES
+body_fits : (l : Layout) → Fits l → length (body_text l.body) ≤ frame_limit
 body_fits l h = let total = h.total in omega (arith, content_length l)
 
-meta_fits : (b : BodyLayout) → length (body_text (Some b)) ≤ FRAME_BYTES → length b.meta ≤ FRAME_BYTES
+meta_fits : (b : BodyLayout) → length (body_text (Some b)) ≤ frame_limit → length b.meta ≤ frame_limit
 meta_fits b h = omega (arith, length-append (sized b.meta) b.payload, length-sized b.meta)
 
 -- ---- cut sizes, and checksums
@@ -56,14 +55,14 @@ not_cut a x fits (short n after fits' e lt) =
     omega (arith, cut.0, length-append a x)
 
 -- a size within the limit does not begin as a checksum does
-size_no_checksum : (n : ℕ) (x rest : List ℕ) → n ≤ FRAME_BYTES → size n ++ x ≡ 14 ∷ 1 ∷ rest → ⊥
+size_no_checksum : (n : ℕ) (x rest : List ℕ) → n ≤ frame_limit → size n ++ x ≡ 14 ∷ 1 ∷ rest → ⊥
 unfolding size
 size_no_checksum n x rest le e = let head = heads _ _ _ _ e in omega arith
   where
     heads : (a b : ℕ) (s t : List ℕ) → a ∷ s ≡ b ∷ t → a ≡ b
     heads a b s t e = cc
 
-body_no_checksum : (o : Option BodyLayout) → length (body_text o) ≤ FRAME_BYTES → HasChecksum (body_text o) → ⊥
+body_no_checksum : (o : Option BodyLayout) → length (body_text o) ≤ frame_limit → HasChecksum (body_text o) → ⊥
 body_no_checksum None le h = let e = h.1 in cc
 body_no_checksum (Some b) le h = size_no_checksum (length b.meta) (b.meta ++ b.payload) h.0 (meta_fits b le) (sym (sized_parts b.meta b.payload) ∙ h.1)
 
@@ -81,7 +80,7 @@ same_layout l k e f = both (λ c b. record { command = c; body = b }) e f
     both : (make : List ℕ → Option BodyLayout → Layout) {c d : List ℕ} {a b : Option BodyLayout} → c ≡ d → a ≡ b → make c a ≡ make d b
     both make e f = cc
 
-body_one : (a b : Option BodyLayout) → length (body_text a) ≤ FRAME_BYTES → length (body_text b) ≤ FRAME_BYTES → body_text a ≡ body_text b → a ≡ b
+body_one : (a b : Option BodyLayout) → length (body_text a) ≤ frame_limit → length (body_text b) ≤ frame_limit → body_text a ≡ body_text b → a ≡ b
 body_one None None ha hb e = refl
 body_one None (Some b) ha hb e = absurd (let len = ap (λ (s : List ℕ). length s) e in omega (arith, length-append (sized b.meta) b.payload, length-sized b.meta))
 body_one (Some a) None ha hb e = absurd (let len = ap (λ (s : List ℕ). length s) e in omega (arith, length-append (sized a.meta) a.payload, length-sized a.meta))
@@ -112,7 +111,7 @@ layout_finished bytes l r h (under_way n after le e lt) =
     let cut = size_cut (length (content_text l)) n (content_text l ++ r) after (omega arith) (omega arith) (sym (sized_parts (content_text l) r) ∙ sym h.parts ∙ e) in
     omega (arith, cut.0, ap (λ (s : List ℕ). length s) cut.1, length-append (content_text l) r)
 
-sized_within : (a x c : List ℕ) → c ≡ sized a ++ x → length c ≤ FRAME_BYTES → length a < 2 ^ 32
+sized_within : (a x c : List ℕ) → c ≡ sized a ++ x → length c ≤ frame_limit → length a < 2 ^ 32
 sized_within a x c e le = omega (arith, ap (λ (s : List ℕ). length s) e, length-append (sized a) x, length-sized a)
 
 content_sound : (l : Layout) (why : FrameFault) → Fits l → BrokenContent (content_text l) why → ⊥
@@ -124,7 +123,7 @@ content_sound l why h (meta c after e some not cut) =
     let one = sized_one l.command c (body_text l.body) after (omega (arith, command_fits l h)) (sized_within c after (content_text l) e h.total) e in
     whole l.body (body_fits l h) one.1
   where
-    whole : (o : Option BodyLayout) → length (body_text o) ≤ FRAME_BYTES → body_text o ≡ after → ⊥
+    whole : (o : Option BodyLayout) → length (body_text o) ≤ frame_limit → body_text o ≡ after → ⊥
     whole None le is = some (sym is)
     whole (Some b) le is = not_cut b.meta b.payload (omega (arith, meta_fits b le)) (subst (λ (s : List ℕ). IsCut s) (sym is) cut)
 
@@ -147,7 +146,7 @@ unfinished_sound bytes why (under_way m before small e lt) (content c rest le e'
     let cut = size_cut m (length c) before (c ++ rest) (omega arith) (omega arith) (sym e ∙ e' ∙ sized_parts c rest) in
     omega (arith, cut.0, ap (λ (s : List ℕ). length s) cut.1, length-append c rest)
 
-content_broken_one : (c : List ℕ) (a b : FrameFault) → length c ≤ FRAME_BYTES → BrokenContent c a → BrokenContent c b → a ≡ b
+content_broken_one : (c : List ℕ) (a b : FrameFault) → length c ≤ frame_limit → BrokenContent c a → BrokenContent c b → a ≡ b
 content_broken_one c a b le (command cut) (command cut') = refl
 content_broken_one c a b le (command cut) (checksum d after e sum) = absurd (not_cut d after (sized_within d after c e le) (subst (λ (s : List ℕ). IsCut s) e cut))
 content_broken_one c a b le (command cut) (meta d after e some not cut') = refl

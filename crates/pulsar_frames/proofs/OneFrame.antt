@@ -2,7 +2,7 @@
 use Rattle.std.proofs.Common.{◌≡◌, ◌≢◌, ℕ, Bool, true, List, [], ◌++◌, Option, Some, None, refl, sym, ap, subst, ◌∙◌}
 use Rattle.std.proofs.lemmas.List.{append-nil}
 use Rattle.std.specs.Prelude.{is_some}
-use Rattle.message_meta.specs.declared.table.TheConstants.{ROWS}
+use Rattle.message_meta.specs.Table.{rows}
 use Rattle.message_meta.specs.Metadata.{Metadata, IsMetaText}
 use Rattle.message_meta.proofs.Meaning.{meta_text_one}
 use Rattle.pb_fields.specs.declared.message.MessageFault.{MessageFault}
@@ -49,13 +49,13 @@ means_one l f g h k = same_frame f g (command_one l.command f.command g.command 
 
 -- ---- what is wrong with them
 
-meta_right : (o : Option BodyLayout) (b : BodyLayout) (why : MessageFault) (body : Option Body) → o ≡ Some b → MeansBody o body → WrongMessage ROWS b.meta why → ⊥
+meta_right : (o : Option BodyLayout) (b : BodyLayout) (why : MessageFault) (body : Option Body) → o ≡ Some b → MeansBody o body → WrongMessage rows b.meta why → ⊥
 meta_right None b why body e h wrong = cc
 meta_right (Some l) b why None e h wrong = h
 meta_right (Some l) b why (Some body) e h wrong =
     let same : l ≡ b = some_is l b e in
     let text : IsMetaText b.meta body.meta = subst (λ (x : BodyLayout). IsMetaText x.meta body.meta) same h.0 in
-    message_sound ROWS b.meta text.fields why text.text text.means.message wrong
+    message_sound rows b.meta text.fields why text.text text.means.message wrong
   where
     some_is : (l b : BodyLayout) → ◌≡◌ {A = Option BodyLayout} (Some l) (Some b) → l ≡ b
     some_is l b e = cc
@@ -91,7 +91,7 @@ wrong_one l a b (meta c body why text is at h e) (command why' k f) = absurd (co
 wrong_one l a b (meta c body why text is at h e) (carried d text' other f) = absurd (not_both l d c body text' text other is at)
 wrong_one l a b (meta c body why text is at h e) (meta d body' why' text' is' at' k f) =
     let same : body ≡ body' = same_layout l.body body body' at at' in
-    e ∙ ap (λ (x : MessageFault). fault.Meta x) (message_one ROWS body'.meta why why' (subst (λ (x : BodyLayout). WrongMessage ROWS x.meta why) same h) k) ∙ sym f
+    e ∙ ap (λ (x : MessageFault). fault.Meta x) (message_one rows body'.meta why why' (subst (λ (x : BodyLayout). WrongMessage rows x.meta why) same h) k) ∙ sym f
 
 -- ---- at the front of bytes
 

@@ -1,7 +1,6 @@
 -- The canonical text of a frame: those of its command and its metadata, behind their sizes.
 use Rattle.std.specs.Prelude.{◌≡◌, ℕ, ◌<◌, List, length, Some, is_some, IfSome}
 use Rattle.std.specs.Option.{option_map}
-use Rattle.geo_base.specs.declared.limits.TheConstants.{FRAME_BYTES}
 use Rattle.pb_fields.specs.Canonical.{text}
 use Rattle.message_meta.specs.Canonical.{IsMetadata, canonical_fields}
 use Rattle.pulsar_commands.specs.Canonical.{IsWritable, command_text}
@@ -10,7 +9,8 @@ use Rattle.pulsar_frames.specs.declared.fault.FrameFault.{FrameFault}
 use Rattle.pulsar_frames.specs.declared.fault.FrameFault.TheVariants as fault
 use Rattle.pulsar_frames.specs.declared.frame.Body.{Body}
 use Rattle.pulsar_frames.specs.declared.frame.Frame.{Frame}
-use Rattle.pulsar_frames.specs.Layout.{Layout, BodyLayout, content_text, layout_text, Fits}
+use Rattle.pulsar_frames.specs.Counted.{counted}
+use Rattle.pulsar_frames.specs.Layout.{Layout, BodyLayout, content_text, frame_limit, layout_text, Fits}
 use Rattle.pulsar_frames.specs.Frames.{carries}
 
 abbrev pub canonical_body : Body → BodyLayout
@@ -41,8 +41,9 @@ pub record IsWritableFrame (f : Frame) : Type 0 where
   pub meta : IfSome f.body (λ b. IsMetadata b.meta)
   pub fits : Fits (canonical_layout f)
 
--- The size, which passes the limit, is the one thing that can be wrong. Want of memory says nothing of the frame.
+-- The size, which passes the limit, is the one thing that can be wrong; it is told by a number of 64 bits. Want of memory
+-- says nothing of the frame.
 abbrev pub IsTooLarge : ℕ → FrameFault → Type 0
-IsTooLarge total (fault.TooLarge n) = (n ≡ total) × (FRAME_BYTES < total)
+IsTooLarge total (fault.TooLarge n) = (n ≡ counted total) × (frame_limit < total)
 IsTooLarge total fault.Memory = Unit {0}
 IsTooLarge total e = ⊥

@@ -1,6 +1,6 @@
 -- Frames: what their parts say, and why they say nothing.
 use Rattle.std.specs.Prelude.{◌≡◌, ◌≢◌, ℕ, Bool, true, false, List, ◌++◌, Option, Some, None, is_some}
-use Rattle.message_meta.specs.declared.table.TheConstants.{ROWS}
+use Rattle.message_meta.specs.Table.{rows}
 use Rattle.message_meta.specs.Metadata.{IsMetaText}
 use Rattle.pb_fields.specs.declared.message.MessageFault.{MessageFault}
 use Rattle.pb_fields.specs.declared.message.MessageFault.TheVariants as why_meta
@@ -58,7 +58,7 @@ pub record TakesFrame (bytes : List ℕ) (f : Frame) (rest : List ℕ) : Type 0 
 pub data WrongFrame (l : Layout) (e : FrameFault) : Type 0 where
   command : (why : CommandFault) → WrongCommand l.command why → e ≡ fault.Command why → WrongFrame l e
   carried : (c : Command) → IsCommandText l.command c → is_some l.body ≢ carries (kind_of c) → e ≡ fault.Sizes → WrongFrame l e
-  meta : (c : Command) (b : BodyLayout) (why : MessageFault) → IsCommandText l.command c → carries (kind_of c) ≡ true → l.body ≡ Some b → WrongMessage ROWS b.meta why → e ≡ fault.Meta why → WrongFrame l e
+  meta : (c : Command) (b : BodyLayout) (why : MessageFault) → IsCommandText l.command c → carries (kind_of c) ≡ true → l.body ≡ Some b → WrongMessage rows b.meta why → e ≡ fault.Meta why → WrongFrame l e
 
 -- What is wrong with the first frame of the bytes: first its sizes, then its parts.
 pub data HasFault (bytes : List ℕ) (e : FrameFault) : Type 0 where
@@ -82,5 +82,5 @@ meta_fault why = fault.Meta why
 -- metadata that has no reading, unless memory ran out
 abbrev pub WrongBody : List ℕ → FrameFault → Type 0
 WrongBody bytes fault.Memory = Unit {0}
-WrongBody bytes (fault.Meta why) = WrongMessage ROWS bytes why
+WrongBody bytes (fault.Meta why) = WrongMessage rows bytes why
 WrongBody bytes e = ⊥

@@ -2,9 +2,13 @@
 -- payload frame the metadata's size, the metadata, the payload. A size is four bytes, the greatest first.
 use Rattle.std.specs.Prelude.{◌≡◌, ◌≢◌, ℕ, ◌<◌, ◌≤◌, ◌^◌, List, [], ◌∷◌, ◌++◌, length, Option, Some, None}
 use Rattle.std.specs.Int.{w32, to_be_bytes}
-use Rattle.geo_base.specs.declared.limits.TheConstants.{FRAME_BYTES}
 use Rattle.pulsar_frames.specs.declared.fault.FrameFault.{FrameFault}
 use Rattle.pulsar_frames.specs.declared.fault.FrameFault.TheVariants as fault
+
+-- The most that a total size counts: Pulsar's largest message, 5 MiB, and 10 KiB for what frames it (maxMessageSize, and
+-- MESSAGE_SIZE_FRAME_PADDING of Pulsar's Commands).
+abbrev pub frame_limit : ℕ
+frame_limit = 5253120
 
 unfoldable pub size : ℕ → List ℕ
 size n = to_be_bytes w32 n
@@ -35,7 +39,7 @@ layout_text l = sized (content_text l)
 
 -- The total size is within the limit, so each size within has 32 bits.
 pub record Fits (l : Layout) : Type 0 where
-  pub total : length (content_text l) ≤ FRAME_BYTES
+  pub total : length (content_text l) ≤ frame_limit
 
 -- A frame stands at the front of the bytes, as far as its sizes go, and rest comes after it.
 pub record TakesLayout (bytes : List ℕ) (l : Layout) (rest : List ℕ) : Type 0 where
@@ -47,7 +51,7 @@ pub record TakesLayout (bytes : List ℕ) (l : Layout) (rest : List ℕ) : Type 
 -- The bytes end within the total size, or before what it counts.
 pub data IsUnfinished : List ℕ → Type 0 where
   begun : {bytes : List ℕ} → length bytes < 4 → IsUnfinished bytes
-  under_way : {bytes : List ℕ} (n : ℕ) (after : List ℕ) → n ≤ FRAME_BYTES → bytes ≡ size n ++ after → length after < n → IsUnfinished bytes
+  under_way : {bytes : List ℕ} (n : ℕ) (after : List ℕ) → n ≤ frame_limit → bytes ≡ size n ++ after → length after < n → IsUnfinished bytes
 
 -- ---- what is wrong
 
@@ -70,5 +74,5 @@ pub data BrokenContent : List ℕ → FrameFault → Type 0 where
 -- What is wrong at the front of the bytes: the total size passes the limit; or the whole frame is there, and its
 -- content is wrong.
 pub data BrokenLayout : List ℕ → FrameFault → Type 0 where
-  too_large : {bytes : List ℕ} (n : ℕ) (after : List ℕ) → FRAME_BYTES < n → n < 2 ^ 32 → bytes ≡ size n ++ after → BrokenLayout bytes (fault.TooLarge n)
-  content : {bytes : List ℕ} {why : FrameFault} (content rest : List ℕ) → length content ≤ FRAME_BYTES → bytes ≡ sized content ++ rest → BrokenContent content why → BrokenLayout bytes why
+  too_large : {bytes : List ℕ} (n : ℕ) (after : List ℕ) → frame_limit < n → n < 2 ^ 32 → bytes ≡ size n ++ after → BrokenLayout bytes (fault.TooLarge n)
+  content : {bytes : List ℕ} {why : FrameFault} (content rest : List ℕ) → length content ≤ frame_limit → bytes ≡ sized content ++ rest → BrokenContent content why → BrokenLayout bytes why

@@ -4,8 +4,19 @@ ghost use Rattle.std.specs.Prelude.{◌≡◌, ◌∷◌, ◌++◌, [], ℕ, Lis
 ghost use Rattle.pulsar_frames.specs.declared.fault.FrameFault.{FrameFault};
 ghost use Rattle.pulsar_frames.specs.declared.frame.Frame.{Frame};
 ghost use Rattle.pulsar_frames.specs.Frames.{IsFrameText, TakesFrame};
+ghost use Rattle.geo_base.specs.FrameSizes.{most_frame_size};
+ghost use Rattle.pulsar_frames.specs.Layout.{frame_limit};
 ghost use Rattle.pulsar_frames.specs.Streams.{Ends, IsStream, Reading, Came, ReadsStream};
 ghost use Rattle.pulsar_frames.specs.Canonical.{IsWritableFrame, frame_text};
+
+use geo_base::limits::FRAME_BYTES;
+
+/// The limit on frames: its definition writes the number itself; the constant that the code judges by and the machine's
+/// definition are the same.
+pub fn one_limit()
+    ensures code { FRAME_BYTES ≡ frame_limit }
+    ensures machine { most_frame_size ≡ frame_limit }
+{}
 
 /// Bytes are a text of one frame at most. A stream is one list of frames at most, with one rest, which is refused for
 /// one reason at most; no frame begins the rest.

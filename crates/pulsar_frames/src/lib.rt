@@ -12,7 +12,7 @@ mod write;
 
 pub use fault::FrameFault;
 pub use frame::{Body, Frame};
-pub use laws::{any_pieces, canonical_frame, no_prefix, one_frame, one_reading};
+pub use laws::{any_pieces, canonical_frame, no_prefix, one_frame, one_limit, one_reading};
 pub use read::{carries_message, read_frame};
 pub use reader::FrameReader;
 pub use write::{write_carrying, write_frame};

@@ -45,10 +45,8 @@ impl<T: Drop> Queue<T> {
         ensures ok { OnOk result (self.new ≡ self.old ++ item ∷ []) }
         ensures err { OnErr result (self.new ≡ self.old) }
     {
-        match self.items.push_back(item) {
-            Ok(()) => Ok(()),
-            Err(_) => Err(Memory),
-        }
+        self.items.push_back(item)?;
+        Ok(())
     }
 
     /// The items of another queue at the end; unchanged where memory is wanting.
@@ -57,9 +55,7 @@ impl<T: Drop> Queue<T> {
         ensures err { OnErr result (self.new ≡ self.old) }
     {
         let Queue { mut items } = other;
-        match self.items.append(&mut items) {
-            Ok(()) => Ok(()),
-            Err(_) => Err(Memory),
-        }
+        self.items.append(&mut items)?;
+        Ok(())
     }
 }

@@ -65,10 +65,7 @@ impl FrameReader {
             return Err(why);
         }
         let before = self.rest.len();
-        match self.rest.extend_from_slice(piece) {
-            Ok(()) => {}
-            Err(_) => return Err(FrameFault::Memory),
-        }
+        self.rest.extend_from_slice(piece)?;
         match self.read_rest() {
             Ok(()) => self.answer(),
             Err(Memory) => {

@@ -1,12 +1,12 @@
 //! Writing frames.
 
-ghost use Rattle.std.specs.Prelude.{◌≡◌, ◌+◌, ◌<◌, ◌≤◌, ◌^◌, ◌++◌, length, IfOk, IfErr, OnOk, IfSome, Err, true};
-ghost use Rattle.geo_base.specs.declared.limits.TheConstants.{FRAME_BYTES};
+ghost use Rattle.std.specs.Prelude.{◌≡◌, ◌+◌, ◌<◌, ◌≤◌, ◌^◌, ◌++◌, length, IfOk, IfErr, IsErrOf, OnOk, Err, true};
 ghost use Rattle.pb_fields.specs.Faults.{Answers};
 ghost use Rattle.pb_fields.specs.Canonical.{text};
 ghost use Rattle.message_meta.specs.Canonical.{canonical_fields};
 ghost use Rattle.message_meta.specs.Metadata.{IsMetaText};
-ghost use Rattle.pulsar_frames.specs.Layout.{size, sized, content_text, layout_text, Fits};
+ghost use Rattle.pulsar_frames.specs.Counted.{counted};
+ghost use Rattle.pulsar_frames.specs.Layout.{size, sized, content_text, frame_limit, layout_text, Fits};
 ghost use Rattle.pulsar_frames.specs.Viewed.{layout};
 ghost use Rattle.message_meta.specs.Known.{IsRest};
 ghost use Rattle.pulsar_commands.specs.Parts.{kind_of};
@@ -32,7 +32,7 @@ pub fn write_frame(alloc: Global, frame: &Frame) -> Result<Blob, FrameFault>
     // A frame is refused for its size alone.
     ensures fault { IfErr result (IsTooLarge (frame_size frame.now)) }
     // One whose size passes the limit is refused, unless memory runs out.
-    ensures too_large { FRAME_BYTES < frame_size frame.now → Answers FrameFault.Memory result (Err (FrameFault.TooLarge (frame_size frame.now))) }
+    ensures too_large { frame_limit < frame_size frame.now → Answers FrameFault.Memory result (Err (FrameFault.TooLarge (counted (frame_size frame.now)))) }
 {
     let command = frame.command.write(alloc)?;
     match &frame.body {
@@ -103,31 +103,26 @@ fn write_parts(alloc: Global, parts: FrameParts<'_>) -> Result<Blob, FrameFault>
     ensures ok { IfOk result (λ bytes. bytes ≡ layout_text (layout parts.entry)) }
     ensures fits { OnOk result (Fits (layout parts.entry)) }
     ensures err { IfErr result (IsTooLarge (length (content_text (layout parts.entry)))) }
+    // Memory is wanting only for what is within the limit.
+    ensures memory { IsErrOf result FrameFault.Memory → length (content_text (layout parts.entry)) ≤ frame_limit }
 {
-    let Some(total) = total_size(parts) else {
-        return Err(FrameFault::Memory);
-    };
+    let total = total_size(parts);
     if total > FRAME_BYTES {
         return Err(FrameFault::TooLarge { size: total });
     }
-    match join(alloc, total, parts) {
-        Ok(out) => Ok(out),
-        Err(Memory) => Err(FrameFault::Memory),
-    }
+    Ok(join(alloc, total, parts)?)
 }
 
-/// How many bytes follow the total size. None where it has more than 64 bits: so much is in no memory.
-fn total_size(parts: FrameParts<'_>) -> Option<u64>
-    ensures { IfSome result (λ n. n ≡ length (content_text (layout parts.entry))) }
+/// How many bytes follow the total size; more than 64 bits, which are in no memory, count as the greatest number of 64.
+fn total_size(parts: FrameParts<'_>) -> u64
+    ensures { result ≡ counted (length (content_text (layout parts.entry))) }
 {
     let command = 4 + parts.command.len() as u64;
     match parts.body {
-        None => Some(command),
+        None => command,
         Some(body) => {
-            let meta = 4 + body.meta.len() as u64;
-            let framed = command.checked_add(meta)?;
-            let total = framed.checked_add(body.payload.len() as u64)?;
-            Some(total)
+            let framed = command.saturating_add(4 + body.meta.len() as u64);
+            framed.saturating_add(body.payload.len() as u64)
         }
     }
 }
@@ -135,13 +130,10 @@ fn total_size(parts: FrameParts<'_>) -> Option<u64>
 /// The parts one after another, behind the total size.
 fn join(alloc: Global, total: u64, parts: FrameParts<'_>) -> Result<Blob, Memory>
     requires total { total ≡ length (content_text (layout parts)) }
-    requires fits { total ≤ FRAME_BYTES }
+    requires fits { total ≤ frame_limit }
     ensures { IfOk result (λ bytes. bytes ≡ layout_text (layout parts.entry)) }
 {
-    let Ok(room) = Vec::with_capacity(alloc, 4 + total as usize) else {
-        return Err(Memory);
-    };
-    let mut out = Blob::from_vec(room);
+    let mut out = Blob::from_vec(Vec::with_capacity(alloc, 4 + total as usize)?);
     append_size(&mut out, total)?;
     append_sized(&mut out, parts.command)?;
     match parts.body {
