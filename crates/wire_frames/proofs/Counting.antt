@@ -8,7 +8,7 @@ use Rattle.geo_base.specs.declared.entry.Entry.{Entry}
 use Rattle.geo_base.specs.Sizes.{bytes_field, entry_size, marker_type_size, metadata_size, most_entry_size, number_field, optional_text, payload_size, repeated_text, tag_size, text_field, varint_groups, varint_size}
 use Rattle.pb_fields.specs.Canonical.{varint}
 use Rattle.pb_fields.proofs.Written.{varint-more}
-use Rattle.wire_frames.specs.Counted.{counted}
+use Rattle.pulsar_frames.specs.Counted.{counted}
 use Rattle.wire_frames.specs.Texts.{marker_number}
 use Rattle.wire_frames.proofs.Sized.{length-varint}
 

@@ -8,7 +8,6 @@ use Rattle.geo_base.specs.declared.entry.Entry.{Entry}
 use Rattle.geo_base.specs.declared.frame.Frame.{Frame}
 use Rattle.geo_base.specs.declared.frame.Frame.TheVariants as frame
 use Rattle.geo_base.specs.FrameSizes.{frame_size}
-use Rattle.geo_base.specs.declared.limits.TheConstants.{FRAME_BYTES}
 use Rattle.geo_base.specs.declared.marker.Place.{Place}
 use Rattle.geo_base.specs.declared.position.Position.{Position}
 use Rattle.geo_base.specs.declared.marker.Marker.{Marker as MachineMarker}
@@ -102,7 +101,6 @@ large_is names rest f why kept readable large =
 -- a frame that can be written is not too large
 pub not_large : (names : List (List ℕ)) (f : Frame) (why : FrameFault) → IsWritable names f → IsTooLarge (frame_size names f - 4) why → why ≢ fault.Memory → ⊥
 not_large names f (fault.TooLarge n) h large other =
-    let limit : FRAME_BYTES ≡ 5253120 = refl in
     let size = h.size in
     omega (arith, large.1)
 not_large names f fault.Memory h large other = other refl

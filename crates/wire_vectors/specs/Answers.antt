@@ -10,7 +10,7 @@ use Rattle.pb_fields.specs.Text.{IsText}
 use Rattle.pb_fields.specs.Faults.{IsFaultOf}
 use Rattle.pb_fields.specs.Canonical.{text}
 use Rattle.pb_fields.specs.Message.{WrongMessage, IsWrongOrMemory}
-use Rattle.message_meta.specs.declared.table.TheConstants.{ROWS}
+use Rattle.message_meta.specs.Table.{rows}
 use Rattle.message_meta.specs.Metadata.{Metadata, IsMetaText}
 use Rattle.message_meta.specs.Canonical.{canonical_fields}
 use Rattle.marker_codec.specs.declared.fault.MarkerFault.TheVariants as marker_fault
@@ -43,7 +43,7 @@ IsFieldsAnswer bytes a = ⊥
 
 abbrev pub IsMetaAnswer : List ℕ → Answer → Type 0
 IsMetaAnswer bytes (answer.Canonical out) = (m : Metadata) × IsMetaText bytes m × (out ≡ text (canonical_fields m))
-IsMetaAnswer bytes (answer.NoMeta fault) = (fault ≢ message.Memory) × IsWrongOrMemory (WrongMessage ROWS bytes) fault
+IsMetaAnswer bytes (answer.NoMeta fault) = (fault ≢ message.Memory) × IsWrongOrMemory (WrongMessage rows bytes) fault
 IsMetaAnswer bytes a = ⊥
 
 abbrev pub IsMarkerAnswer : ℕ → List ℕ → Answer → Type 0

@@ -1,7 +1,7 @@
 use Rattle.std.proofs.Common.{◌≡◌, ◌+◌, List, [], drop, ap, sym, ◌∙◌, arith}
 use Rattle.geo_base.specs.declared.marker.ClusterPosition.{ClusterPosition}
 use Rattle.geo_base.specs.Sizes.{cluster_positions}
-use Rattle.wire_frames.specs.Counted.{counted}
+use Rattle.pulsar_frames.specs.Counted.{counted}
 use Rattle.wire_frames.proofs.Counting.{ended, none_left}
 use Rattle.wire_frames.proofs.size.add_clusters.Goals as goal
 

@@ -1,6 +1,6 @@
 use Rattle.std.proofs.Common.{◌≡◌, ◌+◌, ◌^◌, ◌<◌, drop}
 use Rattle.geo_base.specs.Sizes.{cluster_positions}
-use Rattle.wire_frames.specs.Counted.{counted}
+use Rattle.pulsar_frames.specs.Counted.{counted}
 use Rattle.wire_frames.proofs.size.add_clusters.Given as goal
 
 abbrev pub invariant-loop-cluster : goal.invariant-loop-cluster

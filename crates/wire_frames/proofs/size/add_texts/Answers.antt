@@ -1,6 +1,6 @@
 use Rattle.std.proofs.Common.{◌≡◌, ◌+◌, List, ℕ, [], length, drop, ap, sym, ◌∙◌, arith}
 use Rattle.geo_base.specs.Sizes.{repeated_text}
-use Rattle.wire_frames.specs.Counted.{counted}
+use Rattle.pulsar_frames.specs.Counted.{counted}
 use Rattle.wire_frames.proofs.Counting.{ended, none_left}
 use Rattle.wire_frames.proofs.size.add_texts.Goals as goal
 

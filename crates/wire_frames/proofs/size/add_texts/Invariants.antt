@@ -1,6 +1,6 @@
 use Rattle.std.proofs.Common.{◌≡◌, ◌+◌, ◌^◌, ◌<◌, drop}
 use Rattle.geo_base.specs.Sizes.{repeated_text}
-use Rattle.wire_frames.specs.Counted.{counted}
+use Rattle.pulsar_frames.specs.Counted.{counted}
 use Rattle.wire_frames.proofs.size.add_texts.Given as goal
 
 abbrev pub invariant-loop-text : goal.invariant-loop-text
