@@ -99,7 +99,6 @@ abbrev pub may_halt : EventKind → Bool
 may_halt event.Go = false
 may_halt event.Get = false
 may_halt event.Reconnect = false
-may_halt event.Seek = false
 may_halt event.Restart = false
 may_halt k = true
 

@@ -139,11 +139,7 @@ impl EventKind {
     {
         !matches!(
             self,
-            EventKind::Go
-                | EventKind::Get
-                | EventKind::Reconnect
-                | EventKind::Seek
-                | EventKind::Restart
+            EventKind::Go | EventKind::Get | EventKind::Reconnect | EventKind::Restart
         )
     }
 }

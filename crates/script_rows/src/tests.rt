@@ -74,6 +74,7 @@ fn events_are_read_and_written_the_same(rt: HostRuntime) -> Result<(), Fail> {
         "restart t a",
         "halt 0 serve a p",
         "halt 8 take t a b lost",
+        "halt 1 seek t a s end",
         "settle",
         "stop",
     ] {
@@ -94,7 +95,7 @@ fn words_break_the_lowest_rule(rt: HostRuntime) -> Result<(), Fail> {
         (Stage::Event, "halt", 4),
         (Stage::Event, "halt 0 foo", 4),
         (Stage::Event, "halt 0 go p", 4),
-        (Stage::Event, "halt 0 seek t a s end", 4),
+        (Stage::Event, "halt 0 restart t a", 4),
         (Stage::Event, "halt 9 snap t a", 4),
         (Stage::Event, "seek t a s 3", 4),
         (Stage::Setting, "ledger 0", 4),
