@@ -56,6 +56,20 @@ scripted s k some = record {
   of_a_topic = k.of_a_topic;
 }
 
+-- and what a script can declare is declared so
+pub declared_scripted : (s : Setup) → IsScripted s → IsDeclared s
+declared_scripted s k = record {
+  ledger = k.ledger;
+  clusters = record { each = k.cluster_names.0; apart = k.cluster_names.1 };
+  few_clusters = k.clusters.1;
+  topics = record { each = k.topic_names.0; apart = k.topic_names.1 };
+  few_topics = k.topics.1;
+  pair = λ _. k.clusters.0;
+  clients = k.clients.0;
+  clients_apart = k.clients.1;
+  of_a_topic = k.of_a_topic;
+}
+
 pub scenario_is : (d : Declarations) (steps : Steps) → IsDeclared d.setup → 0 < length d.setup.topics → All IsClient d.setup.clients → IfSome d.chance IsChance → All (IsStep d.setup) steps.list → IsScenario (script_with (record { declared = d; steps = steps }))
 scenario_is d steps known some clients chance all =
     record { setup = scripted d.setup known some; clients = clients; chance = chance; steps = all }

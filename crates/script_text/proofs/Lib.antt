@@ -18,3 +18,13 @@ pub mod Accepted
 pub mod ScheduleBack
 pub mod Lowest
 pub mod Ends
+pub mod Written
+pub mod PlainWords
+pub mod RowsBack
+pub mod TargetsBack
+pub mod NewNames
+pub mod DeclaredBack
+pub mod LineWords
+pub mod PartRead
+pub mod LinesBack
+pub mod AllBack

@@ -67,7 +67,7 @@ within_at least most vs i is =
 pub ledger_said : (n : Names) (vs : List Value) → AreFit n nothing_seen (columns_of (kind.Other row.Ledger)) vs → (1 ≤ item_at vs 0) × (item_at vs 0 ≤ 1000000)
 ledger_said n vs f = within_at 1 1000000 vs 0 f.1.0
 
-lost_read : (i : ℕ) → i ≤ 1000 → unwrap_or (number_of 1000 (decimal i)) 0 ≡ i
+pub lost_read : (i : ℕ) → i ≤ 1000 → unwrap_or (number_of 1000 (decimal i)) 0 ≡ i
 lost_read i small = rw (number_back 1000 i small (omega arith)) refl
 
 pub chance_said : (n : Names) (vs : List Value) → AreFit n nothing_seen (columns_of (kind.Other row.Chance)) vs → IsChance (chance_of vs)
@@ -80,7 +80,7 @@ chance_said n vs f =
     record { number = omega (arith, number.1); fates = omega (arith, lost.1, twice.1); restart = restart.1 }
 
 -- ---- a client
-topics_counted : (t : ℕ) (ds : List Declared) → length (filter (λ (m : Member). m.topic == t) (map naming.member_of ds)) ≡ length (filter (λ (d : Declared). d.topic == t) ds)
+pub topics_counted : (t : ℕ) (ds : List Declared) → length (filter (λ (m : Member). m.topic == t) (map naming.member_of ds)) ≡ length (filter (λ (d : Declared). d.topic == t) ds)
 topics_counted t [] = refl
 topics_counted t (d ∷ ds) =
     cond_both (d.topic == t) (d ∷ filter (λ (e : Declared). e.topic == t) ds) (filter (λ (e : Declared). e.topic == t) ds) (λ (es : List Declared). length (filter (λ (m : Member). m.topic == t) (map naming.member_of (d ∷ ds))) ≡ length es) (λ same. rw same (omega (arith, topics_counted t ds))) (λ other. rw other (topics_counted t ds))

@@ -43,11 +43,11 @@ feedless bytes all =
 abbrev pub line_with : List ℕ → TextLine
 line_with bytes = record { bytes = bytes; ended = true }
 
-first_line : (bytes more : List ℕ) → list_all is_shown bytes ≡ true → lines_of (bytes ++ 10 ∷ more) ≡ line_with bytes ∷ lines_of more
+pub first_line : (bytes more : List ℕ) → list_all is_shown bytes ≡ true → lines_of (bytes ++ 10 ∷ more) ≡ line_with bytes ∷ lines_of more
 first_line bytes more all =
     lines_cut (bytes ++ 10 ∷ more) bytes more (slice_split_at (λ b. b == 10) bytes 10 more (feedless bytes all) refl)
 
-not_skipped : (bytes : List ℕ) → IsSaid bytes → is_skipped bytes ≡ false
+pub not_skipped : (bytes : List ℕ) → IsSaid bytes → is_skipped bytes ≡ false
 not_skipped bytes said = subst (λ (bs : List ℕ). is_skipped bs ≡ false) (sym said.2) said.3
 
 -- the line of a step adds that step

@@ -8,3 +8,4 @@ pub mod Scenario
 pub mod Subs
 pub mod Drafts
 pub mod Kept
+pub mod Canonical

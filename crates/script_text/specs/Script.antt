@@ -18,6 +18,15 @@ abbrev pub setup_with : ℕ → List (List ℕ) → List (List ℕ) → List Dec
 setup_with per_ledger clusters topics clients =
     record { per_ledger = per_ledger; clusters = clusters; topics = topics; clients = clients }
 
+-- a script that no text said: its steps have no lines
+abbrev pub unsaid : ℕ → List (List ℕ) → List (List ℕ) → List Declared → List Step → Script
+unsaid per_ledger clusters topics clients steps = record {
+  setup = setup_with per_ledger clusters topics clients;
+  chance = None;
+  steps = steps;
+  first_event = None;
+}
+
 -- the first line that breaks a rule, and the lowest rule that it breaks
 pub record Fault : Type 0 where
   pub line : ℕ

@@ -30,17 +30,30 @@ impl Model for ClientDecl {
 }
 
 impl ClientDecl {
-    /// A client without lines; takes no memory.
-    pub(crate) fn new(alloc: Global, name: ProducerName, topic: u32, cluster: u32) -> ClientDecl
+    /// A client of its parts; takes no memory.
+    pub fn of_parts(
+        name: ProducerName,
+        topic: u32,
+        cluster: u32,
+        lines: Sequence<Line>,
+    ) -> ClientDecl
         requires { is_name name ≡ true }
-        ensures { result ≡ new_client name topic cluster }
+        ensures { result ≡ record { name = name; topic = topic; cluster = cluster; lines = lines } }
     {
         ClientDecl {
             name,
             topic,
             cluster,
-            lines: Sequence::new(alloc),
+            lines,
         }
+    }
+
+    /// A client without lines; takes no memory.
+    pub(crate) fn new(alloc: Global, name: ProducerName, topic: u32, cluster: u32) -> ClientDecl
+        requires { is_name name ≡ true }
+        ensures { result ≡ new_client name topic cluster }
+    {
+        ClientDecl::of_parts(name, topic, cluster, Sequence::new(alloc))
     }
 
     /// One more line.

@@ -19,11 +19,13 @@
 //! [`read_schedule`] and [`write_schedule`] read and write events that stand by themselves.
 #![tactic(auto)]
 
+mod canonical;
 mod chance;
 mod client;
 mod declarations;
 mod draft;
 mod fault;
+mod law;
 mod lines;
 mod names;
 mod read;
@@ -35,9 +37,11 @@ mod subs;
 #[cfg(test)]
 mod tests;
 
+pub use canonical::write_declarations;
 pub use chance::Chance;
 pub use client::ClientDecl;
 pub use fault::ScriptFault;
+pub use law::declarations_read_back;
 pub use read::read_script;
-pub use scenario::Scenario;
+pub use scenario::{Scenario, ScenarioParts};
 pub use schedule::{read_schedule, write_schedule};

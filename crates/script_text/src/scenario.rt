@@ -11,13 +11,34 @@ ghost use Rattle.script_text.specs.Scenario.{IsChance, IsClient, IsScenario, IsS
 use crate::chance::Chance;
 use crate::client::ClientDecl;
 use crate::declarations::Declarations;
+use crate::schedule::AT_EVENTS;
+use crate::setup::SetupParts;
 use crate::steps::Steps;
-use geo_base::{ClusterName, Memory, Step, SubName, TopicName};
+use geo_base::{ClusterName, Memory, Sequence, Step, SubName, TopicName};
 use script_rows::Names;
 use std::alloc::Global;
 use std::marker::Model;
 
-/// An accepted script: clusters, topics and clients, each numbered from 0 in the script's order, and the schedule.
+/// What a scenario that no text said is made of: how many entries a ledger takes, clusters, topics and clients, each
+/// numbered from 0 in its order, and the schedule. Contracts see it as a script without chances and without lines.
+#[derive(Debug, Drop)]
+pub struct ScenarioParts {
+    pub per_ledger: u64,
+    pub clusters: Sequence<ClusterName>,
+    pub topics: Sequence<TopicName>,
+    pub clients: Sequence<ClientDecl>,
+    pub steps: Sequence<Step>,
+}
+
+impl Model for ScenarioParts {
+    ghost use Rattle.script_text.specs.Script.{Script, unsaid};
+
+    ghost Value = { Script };
+
+    ghost view = { λ p. unsaid p.per_ledger p.clusters p.topics p.clients p.steps };
+}
+
+/// An accepted script, or what one could declare and schedule: clusters, topics and clients, each numbered from 0 in the script's order, and the schedule.
 /// Contracts see it as the definition's script.
 #[derive(Debug, Drop)]
 pub struct Scenario {
@@ -38,7 +59,25 @@ impl Model for Scenario {
 }
 
 impl Scenario {
-    /// The script of its parts.
+    /// The scenario of parts that no text said. An `Err` is want of memory.
+    #[tactic(auto, using(crate::proofs::Accepted::declared_scripted))]
+    pub fn of_parts(alloc: Global, parts: ScenarioParts) -> Result<Scenario, Memory>
+        requires { IsScenario parts }
+        ensures { IfOk result (λ scenario. scenario ≡ parts) }
+    {
+        let ScenarioParts {
+            per_ledger,
+            clusters,
+            topics,
+            clients,
+            steps,
+        } = parts;
+        let setup = SetupParts::new(per_ledger, clusters, topics, clients);
+        let declared = Declarations::new(alloc, AT_EVENTS, None, setup)?;
+        Ok(Scenario::new(declared, Steps::of_list(steps)))
+    }
+
+    /// The script of what is declared and of its steps.
     pub(crate) fn new(declared: Declarations, steps: Steps) -> Scenario
         requires { IsScenario (script_with (record { declared = declared; steps = steps })) }
         ensures { result ≡ script_with (record { declared = declared; steps = steps }) }
@@ -95,7 +134,8 @@ impl Scenario {
         self.declared.chance()
     }
 
-    /// The number of the first line that schedules a step; None where there is none. A run on threads takes no schedule.
+    /// The number of the first line that schedules a step; None where there is none, as where no text said the scenario. A run
+    /// on threads takes no schedule.
     pub fn first_event(&self) -> Option<u64>
         ensures { result ≡ self.now.first_event }
     {
@@ -114,6 +154,7 @@ impl Scenario {
     pub(crate) fn names(&self, alloc: Global) -> Result<Names<'_>, Memory>
         ensures names { IfOk result (λ names. names ≡ names_of self.now.setup) }
         ensures known { OnOk result (IsDeclared self.now.setup) }
+        ensures whole { OnOk result (IsScenario self.now) }
     {
         self.declared.names(alloc)
     }

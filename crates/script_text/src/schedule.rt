@@ -15,7 +15,7 @@ use script_rows::{LineFault, Names, Progress, Stage};
 use std::alloc::Global;
 
 /// A schedule stands as if the declarations and one event stood before it.
-const AT_EVENTS: Progress = Progress {
+pub(crate) const AT_EVENTS: Progress = Progress {
     begun: true,
     last: Stage::Event,
     has_ledger: false,

@@ -1,5 +1,5 @@
 //! The steps that lines schedule.
-ghost use Rattle.std.specs.Prelude.{◌≡◌, Some, OnOk};
+ghost use Rattle.std.specs.Prelude.{◌≡◌, None, Some, OnOk};
 ghost use Rattle.script_text.specs.Adding.{with_step};
 ghost use Rattle.script_text.specs.Drafts.{Judges, heads_step, says_step};
 ghost use Rattle.script_text.specs.Rules.{lowest, said_by};
@@ -36,6 +36,13 @@ impl Steps {
             first: None,
             list: Sequence::new(alloc),
         }
+    }
+
+    /// Steps that no line scheduled; takes no memory.
+    pub(crate) fn of_list(list: Sequence<Step>) -> Steps
+        ensures { result ≡ record { first = None; list = list } }
+    {
+        Steps { first: None, list }
     }
 
     /// The number of the first one's line.
