@@ -7,15 +7,16 @@ use Rattle.rand_pcg.specs.Lcg.{Lcg}
 use Rattle.geo_base.specs.declared.event.Event.TheVariants as event
 use Rattle.geo_base.specs.declared.event.Step.{Step}
 use Rattle.geo_base.specs.declared.event.Step.TheVariants as step
-use Rattle.geo_base.specs.Scripted.{IsScripted}
 use Rattle.geo_base.specs.Setup.{sub_names}
 use Rattle.schedule_gen.specs.declared.draws.Row.{Row}
 use Rattle.schedule_gen.specs.declared.draws.Row.TheVariants as row
 use Rattle.schedule_gen.specs.Drawing.{drawn, drawn_event, rest, row_of, seeded, source_of, target_of, turn_at}
 use Rattle.schedule_gen.specs.Scenario.{generated_clients, generated_setup}
-use Rattle.schedule_gen.specs.Schedule.{IsEvent, IsLink, IsNode, IsStep, connects, finishes, generated_steps, opens, round, rounds, turns}
-use Rattle.schedule_gen.specs.Generated.{GeneratedRun, generated_run}
-use Rattle.schedule_gen.proofs.Known.{one_sub, scripted}
+use Rattle.schedule_gen.specs.Schedule.{connects, finishes, generated_steps, opens, round, rounds, turns}
+use Rattle.schedule_gen.specs.Generated.{generated_run}
+use Rattle.script_text.specs.Scenario.{IsEvent, IsLink, IsNode, IsScenario, IsStep}
+use Rattle.script_text.specs.Script.{Script}
+use Rattle.schedule_gen.proofs.Known.{clients_are, one_sub, scripted}
 
 three_clusters : length generated_setup.clusters ≡ 3
 unfolding generated_setup
@@ -43,7 +44,7 @@ cluster_in : (x : ℕ) → x < 3 → x < length generated_setup.clusters
 cluster_in x h = omega (arith, three_clusters)
 
 node_in : (x : ℕ) → x < 3 → IsNode generated_setup 0 x
-node_in x h = record { topic = omega (arith, one_topic); cluster = cluster_in x h }
+node_in x h = (omega (arith, one_topic), cluster_in x h)
 
 source_in : (p : ℕ) → p < 6 → source_of p < 3
 source_in p h = omega arith
@@ -56,9 +57,9 @@ pair_apart p = grind (arith, nat_tests)
 
 link_in : (p : ℕ) → p < 6 → IsLink generated_setup 0 (source_of p) (target_of p)
 link_in p h = record {
-  topic = omega (arith, one_topic);
-  source = cluster_in (source_of p) (source_in p h);
-  target = cluster_in (target_of p) (target_in p);
+  topic_in = omega (arith, one_topic);
+  source_in = cluster_in (source_of p) (source_in p h);
+  target_in = cluster_in (target_of p) (target_in p);
   apart = pair_apart p;
 }
 
@@ -80,8 +81,8 @@ drawn_in row.Serve g = (a_cluster g, a_client (rest g))
 drawn_in row.Get g = a_client g
 drawn_in row.Reset g = a_link g
 drawn_in row.Read g = a_link g
-drawn_in row.Take g = a_link g
-drawn_in row.Receipt g = a_link g
+drawn_in row.Take g = (a_link g, refl)
+drawn_in row.Receipt g = (a_link g, refl)
 drawn_in row.Snap g = a_node g
 drawn_in row.Offer g = (a_node g, a_sub)
 drawn_in row.Drop g = (a_cluster g, a_client (rest g))
@@ -110,25 +111,25 @@ both xs ys a b = All-append (IsStep generated_setup) xs ys a b
 connects_in : (n : ℕ) → n ≤ 4 → All (IsStep generated_setup) (connects n)
 unfolding connects
 connects_in zero h = none
-connects_in (suc n) h = both (connects n) _ (connects_in n (omega arith)) (one (step.Plain (event.Reconnect n)) (client_in n (omega arith)))
+connects_in (suc n) h = both (connects n) _ (connects_in n (omega arith)) (one (step.Plain (event.Reconnect n)) (client_in n (omega arith), refl))
 
 opens_in : (n : ℕ) → n ≤ 6 → All (IsStep generated_setup) (opens n)
 unfolding opens
 opens_in zero h = none
-opens_in (suc n) h = both (opens n) _ (opens_in n (omega arith)) (one (step.Plain (event.Reset 0 (source_of n) (target_of n))) (link_in n (omega arith)))
+opens_in (suc n) h = both (opens n) _ (opens_in n (omega arith)) (one (step.Plain (event.Reset 0 (source_of n) (target_of n))) (link_in n (omega arith), refl))
 
 turns_in : (n : ℕ) (g : Lcg) → All (IsStep generated_setup) (turns n g).steps
 unfolding turns
 turns_in zero g = none
-turns_in (suc n) g = both (turns n g).steps _ (turns_in n g) (one (step.Plain (turn_at n (turns n g).after).event) (turn_in n (turns n g).after))
+turns_in (suc n) g = both (turns n g).steps _ (turns_in n g) (one (step.Plain (turn_at n (turns n g).after).event) (turn_in n (turns n g).after, refl))
 
 round_in : (c : ℕ) → c < 3 → All (IsStep generated_setup) (round c)
 round_in c h =
     let client : c < length generated_setup.clients = client_in c (omega arith) in
-    let last = one (step.Plain (event.Get c)) client in
-    let third = All-cons (IsStep generated_setup) (step.Plain (event.Get c)) (step.Plain (event.Get c) ∷ []) client last in
-    let second = All-cons (IsStep generated_setup) (step.Plain (event.Serve c c)) (step.Plain (event.Get c) ∷ step.Plain (event.Get c) ∷ []) (cluster_in c h, client) third in
-    All-cons (IsStep generated_setup) (step.Plain (event.Go c)) (step.Plain (event.Serve c c) ∷ step.Plain (event.Get c) ∷ step.Plain (event.Get c) ∷ []) client second
+    let last = one (step.Plain (event.Get c)) (client, refl) in
+    let third = All-cons (IsStep generated_setup) (step.Plain (event.Get c)) (step.Plain (event.Get c) ∷ []) (client, refl) last in
+    let second = All-cons (IsStep generated_setup) (step.Plain (event.Serve c c)) (step.Plain (event.Get c) ∷ step.Plain (event.Get c) ∷ []) ((cluster_in c h, client), refl) third in
+    All-cons (IsStep generated_setup) (step.Plain (event.Go c)) (step.Plain (event.Serve c c) ∷ step.Plain (event.Get c) ∷ step.Plain (event.Get c) ∷ []) (client, refl) second
 
 rounds_in : (c n : ℕ) → c < 3 → All (IsStep generated_setup) (rounds c n)
 unfolding rounds
@@ -140,17 +141,17 @@ unfolding finishes
 finishes_in zero h = none
 finishes_in (suc c) h =
     both (finishes c) _ (finishes_in c (omega arith))
-    (All-cons (IsStep generated_setup) (step.Plain (event.Reconnect c)) (rounds c 4000) (client_in c (omega arith)) (rounds_in c 4000 (omega arith)))
+    (All-cons (IsStep generated_setup) (step.Plain (event.Reconnect c)) (rounds c 4000) (client_in c (omega arith), refl) (rounds_in c 4000 (omega arith)))
 
 pub steps_in : (number : ℕ) → All (IsStep generated_setup) (generated_steps number)
 unfolding generated_steps
 steps_in number =
-    both (connects 4) _ (connects_in 4 (omega arith)) (both (opens 6) _ (opens_in 6 (omega arith)) (both (turns 20000 (seeded number)).steps _ (turns_in 20000 (seeded number)) (both (finishes 3) _ (finishes_in 3 (omega arith)) (one step.Settle tt))))
+    both (connects 4) _ (connects_in 4 (omega arith)) (both (opens 6) _ (opens_in 6 (omega arith)) (both (turns 20000 (seeded number)).steps _ (turns_in 20000 (seeded number)) (both (finishes 3) _ (finishes_in 3 (omega arith)) (one step.Settle refl))))
 
 -- ---- of the whole run
 
-pub is_scripted : (r : GeneratedRun) (number : ℕ) → r ≡ generated_run number → IsScripted r.setup
-is_scripted r number is = rw is scripted
+scenario_is : (number : ℕ) → IsScenario (generated_run number)
+scenario_is number = record { setup = scripted; clients = clients_are; chance = tt; steps = steps_in number }
 
-pub are_in_range : (r : GeneratedRun) (number : ℕ) → r ≡ generated_run number → All (IsStep r.setup) r.steps
-are_in_range r number is = rw is (steps_in number)
+pub is_scenario : (s : Script) (number : ℕ) → s ≡ generated_run number → IsScenario s
+is_scenario s number is = rw is (scenario_is number)

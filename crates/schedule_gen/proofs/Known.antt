@@ -1,15 +1,20 @@
 -- The scenario is one that a script can declare.
 use Rattle.std.proofs.Common.{◌≡◌, ℕ, zero, suc, ◌^◌, ◌<◌, ◌≤◌, nat_lt, ◌==◌, Bool, true, false, not, ◌&&◌, List, [], ◌∷◌, length, map, refl, sym, subst, arith}
-use Rattle.std.specs.Prelude.{Some, codes, slice_get}
+use Rattle.std.specs.Prelude.{All, None, Some, codes, slice_get}
 use Rattle.std.specs.List.{list_all, list_any, fold}
 use Rattle.std.specs.Str.{bytes_eq}
 use Rattle.std.proofs.lemmas.Bool.Decides.{nat_tests}
 use Rattle.std.proofs.lemmas.List.Folds.{list_all-append, list_any-append}
 use Rattle.std.proofs.lemmas.List.Filters.{length-filter_both}
 use Rattle.std.proofs.lemmas.List.Sums.{fold-append}
+use Rattle.std.proofs.lemmas.List.Elements.{All-cons, All-nil}
+use Rattle.std.proofs.lemmas.List.{length-append}
+use Rattle.geo_base.specs.declared.client.Line.TheVariants as line
+use Rattle.geo_base.specs.declared.entry.Targets.TheVariants as targets
 use Rattle.geo_base.specs.Name.{is_name}
 use Rattle.geo_base.specs.Scripted.{AreDistinct, IsScripted, clients_of, is_declared, is_line, is_move}
 use Rattle.geo_base.specs.Setup.{Declared, Setup, sub_names, with_line}
+use Rattle.script_text.specs.Scenario.{IsClient, has_printable_text}
 use Rattle.schedule_gen.specs.Scenario.{at, consumer_lines, generated_clients, generated_setup, producer_lines, publishes, stays}
 
 -- ---- distinct names
@@ -86,6 +91,42 @@ unfolding generated_clients
 clients_ok = four (is_declared generated_setup) (at (codes "pa") 0 (producer_lines 667)) (at (codes "pb") 1 (producer_lines 667)) (at (codes "pc") 2 (producer_lines 666)) (at (codes "d") 0 consumer_lines)
     (producer_ok (codes "pa") 0 667 refl (omega arith) (omega arith)) (producer_ok (codes "pb") 1 667 refl (omega arith) (omega arith)) (producer_ok (codes "pc") 2 666 refl (omega arith) (omega arith)) consumer_ok
 
+-- ---- few lines, printable texts
+
+many_publishes : (n : ℕ) → length (publishes n) ≡ n
+unfolding publishes
+many_publishes zero = refl
+many_publishes (suc n) = omega (arith, many_publishes n, length-append (publishes n) (line.Pub n targets.All None (codes "x") ∷ []))
+
+publishes_print : (n : ℕ) → list_all has_printable_text (publishes n) ≡ true
+unfolding publishes
+publishes_print zero = refl
+publishes_print (suc n) = let rest = publishes_print n in rw (list_all-append, rest) refl
+
+producer_is : (name : List ℕ) (x n : ℕ) → n ≤ 1000 → IsClient (at name x (producer_lines n))
+unfolding producer_lines
+producer_is name x n few = record { few = omega (arith, many_publishes n); texts = publishes_print n }
+
+many_lines : length consumer_lines ≡ 281
+unfolding consumer_lines stays
+many_lines = refl
+
+lines_print : list_all has_printable_text consumer_lines ≡ true
+unfolding consumer_lines stays
+lines_print = refl
+
+consumer_is : IsClient (at (codes "d") 0 consumer_lines)
+consumer_is = record { few = omega (arith, many_lines); texts = lines_print }
+
+four_are : (P : Declared → Type 0) (a b c d : Declared) → P a → P b → P c → P d → All P (a ∷ b ∷ c ∷ d ∷ [])
+four_are P a b c d ha hb hc hd =
+    All-cons P a (b ∷ c ∷ d ∷ []) ha (All-cons P b (c ∷ d ∷ []) hb (All-cons P c (d ∷ []) hc (All-cons P d [] hd (All-nil P))))
+
+clients_known : All IsClient generated_clients
+unfolding generated_clients
+clients_known =
+    four_are IsClient (at (codes "pa") 0 (producer_lines 667)) (at (codes "pb") 1 (producer_lines 667)) (at (codes "pc") 2 (producer_lines 666)) (at (codes "d") 0 consumer_lines) (producer_is (codes "pa") 0 667 (omega arith)) (producer_is (codes "pb") 1 667 (omega arith)) (producer_is (codes "pc") 2 666 (omega arith)) consumer_is
+
 -- ---- the topic's clients and subscriptions
 
 the_clients : generated_setup.clients ≡ generated_clients
@@ -145,6 +186,9 @@ clients_named = four_distinct
 
 clients_declared : list_all (is_declared generated_setup) generated_setup.clients ≡ true
 clients_declared = subst (λ (ds : List Declared). list_all (is_declared generated_setup) ds ≡ true) (sym the_clients) clients_ok
+
+pub clients_are : All IsClient generated_setup.clients
+clients_are = subst (λ (ds : List Declared). All IsClient ds) (sym the_clients) clients_known
 
 pub scripted : IsScripted generated_setup
 scripted = record {

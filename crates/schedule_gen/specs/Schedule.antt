@@ -1,11 +1,9 @@
 -- The schedule of a generated run (own): all connect, turns at random, then each producer does all its lines, and all settles.
-use Rattle.std.specs.Prelude.{◌≢◌, ℕ, zero, suc, ◌<◌, List, [], ◌∷◌, ◌++◌, length, ⊤}
+use Rattle.std.specs.Prelude.{ℕ, zero, suc, List, [], ◌∷◌, ◌++◌}
 use Rattle.rand_pcg.specs.Lcg.{Lcg}
-use Rattle.geo_base.specs.declared.event.Event.{Event}
 use Rattle.geo_base.specs.declared.event.Event.TheVariants as event
 use Rattle.geo_base.specs.declared.event.Step.{Step}
 use Rattle.geo_base.specs.declared.event.Step.TheVariants as step
-use Rattle.geo_base.specs.Setup.{Setup, sub_names}
 use Rattle.schedule_gen.specs.Drawing.{seeded, source_of, target_of, turn_at}
 
 -- the first n clients connect
@@ -45,37 +43,3 @@ finishes (suc c) = finishes c ++ (step.Plain (event.Reconnect c) ∷ rounds c 40
 
 unfoldable pub generated_steps : ℕ → List Step
 generated_steps number = connects 4 ++ (opens 6 ++ ((turns 20000 (seeded number)).steps ++ (finishes 3 ++ step.Settle ∷ [])))
-
--- ---- in range
-
-pub record IsLink (s : Setup) (t x y : ℕ) : Type 0 where
-  pub topic : t < length s.topics
-  pub source : x < length s.clusters
-  pub target : y < length s.clusters
-  pub apart : x ≢ y
-
-pub record IsNode (s : Setup) (t x : ℕ) : Type 0 where
-  pub topic : t < length s.topics
-  pub cluster : x < length s.clusters
-
--- what the event names is there, and the two ends of a link are apart
-abbrev pub IsEvent : Setup → Event → Type 0
-IsEvent s (event.Go c) = c < length s.clients
-IsEvent s (event.Get c) = c < length s.clients
-IsEvent s (event.Reconnect c) = c < length s.clients
-IsEvent s (event.Serve x c) = (x < length s.clusters) × (c < length s.clients)
-IsEvent s (event.Drop x c) = (x < length s.clusters) × (c < length s.clients)
-IsEvent s (event.Reset t x y) = IsLink s t x y
-IsEvent s (event.Read t x y) = IsLink s t x y
-IsEvent s (event.Take t x y f) = IsLink s t x y
-IsEvent s (event.Receipt t x y f) = IsLink s t x y
-IsEvent s (event.Snap t x) = IsNode s t x
-IsEvent s (event.Offer t x n) = IsNode s t x × (n < length (sub_names s t))
-IsEvent s (event.Seek t x n to) = IsNode s t x × (n < length (sub_names s t))
-IsEvent s (event.Restart t x) = IsNode s t x
-
-abbrev pub IsStep : Setup → Step → Type 0
-IsStep s (step.Plain e) = IsEvent s e
-IsStep s (step.Halt k e) = IsEvent s e
-IsStep s step.Settle = ⊤
-IsStep s step.Stop = ⊤

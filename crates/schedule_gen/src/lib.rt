@@ -12,5 +12,4 @@ mod schedule;
 #[cfg(test)]
 mod tests;
 
-pub use run::{Generated, generate};
-pub use scenario::Declaration;
+pub use run::generate;

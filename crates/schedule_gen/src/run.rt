@@ -1,59 +1,36 @@
 //! A generated run.
-ghost use Rattle.std.specs.Prelude.{◌≡◌, All, IfOk};
-ghost use Rattle.geo_base.specs.Scripted.{IsScripted};
+ghost use Rattle.std.specs.Prelude.{◌≡◌, IfOk};
 ghost use Rattle.schedule_gen.specs.Generated.{generated_run};
-ghost use Rattle.schedule_gen.specs.Schedule.{IsStep};
+ghost use Rattle.script_text.specs.Scenario.{IsScenario};
 
-use crate::scenario::{Declaration, clients, cluster_names, topic_names};
+use crate::scenario::{clients, cluster_names, topic_names};
 use crate::schedule::steps;
-use geo_base::{ClusterName, Memory, Sequence, Step, TopicName};
+use geo_base::Memory;
+use script_text::ScenarioParts;
 use std::alloc::Global;
-use std::marker::Model;
 
 /// How many entries a ledger takes: few, so that there are many.
 const LEDGER_ENTRIES: u64 = 100;
 
-/// A scenario and its schedule. Clusters, topics and clients are numbered from 0 in this order.
-#[derive(Debug, Drop)]
-pub struct Generated {
-    pub per_ledger: u64,
-    pub clusters: Sequence<ClusterName>,
-    pub topics: Sequence<TopicName>,
-    pub clients: Sequence<Declaration>,
-    pub steps: Sequence<Step>,
-}
-
-impl Model for Generated {
-    ghost use Rattle.schedule_gen.specs.Generated.{GeneratedRun};
-
-    ghost Value = { GeneratedRun };
-
-    ghost view = { λ g. record {
-      setup = record { per_ledger = g.per_ledger; clusters = g.clusters; topics = g.topics; clients = g.clients };
-      steps = g.steps;
-    } };
-}
-
-/// The run of a number: each step names what its scenario has. An `Err` is want of memory.
-#[tactic(auto, using(crate::proofs::InRange::is_scripted, crate::proofs::InRange::are_in_range))]
-pub fn generate(alloc: Global, number: u32) -> Result<Generated, Memory>
-    ensures run { IfOk result (λ g. g ≡ generated_run number) }
-    ensures scripted { IfOk result (λ g. IsScripted g.setup) }
-    ensures each { IfOk result (λ g. All (IsStep g.setup) g.steps) }
+/// The run of a number: its parts are a scenario. An `Err` is want of memory.
+#[tactic(auto, using(crate::proofs::InRange::is_scenario))]
+pub fn generate(alloc: Global, number: u32) -> Result<ScenarioParts, Memory>
+    ensures run { IfOk result (λ parts. parts ≡ generated_run number) }
+    ensures scenario { IfOk result IsScenario }
 {
-    let run = put_together(alloc, number)?;
-    Ok(run)
+    let parts = put_together(alloc, number)?;
+    Ok(parts)
 }
 
 #[tactic(auto, unfolding(crate::specs::Scenario::generated_setup))]
-fn put_together(alloc: Global, number: u32) -> Result<Generated, Memory>
-    ensures { IfOk result (λ g. g ≡ generated_run number) }
+fn put_together(alloc: Global, number: u32) -> Result<ScenarioParts, Memory>
+    ensures { IfOk result (λ parts. parts ≡ generated_run number) }
 {
     let clusters = cluster_names(alloc)?;
     let topics = topic_names(alloc)?;
     let clients = clients(alloc)?;
     let steps = steps(alloc, number)?;
-    Ok(Generated {
+    Ok(ScenarioParts {
         per_ledger: LEDGER_ENTRIES,
         clusters,
         topics,

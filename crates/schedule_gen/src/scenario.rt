@@ -7,13 +7,16 @@ use geo_base::name::Name;
 use geo_base::{
     Blob, ClusterName, Line, Memory, ProducerName, Sequence, SubKind, Targets, Text, TopicName,
 };
+use script_text::ClientDecl;
 use std::alloc::Global;
-use std::marker::Model;
 
 /// Publishes of the producers at the first two clusters, and of the one at the third: 2,000 in all.
 const FIRST_PUBLISHES: u64 = 667;
 
 const LAST_PUBLISHES: u64 = 666;
+
+/// The number of the one topic.
+const TOPIC: u32 = 0;
 
 /// Clusters that the consumer goes round, and how often it moves.
 const CLUSTERS: u32 = 3;
@@ -25,23 +28,6 @@ const ACKS: u32 = 30;
 
 /// Permits that the consumer gives: more than it can get.
 const PERMITS: u32 = 1_000_000;
-
-/// A client: its name, which is its producer's, the topic that it works on, the cluster that it is at first, and its lines.
-#[derive(Debug, Drop)]
-pub struct Declaration {
-    pub name: ProducerName,
-    pub topic: u32,
-    pub cluster: u32,
-    pub lines: Sequence<Line>,
-}
-
-impl Model for Declaration {
-    ghost use Rattle.geo_base.specs.Setup.{Declared};
-
-    ghost Value = { Declared };
-
-    ghost view = { λ d. record { name = d.name; topic = d.topic; cluster = d.cluster; lines = d.lines } };
-}
 
 /// The clusters' names.
 pub(crate) fn cluster_names(alloc: Global) -> Result<Sequence<ClusterName>, Memory>
@@ -73,7 +59,7 @@ pub(crate) fn topic_names(alloc: Global) -> Result<Sequence<TopicName>, Memory>
 
 /// The clients: a producer at each cluster, and the consumer.
 #[tactic(auto, unfolding(crate::specs::Scenario::generated_clients))]
-pub(crate) fn clients(alloc: Global) -> Result<Sequence<Declaration>, Memory>
+pub(crate) fn clients(alloc: Global) -> Result<Sequence<ClientDecl>, Memory>
     ensures { IfOk result (λ cs. cs ≡ generated_clients) }
 {
     let mut clients = Sequence::new(alloc);
@@ -89,15 +75,12 @@ fn client(
     name: &str,
     cluster: u32,
     lines: Sequence<Line>,
-) -> Result<Declaration, Memory>
+) -> Result<ClientDecl, Memory>
+    requires { is_name name.now ≡ true }
     ensures { IfOk result (λ d. d ≡ record { name = name.now; topic = 0; cluster = cluster; lines = lines }) }
 {
-    Ok(Declaration {
-        name: ProducerName::any(alloc, name)?,
-        topic: 0,
-        cluster,
-        lines,
-    })
+    let name = ProducerName::any(alloc, name)?;
+    Ok(ClientDecl::of_parts(name, TOPIC, cluster, lines))
 }
 
 /// The lines of a producer with so many publishes.
