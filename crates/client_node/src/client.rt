@@ -3,7 +3,7 @@
 //!
 //! What is prepared is a change of the client and no copy of it: what it holds and got grows with the run.
 ghost use Rattle.std.specs.Prelude.{◌≡◌, ◌<◌, ◌+◌, ◌^◌, [], true, IfOk, None};
-ghost use Rattle.geo_base.specs.Client.{connected_to, new_client};
+ghost use Rattle.geo_base.specs.Client.{connected_to, new_client, unconnected};
 ghost use Rattle.geo_base.specs.Going.{past};
 ghost use Rattle.client_node.specs.Counted.{CanCount};
 ghost use Rattle.client_node.specs.Changing.{ChangeFits, ClientFits, changed, client_after};
@@ -121,6 +121,14 @@ impl Client {
         if let Some(change) = prepared.change() {
             self.change(change);
         }
+    }
+
+    /// Loses its connection, and what it holds from it: a stop of everything does so to each client. It takes no memory.
+    pub fn disconnect(&mut self)
+        ensures { self.new ≡ unconnected self.old }
+    {
+        self.is_connected = false;
+        self.held.clear();
     }
 
     fn change(&mut self, change: ClientChange)
