@@ -1,24 +1,25 @@
 -- What follows from an answer and from what went out of it.
 use Rattle.std.proofs.lemmas.Bool.{lt-ltb}
 use Rattle.std.proofs.lemmas.Bool.Decides.{nat_tests}
-use Rattle.std.proofs.Common.{◌≡◌, ℕ, ◌≤◌, arith, Bool, true, false, List, [], refl, sym, ap, subst, ◌∙◌, inl, inr}
+use Rattle.std.proofs.Common.{◌≡◌, ◌≢◌, ℕ, ◌≤◌, arith, Bool, true, false, List, [], refl, sym, ap, subst, ◌∙◌, inl, inr}
 use Rattle.std.proofs.lemmas.List.{append-nil}
 use Rattle.std.specs.Prelude.{Option, Some, None, IfOk, OnOk, OnErr, IfSome, Result, Ok, Err, IsOkAnd, if◌then◌else◌, length, nat_lt, take, ⊤}
 use Rattle.geo_base.specs.declared.memory.Memory.{Memory}
 use Rattle.geo_io.specs.Faults.{Rose}
 use Rattle.geo_io.specs.Sink.{Gains}
 use Rattle.geo_io.specs.Source.{LongerThan}
-use Rattle.script.specs.Rules.{script_of}
-use Rattle.script.specs.Script.{Fault, Script}
+use Rattle.script_text.specs.Rules.{script_of}
+use Rattle.script_text.specs.Script.{Fault, Script}
 use Rattle.geo_top.specs.declared.top.answer.Answer.{Answer}
 use Rattle.geo_top.specs.declared.top.command.Command.{Command}
 use Rattle.geo_top.specs.declared.top.command.Command.TheVariants as command
 use Rattle.geo_top.specs.declared.top.status.Status.{Status}
 use Rattle.geo_top.specs.declared.top.status.Status.TheVariants as status
-use Rattle.geo_top.specs.Headline.{IsAlwaysOnce, IsAlwaysSafe}
-use Rattle.geo_top.specs.Outputs.{DeclaresSetup, IsCaused, IsFounded, IsLine, UnlessReadFault, WentOut, WritesLine, answer_for, answer_to, answer_to_run, passed_limit, refused, report_of}
+use Rattle.geo_top.specs.Headline.{IsAlwaysOnce, IsAlwaysSafe, IsAlwaysSettled}
+use Rattle.geo_top.specs.Outputs.{DeclaresSetup, IsCaused, IsFounded, IsGenerated, IsLine, IsPassed, UnlessReadFault, WentOut, WritesLine, answer_for, answer_to, answer_to_big, answer_to_generated, answer_to_run, passed_limit, refused, report_of, summary_of}
 use Rattle.geo_top.specs.Statuses.{IsDue}
-use Rattle.geo_top.proofs.Headline.{always_once, always_safe}
+use Rattle.schedule_gen.specs.Generated.{generated_run}
+use Rattle.geo_top.proofs.Headline.{always_once, always_safe, always_settled}
 use Rattle.geo_top.proofs.Limits.{IsOnlyLimit, only_limit}
 
 -- an answer to a script that is Ok, or names a line
@@ -58,12 +59,11 @@ to_run : (c : Option Command) (a : Answer) (input : List ℕ) → c ≡ Some com
     → a ≡ (if nat_lt 67108864 (length input) then refused (status.TooLarge 1) else answer_to (script_of input))
 to_run c a input is due = subst (λ (c : Option Command). a ≡ answer_for c input) is due
 
-pub ok_script : (c : Option Command) (b n : ℕ) (left : Option (List ℕ)) (a : Answer) → IsFounded c b n left a → a.status ≡ status.Ok
+pub ok_script : (c : Option Command) (b n : ℕ) (left : Option (List ℕ)) (a : Answer) → IsFounded c b n left a → a.status ≡ status.Ok → c ≡ Some command.Run
     → IfSome left (λ input. IsOkAnd (script_of input) (λ m. a.bytes ≡ report_of m))
-ok_script c b n None a f ok = tt
-ok_script c b n (Some input) a f ok =
-    ok_is a (nat_lt 67108864 (length input)) (script_of input)
-    (to_run c a input (subst (λ (s : Status). IsCaused c b n (Some input) s) ok f.cause) (due_is a.status status.Ok (a ≡ answer_for c input) ok f.due)) ok
+ok_script c b n None a f ok run = tt
+ok_script c b n (Some input) a f ok run =
+    ok_is a (nat_lt 67108864 (length input)) (script_of input) (to_run c a input run (due_is a.status status.Ok (a ≡ answer_for c input) ok f.due)) ok
 
 gains_report : (r : Result Script Fault) (bytes : List ℕ) (old new : Option (List ℕ)) → Gains old new bytes → IsOkAnd r (λ m. bytes ≡ report_of m)
     → IsOkAnd r (λ m. Gains old new (report_of m))
@@ -71,27 +71,36 @@ gains_report (Ok m) bytes old new g is = subst (λ (b : List ℕ). Gains old new
 gains_report (Err f) bytes old new g is = is
 
 pub ok_report : (c : Option Command) (b n : ℕ) (left old new : Option (List ℕ)) (a : Answer) → IsFounded c b n left a → Gains old new a.bytes → a.status ≡ status.Ok
-    → IfSome left (λ input. IsOkAnd (script_of input) (λ m. Gains old new (report_of m)))
-ok_report c b n None old new a f g ok = tt
-ok_report c b n (Some input) old new a f g ok = gains_report (script_of input) a.bytes old new g (ok_script c b n (Some input) a f ok)
+    → c ≡ Some command.Run → IfSome left (λ input. IsOkAnd (script_of input) (λ m. Gains old new (report_of m)))
+ok_report c b n None old new a f g ok run = tt
+ok_report c b n (Some input) old new a f g ok run = gains_report (script_of input) a.bytes old new g (ok_script c b n (Some input) a f ok run)
 
 with_once : (r : Result Script Fault) (bytes : List ℕ) → IsOkAnd r (λ m. bytes ≡ report_of m) → IsOkAnd r IsAlwaysOnce
 with_once (Ok m) bytes is = always_once m
 with_once (Err f) bytes is = is
 
-pub ok_once : (c : Option Command) (b n : ℕ) (left : Option (List ℕ)) (a : Answer) → IsFounded c b n left a → a.status ≡ status.Ok
+pub ok_once : (c : Option Command) (b n : ℕ) (left : Option (List ℕ)) (a : Answer) → IsFounded c b n left a → a.status ≡ status.Ok → c ≡ Some command.Run
     → IfSome left (λ input. IsOkAnd (script_of input) IsAlwaysOnce)
-ok_once c b n None a f ok = tt
-ok_once c b n (Some input) a f ok = with_once (script_of input) a.bytes (ok_script c b n (Some input) a f ok)
+ok_once c b n None a f ok run = tt
+ok_once c b n (Some input) a f ok run = with_once (script_of input) a.bytes (ok_script c b n (Some input) a f ok run)
 
 with_safe : (r : Result Script Fault) (bytes : List ℕ) → IsOkAnd r (λ m. bytes ≡ report_of m) → DeclaresSetup r → IsOkAnd r IsAlwaysSafe
 with_safe (Ok m) bytes is known = always_safe m known
 with_safe (Err f) bytes is known = is
 
-pub ok_safe : (c : Option Command) (b n : ℕ) (left : Option (List ℕ)) (a : Answer) → IsFounded c b n left a → a.status ≡ status.Ok
+pub ok_safe : (c : Option Command) (b n : ℕ) (left : Option (List ℕ)) (a : Answer) → IsFounded c b n left a → a.status ≡ status.Ok → c ≡ Some command.Run
     → IfSome left (λ input. IsOkAnd (script_of input) IsAlwaysSafe)
-ok_safe c b n None a f ok = tt
-ok_safe c b n (Some input) a f ok = with_safe (script_of input) a.bytes (ok_script c b n (Some input) a f ok) (f.scripted ok)
+ok_safe c b n None a f ok run = tt
+ok_safe c b n (Some input) a f ok run = with_safe (script_of input) a.bytes (ok_script c b n (Some input) a f ok run) (f.scripted run ok)
+
+with_settled : (r : Result Script Fault) (bytes : List ℕ) → IsOkAnd r (λ m. bytes ≡ report_of m) → DeclaresSetup r → IsOkAnd r IsAlwaysSettled
+with_settled (Ok m) bytes is known = always_settled m known
+with_settled (Err f) bytes is known = is
+
+pub ok_settled : (c : Option Command) (b n : ℕ) (left : Option (List ℕ)) (a : Answer) → IsFounded c b n left a → a.status ≡ status.Ok → c ≡ Some command.Run
+    → IfSome left (λ input. IsOkAnd (script_of input) IsAlwaysSettled)
+ok_settled c b n None a f ok run = tt
+ok_settled c b n (Some input) a f ok run = with_settled (script_of input) a.bytes (ok_script c b n (Some input) a f ok run) (f.scripted run ok)
 
 -- the causes of refusals
 pub caused : (c : Option Command) (b n : ℕ) (left : Option (List ℕ)) (a : Answer) (s : Status) → IsFounded c b n left a → a.status ≡ s → IsCaused c b n left s
@@ -106,12 +115,12 @@ bad_script c b n (Some input) a line rule f bad =
 
 -- what is due
 usage_due : (c : Option Command) (b n : ℕ) (left : Option (List ℕ)) (s : Status) → IsCaused c b n left s → c ≡ None → IsDue status.Usage s
-usage_due c b n left status.Ok cause none = absurd (cc)
+usage_due c b n left status.Ok cause none = absurd (cause none)
 usage_due c b n left status.Usage cause none = refl
 usage_due c b n left (status.BadScript line rule) cause none = absurd (cc)
 usage_due c b n left status.ReadFault cause none = tt
 usage_due c b n left status.WriteFault cause none = tt
-usage_due c b n left (status.TooLarge limit) cause none = absurd (cc (cause.0, none))
+usage_due c b n left (status.TooLarge limit) cause none = absurd (subst (λ (c : Option Command). IsPassed c left limit) none cause)
 usage_due c b n left status.OutOfMemory cause none = tt
 
 pub no_command : (c : Option Command) (b n : ℕ) (left : Option (List ℕ)) (a : Answer) → IsFounded c b n left a → c ≡ None → IsDue status.Usage a.status
@@ -200,7 +209,7 @@ line_out c b n left old new a f g = line_of c b n left a.status a.bytes old new 
 
 -- how an answer is founded
 pub founded_usage : (b n : ℕ) (left : Option (List ℕ)) (a : Answer) → a ≡ refused status.Usage → IsFounded None b n left a
-founded_usage b n left a is = subst (λ (a : Answer). IsFounded None b n left a) (sym is) (record { cause = refl; line = refl; due = told left; scripted = λ ok. absurd (cc ok) })
+founded_usage b n left a is = subst (λ (a : Answer). IsFounded None b n left a) (sym is) (record { cause = refl; line = refl; due = told left; scripted = λ run ok. absurd (cc ok); generated = tt })
   where
     told : (left : Option (List ℕ)) → IfSome left (λ input. refused status.Usage ≡ answer_for None input)
     told None = tt
@@ -208,7 +217,7 @@ founded_usage b n left a is = subst (λ (a : Answer). IsFounded None b n left a)
 
 pub founded_read : (b n : ℕ) (left : Option (List ℕ)) (a : Answer) → a ≡ refused status.ReadFault → Rose b n → IsFounded (Some command.Run) b n left a
 founded_read b n left a is rose =
-    subst (λ (a : Answer). IsFounded (Some command.Run) b n left a) (sym is) (record { cause = (refl, rose); line = refl; due = told left; scripted = λ ok. absurd (cc ok) })
+    subst (λ (a : Answer). IsFounded (Some command.Run) b n left a) (sym is) (record { cause = (refl, rose); line = refl; due = told left; scripted = λ run ok. absurd (cc ok); generated = tt })
   where
     told : (left : Option (List ℕ)) → IfSome left (λ input. ⊤)
     told None = tt
@@ -216,23 +225,25 @@ founded_read b n left a is rose =
 
 pub founded_large : (b n : ℕ) (left : Option (List ℕ)) (a : Answer) → a ≡ refused (status.TooLarge 1) → LongerThan left 67108864 → IsFounded (Some command.Run) b n left a
 founded_large b n left a is long =
-    subst (λ (a : Answer). IsFounded (Some command.Run) b n left a) (sym is) (record { cause = (refl, inl (refl, long)); line = refl; due = told left long; scripted = λ ok. absurd (cc ok) })
+    subst (λ (a : Answer). IsFounded (Some command.Run) b n left a) (sym is) (record { cause = inl (refl, long); line = refl; due = told left long; scripted = λ run ok. absurd (cc ok); generated = tt })
   where
     told : (left : Option (List ℕ)) → LongerThan left 67108864 → IfSome left (λ input. refused (status.TooLarge 1) ≡ answer_for (Some command.Run) input)
     told None long = tt
     told (Some input) long =
         ap (λ (t : Bool). if t then refused (status.TooLarge 1) else answer_to (script_of input)) (sym (lt-ltb 67108864 (length input) long))
 
+some_command : (c : Command) → Some c ≢ None
+some_command c e = cc e
+
 -- an answer to the bytes that were read
 caused_run : (b n : ℕ) (left : Option (List ℕ)) (bytes : List ℕ) (m : Script) (o : Option ℕ) → IfSome left (λ input. bytes ≡ input) → script_of bytes ≡ Ok m → passed_limit m ≡ o
     → IsOnlyLimit o → IsCaused (Some command.Run) b n left (answer_to_run m o).status
-caused_run b n left bytes m None told script passed only = refl
-caused_run b n left bytes m (Some limit) told script passed only = (refl, inr (only, passed_of left told))
+caused_run b n left bytes m None told script passed only = some_command command.Run
+caused_run b n left bytes m (Some limit) told script passed only = inr (only, passed_of left told)
   where
-    passed_of : (left : Option (List ℕ)) → IfSome left (λ input. bytes ≡ input) → IfSome left (λ input. IsOkAnd (script_of input) (λ n. passed_limit n ≡ Some 2))
+    passed_of : (left : Option (List ℕ)) → IfSome left (λ input. bytes ≡ input) → IfSome left (λ input. IsOkAnd (script_of input) (λ n. passed_limit n ≡ Some limit))
     passed_of None told = tt
-    passed_of (Some input) told =
-        subst (λ (r : Result Script Fault). IsOkAnd r (λ n. passed_limit n ≡ Some 2)) (sym (sym (ap script_of told) ∙ script)) (passed ∙ ap (λ (k : ℕ). Some k) only)
+    passed_of (Some input) told = subst (λ (r : Result Script Fault). IsOkAnd r (λ n. passed_limit n ≡ Some limit)) (sym (sym (ap script_of told) ∙ script)) passed
 
 caused_answer : (b n : ℕ) (left : Option (List ℕ)) (bytes : List ℕ) (r : Result Script Fault) → IfSome left (λ input. bytes ≡ input) → script_of bytes ≡ r
     → IsCaused (Some command.Run) b n left (answer_to r).status
@@ -262,7 +273,8 @@ founded_script b n left bytes a is short told known =
       cause = caused_answer b n left bytes (script_of bytes) told refl;
       line = line_answer (script_of bytes);
       due = due_of left told;
-      scripted = λ ok. scripted_of left told;
+      scripted = λ run ok. scripted_of left told;
+      generated = tt;
     })
   where
     scripted_of : (left : Option (List ℕ)) → IfSome left (λ input. bytes ≡ input) → IfSome left (λ input. DeclaresSetup (script_of input))
@@ -283,6 +295,65 @@ pub answered_script : (b n : ℕ) (left : Option (List ℕ)) (bytes : List ℕ) 
     → IfSome left (λ input. bytes ≡ input) → OnOk r (DeclaresSetup (script_of bytes)) → IfOk r (λ a. IsFounded (Some command.Run) b n left a)
 answered_script b n left bytes (Ok a) is short told known = founded_script b n left bytes a is short told known
 answered_script b n left bytes (Err e) is short told known = tt
+
+-- the answer to a number
+big_is : (c : Option Command) (b n : ℕ) (left : Option (List ℕ)) (a : Answer) (number : ℕ) → IsFounded c b n left a → c ≡ Some (command.Big number) → a ≡ answer_to_big number
+big_is c b n left a number f is = subst (λ (c : Option Command). IsGenerated c a) is f.generated
+
+itself_due : (s : Status) → IsDue s s
+itself_due status.Ok = refl
+itself_due status.Usage = refl
+itself_due (status.BadScript line rule) = refl
+itself_due status.ReadFault = tt
+itself_due status.WriteFault = tt
+itself_due (status.TooLarge limit) = refl
+itself_due status.OutOfMemory = tt
+
+pub big_due : (c : Option Command) (b n : ℕ) (left : Option (List ℕ)) (a : Answer) (number : ℕ) → IsFounded c b n left a → c ≡ Some (command.Big number)
+    → IsDue (answer_to_big number).status a.status
+big_due c b n left a number f is =
+    subst (λ (d : Answer). IsDue d.status a.status) (big_is c b n left a number f is) (itself_due a.status)
+
+ok_generated : (number : ℕ) (a : Answer) (o : Option ℕ) → a ≡ answer_to_generated number o → a.status ≡ status.Ok → a.bytes ≡ summary_of number
+ok_generated number a None is ok = ap (λ (a : Answer). a.bytes) is
+ok_generated number a (Some limit) is ok = absurd (cc (ap (λ (a : Answer). a.status) is))
+
+pub big_summary : (c : Option Command) (b n : ℕ) (left old new : Option (List ℕ)) (a : Answer) (number : ℕ) → IsFounded c b n left a → Gains old new a.bytes
+    → a.status ≡ status.Ok → c ≡ Some (command.Big number) → Gains old new (summary_of number)
+big_summary c b n left old new a number f g ok is =
+    subst (λ (bytes : List ℕ). Gains old new bytes) (ok_generated number a (passed_limit (generated_run number)) (big_is c b n left a number f is) ok) g
+
+caused_big : (b n : ℕ) (left : Option (List ℕ)) (number : ℕ) (o : Option ℕ) → passed_limit (generated_run number) ≡ o → IsOnlyLimit o
+    → IsCaused (Some (command.Big number)) b n left (answer_to_generated number o).status
+caused_big b n left number None passed only = some_command (command.Big number)
+caused_big b n left number (Some limit) passed only = (only, passed)
+
+line_big : (number : ℕ) (o : Option ℕ) → IsLine (answer_to_generated number o).status (answer_to_generated number o).bytes
+line_big number None = tt
+line_big number (Some limit) = refl
+
+due_big : (number : ℕ) (o : Option ℕ) (d : Answer) → answer_to_generated number o ≡ d → UnlessReadFault (answer_to_generated number o).status (answer_to_generated number o ≡ d)
+due_big number None d is = is
+due_big number (Some limit) d is = is
+
+founded_big : (b n : ℕ) (left : Option (List ℕ)) (number : ℕ) (a : Answer) → a ≡ answer_to_big number → IsFounded (Some (command.Big number)) b n left a
+founded_big b n left number a is =
+    subst (λ (a : Answer). IsFounded (Some (command.Big number)) b n left a) (sym is) (record {
+      cause = let m = generated_run number in caused_big b n left number (passed_limit m) refl (only_limit m.setup m.steps);
+      line = line_big number (passed_limit (generated_run number));
+      due = told left;
+      scripted = λ run ok. absurd (cc run);
+      generated = refl;
+    })
+  where
+    told : (left : Option (List ℕ)) → IfSome left (λ input. UnlessReadFault (answer_to_big number).status (answer_to_big number ≡ answer_for (Some (command.Big number)) input))
+    told None = tt
+    told (Some input) = due_big number (passed_limit (generated_run number)) (answer_to_big number) refl
+
+pub answered_big : (c : Option Command) (b n : ℕ) (left : Option (List ℕ)) (number : ℕ) (r : Result Answer Memory) → Some (command.Big number) ≡ c
+    → IfOk r (λ a. a ≡ answer_to_big number) → IfOk r (λ a. IsFounded c b n left a)
+answered_big c b n left number (Ok a) command is = subst (λ (c : Option Command). IsFounded c b n left a) command (founded_big b n left number a is)
+answered_big c b n left number (Err e) command is = tt
 
 -- no answer is want of memory
 pub never_memory : {P : Type 0} (c : Option Command) (b n : ℕ) (left : Option (List ℕ)) (a : Answer) → IsFounded c b n left a → a.status ≡ status.OutOfMemory → P

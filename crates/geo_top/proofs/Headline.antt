@@ -1,21 +1,24 @@
--- The headline, of the run of a script: messages stand once and in order, and none is lost.
+-- The headline, of the run of a script: messages stand once and in order, none is lost, and settling brings all over.
 use Rattle.std.proofs.Common.{◌≡◌, ℕ, ◌<◌, Bool, true, false, length, refl, sym, subst, ◌∙◌, inl, inr}
 use Rattle.std.specs.Prelude.{◌⊎◌, Option, Some}
 use Rattle.geo_base.specs.declared.entry.Entry.{Entry}
 use Rattle.geo_base.specs.Cursor.{has}
 use Rattle.geo_base.specs.Entry.{is_data}
-use Rattle.geo_base.specs.Laws.{Always, IsShort}
+use Rattle.geo_base.specs.Laws.{Always, BetweenEvents, IsShort, SettlesAll, after_settling}
+use Rattle.geo_base.specs.Run.{run}
 use Rattle.geo_base.specs.Safe.{AllOnce, IsEntry, IsSub, OnlySettled}
 use Rattle.geo_base.specs.Scripted.{IsScripted}
 use Rattle.geo_base.specs.Settled.{IsSettled, SettledSoFar}
 use Rattle.geo_base.specs.Setup.{Setup}
 use Rattle.geo_base.specs.Subscription.{Subscription}
 use Rattle.geo_base.specs.World.{World, topic_at}
-use Rattle.script.specs.Script.{Script}
+use Rattle.script_text.specs.Script.{Script}
+use Rattle.world_laws.proofs.Complete.{budget_always}
 use Rattle.world_laws.proofs.Once.{once_always}
 use Rattle.world_laws.proofs.Runs.{always_in}
 use Rattle.world_laws.proofs.ToldLaws.{safe_always}
-use Rattle.geo_top.specs.Headline.{IsAlwaysOnce, IsAlwaysSafe, IsInBacklog, IsSafe, NothingIsLost}
+use Rattle.geo_top.specs.Headline.{AllCameOver, IsAlwaysOnce, IsAlwaysSafe, IsAlwaysSettled, IsInBacklog, IsSafe, NothingIsLost}
+use Rattle.geo_top.proofs.Quiet.{run_settled}
 
 -- once and in order, always
 pub always_once : (n : Script) → IsAlwaysOnce n
@@ -53,3 +56,10 @@ always_safe n scripted =
     let s = n.setup in
     always_in s n.steps (λ w settled. IsShort w → IsSafe s w settled)
     (weaker s (λ w settled. IsShort w → OnlySettled s w settled) (λ w settled. IsShort w → IsSafe s w settled) (safe_world s) (safe_always.settled s scripted))
+
+-- behind each step that settles all has come over
+pub always_settled : (n : Script) → IsScripted n.setup → IsAlwaysSettled n
+always_settled n scripted es fs is short =
+    let s = n.setup in let same = run_settled s es in
+    let law : BetweenEvents s (λ w. IsShort (after_settling s w) → SettlesAll s w) = budget_always.complete s scripted in
+    subst (AllCameOver s) (sym same) (law.run es (subst IsShort same short))

@@ -1,40 +1,130 @@
--- What each part of a report of a world leaves of the whole.
-use Rattle.std.proofs.Common.{◌≡◌, ℕ, ◌+◌, ◌==◌, if◌then◌else◌, List, [], ◌∷◌, ◌++◌, drop, map, subst}
-use Rattle.std.specs.Prelude.{codes}
-use Rattle.geo_base.specs.Broker.{Broker}
-use Rattle.geo_base.specs.Client.{Client}
-use Rattle.geo_base.specs.Report.{broker_lines, client_line, client_lines, cluster_lines, got_line, topic_lines, with_line_feeds, words}
-use Rattle.geo_base.specs.Setup.{Declared, Setup}
-use Rattle.geo_base.specs.World.{World, client_at, topic_at}
-use Rattle.report.proofs.AddedLines.{line_added, lines_added}
+-- What each part of a report or a summary of a world leaves of the whole.
+use Rattle.std.proofs.Common.{◌≡◌, ℕ, ◌+◌, ◌*◌, ◌<◌, ◌==◌, if◌then◌else◌, List, [], ◌∷◌, ◌++◌, length, drop, get_or, map, refl, sym, ap, subst, ◌∙◌, append_assoc, arith, Fits, w32}
+use Rattle.std.proofs.lemmas.List.{drop_more, get_or-map, get_or_read}
+use Rattle.std.specs.Prelude.{codes, decimal, slice_index_or}
+use Rattle.geo_base.specs.Broker.{Broker, Site, no_broker}
+use Rattle.geo_base.specs.Client.{Client, new_client}
+use Rattle.geo_base.specs.Report.{broker_lines, client_line, client_lines, cluster_lines, got_line, head_line, topic_lines, with_line_feeds, words}
+use Rattle.geo_base.specs.Scripted.{IsScripted}
+use Rattle.geo_base.specs.Setup.{Declared, Setup, declared_at}
+use Rattle.geo_base.specs.World.{World, broker_at, client_at, node, topic_at}
+use Rattle.geo_world.specs.World.{IsAt, WorldBook, brokers_of, no_node, node_at}
+use Rattle.node_report.proofs.Parts.{lines_added, with_line_feeds-append}
+use Rattle.report_lines.proofs.Added.{line_added}
+use Rattle.topic_node.specs.Node.{NodeBook}
+use Rattle.world_laws.specs.Reached.{IsGround}
+use Rattle.world_laws.proofs.Reaching.{ground}
+use Rattle.world_laws.proofs.Sizes.{node_lt}
+use Rattle.geo_top.specs.Shown.{shown_world}
+use Rattle.geo_top.specs.Summary.{big_line, stored_line, stored_lines, summary, summary_lines}
+use Rattle.geo_top.proofs.FewClients.{few_clients}
 
-pub client_added : (s : Setup) (w : World) (t i : ℕ) (ds : List Declared) (d : Declared) (k : Client) (old new whole : List ℕ)
-    → drop i ds ≡ d ∷ drop (i + 1) ds → k ≡ client_at s w i
+-- the items from one that was read on
+here : {X : Type 0} (xs : List X) (i : ℕ) (x : X) → i < length xs → x ≡ get_or xs i x → drop i xs ≡ x ∷ drop (i + 1) xs
+here xs i x within read = drop_more xs i x within ∙ ap (λ (z : _). z ∷ drop (i + 1) xs) (sym read)
+
+-- ---- the broker of a topic at a cluster
+
+module _ (s : Setup) (b : WorldBook) (at : IsAt s b) (t x : ℕ) (topic : t < length s.topics) (cluster : x < length s.clusters) where
+  abbrev broker : NodeBook
+  broker = node_at b.nodes (node s t x)
+
+  in_nodes : node s t x < length b.nodes
+  in_nodes = subst (λ (m : ℕ). node s t x < m) (sym at.nodes.count) (node_lt s t x (topic, cluster))
+
+  pub broker_there : broker.broker ≡ topic_at s (shown_world b) t x
+  broker_there = sym (get_or-map (λ (v : NodeBook). v.broker) b.nodes (node s t x) no_node no_broker in_nodes)
+
+  clusters_there : broker.site.clusters ≡ s.clusters
+  clusters_there = ap (λ (h : Site). h.clusters) (at.nodes.each t x topic cluster).site
+
+  own_there : broker.site.own ≡ x
+  own_there = ap (λ (h : Site). h.own) (at.nodes.each t x topic cluster).site
+
+  pub senders_there : length broker.broker.senders ≡ length broker.site.clusters
+  senders_there =
+      let g : IsGround s at.world = ground s at.setup at.world at.reached in
+      let is : broker.broker ≡ broker_at at.world (node s t x) =
+      broker_there ∙ ap (λ (bs : List Broker). slice_index_or bs (node s t x) no_broker) at.stands.brokers in
+      let within : node s t x < length at.world.brokers = subst (λ (m : ℕ). node s t x < m) (sym g.places.brokers) (node_lt s t x (topic, cluster)) in
+      ap (λ (c : Broker). length c.senders) is ∙ ((g.places.each (node s t x) within).senders ∙ sym (ap length clusters_there))
+
+  lines_there : broker_lines broker.site.clusters broker.site.own broker.broker ≡ broker_lines s.clusters x (topic_at s (shown_world b) t x)
+  lines_there =
+      ap (λ (names : List (List ℕ)). broker_lines names broker.site.own broker.broker) clusters_there
+      ∙ (ap (λ (own : ℕ). broker_lines s.clusters own broker.broker) own_there ∙ ap (broker_lines s.clusters x) broker_there)
+
+  pub place_added : (name n : List ℕ) (v : NodeBook) (old mid new whole : List ℕ) → n ≡ get_or s.clusters x n → v ≡ broker
+      → mid ≡ old ++ (words (codes "topic" ∷ name ∷ codes "at" ∷ n ∷ []) ++ 10 ∷ [])
+      → new ≡ mid ++ with_line_feeds (broker_lines v.site.clusters v.site.own v.broker)
+      → old ++ with_line_feeds (cluster_lines s (shown_world b) t name x (drop x s.clusters)) ≡ whole
+      → new ++ with_line_feeds (cluster_lines s (shown_world b) t name (x + 1) (drop (x + 1) s.clusters)) ≡ whole
+  place_added name n v old mid new whole read is first then_broker before =
+      let rest = cluster_lines s (shown_world b) t name (x + 1) (drop (x + 1) s.clusters) in
+      let at_cluster = broker_lines s.clusters x (topic_at s (shown_world b) t x) in
+      let added : new ≡ mid ++ with_line_feeds at_cluster =
+      then_broker ∙ ap (λ (ls : List (List ℕ)). mid ++ with_line_feeds ls) (ap (λ (u : NodeBook). broker_lines u.site.clusters u.site.own u.broker) is ∙ lines_there) in
+      lines_added mid new whole at_cluster rest added
+      (line_added old mid (words (codes "topic" ∷ name ∷ codes "at" ∷ n ∷ [])) whole (at_cluster ++ rest) first (rw (here s.clusters x n cluster read) at before))
+
+-- the messages that the one topic stored at a cluster
+pub stored_added : (s : Setup) (b : WorldBook) (at : IsAt s b) (x : ℕ) (topic : 0 < length s.topics) (cluster : x < length s.clusters)
+    → (n : List ℕ) (v : NodeBook) (old new whole : List ℕ) → n ≡ get_or s.clusters x n → v ≡ node_at b.nodes (node s 0 x)
+    → new ≡ old ++ (stored_line n v.broker.entries ++ 10 ∷ [])
+    → old ++ with_line_feeds (stored_lines s (shown_world b) x (drop x s.clusters)) ≡ whole
+    → new ++ with_line_feeds (stored_lines s (shown_world b) (x + 1) (drop (x + 1) s.clusters)) ≡ whole
+stored_added s b at x topic cluster n v old new whole read is added before =
+    let stored : v.broker ≡ topic_at s (shown_world b) 0 x = ap (λ (u : NodeBook). u.broker) is ∙ broker_there s b at 0 x topic cluster in
+    line_added old new (stored_line n v.broker.entries) whole (stored_lines s (shown_world b) (x + 1) (drop (x + 1) s.clusters)) added
+    (rw (← stored) at (rw (here s.clusters x n cluster read) at before))
+
+pub client_added : (s : Setup) (w : World) (t i : ℕ) (d : Declared) (k : Client) (old new whole : List ℕ) → i < length s.clients → d ≡ get_or s.clients i d
+    → k ≡ client_at s w i
     → new ≡ old ++ with_line_feeds (if d.topic == t then client_line s d k ∷ map (got_line s.clusters) k.got else [])
-    → old ++ with_line_feeds (client_lines s w t i (drop i ds)) ≡ whole
-    → new ++ with_line_feeds (client_lines s w t (i + 1) (drop (i + 1) ds)) ≡ whole
-client_added s w t i ds d k old new whole left at added before =
-    lines_added old new whole (if d.topic == t then client_line s d k ∷ map (got_line s.clusters) k.got else []) (client_lines s w t (i + 1) (drop (i + 1) ds)) added
-    (rw at (rw left at before))
+    → old ++ with_line_feeds (client_lines s w t i (drop i s.clients)) ≡ whole
+    → new ++ with_line_feeds (client_lines s w t (i + 1) (drop (i + 1) s.clients)) ≡ whole
+client_added s w t i d k old new whole within read at added before =
+    lines_added old new whole (if d.topic == t then client_line s d k ∷ map (got_line s.clusters) k.got else []) (client_lines s w t (i + 1) (drop (i + 1) s.clients)) added
+    (rw at (rw (here s.clients i d within read) at before))
 
-pub place_added : (s : Setup) (w : World) (t i : ℕ) (topic n : List ℕ) (names : List (List ℕ)) (b : Broker) (old text mid new whole : List ℕ)
-    → drop i names ≡ n ∷ drop (i + 1) names → b ≡ topic_at s w t i
-    → text ≡ words (codes "topic" ∷ topic ∷ codes "at" ∷ n ∷ []) ++ 10 ∷ [] → mid ≡ old ++ text → new ≡ mid ++ with_line_feeds (broker_lines s.clusters i b)
-    → old ++ with_line_feeds (cluster_lines s w t topic i (drop i names)) ≡ whole
-    → new ++ with_line_feeds (cluster_lines s w t topic (i + 1) (drop (i + 1) names)) ≡ whole
-place_added s w t i topic n names b old text mid new whole left is line first then_broker before =
-    let rest = cluster_lines s w t topic (i + 1) (drop (i + 1) names) in
-    let at_cluster = broker_lines s.clusters i (topic_at s w t i) in
-    lines_added mid new whole at_cluster rest (rw is at then_broker)
-    (line_added old mid text (words (codes "topic" ∷ topic ∷ codes "at" ∷ n ∷ [])) whole (at_cluster ++ rest) line first (rw left at before))
+-- a client has a number of 32 bits, and is there
+pub client_number : (s : Setup) (i : ℕ) → IsScripted s → i < length s.clients → Fits w32 i
+client_number s i scripted within = omega (arith, few_clients s scripted, within)
 
-pub topic_added : (s : Setup) (w : World) (i : ℕ) (name n : List ℕ) (names : List (List ℕ)) (old mid new whole : List ℕ)
-    → drop i names ≡ n ∷ drop (i + 1) names → name ≡ n
+pub client_within : (s : Setup) (b : WorldBook) (i : ℕ) → IsAt s b → i < length s.clients → i < length b.clients
+client_within s b i at within =
+    let g : IsGround s at.world = ground s at.setup at.world at.reached in
+    subst (λ (m : ℕ). i < m) (sym (ap length at.stands.clients ∙ g.places.clients)) within
+
+-- the client of a number is the world's
+pub client_there : (s : Setup) (b : WorldBook) (i : ℕ) (k : Client) → i < length b.clients → slice_index_or b.clients i k ≡ k → k ≡ client_at s (shown_world b) i
+client_there s b i k within is = get_or_read b.clients i k within (sym is) (new_client (declared_at s i))
+
+pub topic_added : (s : Setup) (w : World) (i : ℕ) (name n : List ℕ) (old mid new whole : List ℕ) → i < length s.topics → n ≡ get_or s.topics i n → name ≡ n
     → mid ≡ old ++ with_line_feeds (cluster_lines s w i name 0 s.clusters) → new ≡ mid ++ with_line_feeds (client_lines s w i 0 s.clients)
-    → old ++ with_line_feeds (topic_lines s w i (drop i names)) ≡ whole
-    → new ++ with_line_feeds (topic_lines s w (i + 1) (drop (i + 1) names)) ≡ whole
-topic_added s w i name n names old mid new whole left is places clients before =
-    let rest = topic_lines s w (i + 1) (drop (i + 1) names) in
+    → old ++ with_line_feeds (topic_lines s w i (drop i s.topics)) ≡ whole
+    → new ++ with_line_feeds (topic_lines s w (i + 1) (drop (i + 1) s.topics)) ≡ whole
+topic_added s w i name n old mid new whole within read is places clients before =
+    let rest = topic_lines s w (i + 1) (drop (i + 1) s.topics) in
     lines_added mid new whole (client_lines s w i 0 s.clients) rest clients
     (lines_added old mid whole (cluster_lines s w i n 0 s.clusters) (client_lines s w i 0 s.clients ++ rest)
-    (subst (λ m. mid ≡ old ++ with_line_feeds (cluster_lines s w i m 0 s.clusters)) is places) (rw left at before))
+    (subst (λ (m : List ℕ). mid ≡ old ++ with_line_feeds (cluster_lines s w i m 0 s.clusters)) is places) (rw (here s.topics i n within read) at before))
+
+-- ---- the summary
+
+pub big_whole : (number : ℕ) → codes "big " ++ (decimal number ++ codes " clusters 3 messages 2000\n") ≡ big_line number ++ 10 ∷ []
+big_whole number = simp append_assoc
+
+put : (big stored quiet head : List ℕ) → ((((big ++ 10 ∷ []) ++ stored) ++ (quiet ++ 10 ∷ [])) ++ (head ++ 10 ∷ []))
+    ≡ big ++ (10 ∷ (stored ++ (quiet ++ (10 ∷ (head ++ (10 ∷ []))))))
+put big stored quiet head = simp append_assoc
+
+pub summary_whole : (number : ℕ) (s : Setup) (w : World) (one two three four : List ℕ) → one ≡ big_line number ++ 10 ∷ []
+    → two ≡ one ++ with_line_feeds (stored_lines s w 0 s.clusters) → three ≡ two ++ codes "quiet\n" → four ≡ three ++ (head_line w ++ 10 ∷ [])
+    → four ≡ summary number s w
+unfolding summary_lines
+summary_whole number s w one two three four first stored quiet head =
+    let lines = stored_lines s w 0 s.clusters in
+    let last : List (List ℕ) = codes "quiet" ∷ head_line w ∷ [] in
+    rw (head, quiet, stored, first) (put (big_line number) (with_line_feeds lines) (codes "quiet") (head_line w)
+    ∙ ap (λ (rest : List ℕ). big_line number ++ (10 ∷ rest)) (sym (with_line_feeds-append lines last)))

@@ -1,9 +1,11 @@
 //! The program: from the words of a command line and the bytes of a script to the bytes of a report.
 //!
-//! [`geo_alone`] is the program as one call: it reads the script from a source, has `world_core` do its run, makes the whole
-//! report in memory, and writes it to a sink.
+//! [`geo_alone`] is the program as one call: it reads the script from a source, has `geo_world` do its run, makes the whole
+//! output in memory, and writes it to a sink.
 #![tactic(auto)]
 
+mod run;
+mod summary;
 #[cfg(test)]
 mod tests;
 mod top;

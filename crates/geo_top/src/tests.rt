@@ -1,19 +1,16 @@
+ghost use Rattle.std.specs.Prelude.{◌<◌};
+
 use crate::{Status, Word, geo_alone};
 use geo_io::{MemSink, MemSource};
 use std::alloc::Global;
 use std::test::Fail;
 
-/// What `run` does with a script and a sink, read seven bytes at a time.
-fn run(alloc: Global, script: &[u8], sink: &mut MemSink) -> Result<Status, Fail> {
+/// What `run` does with a script and a sink, read so many bytes at a time.
+fn run(alloc: Global, script: &[u8], most: usize, sink: &mut MemSink) -> Result<Status, Fail>
+    requires { 0 < most }
+{
     let words = vec![in alloc; Word::from_str(alloc, "run")?]?;
-    let mut source = MemSource::new(alloc, script, 7, &[])?;
-    Ok(geo_alone(alloc, words.as_slice(), &mut source, sink))
-}
-
-/// The same with a source that gives a million bytes in a call.
-fn run_at_once(alloc: Global, script: &[u8], sink: &mut MemSink) -> Result<Status, Fail> {
-    let words = vec![in alloc; Word::from_str(alloc, "run")?]?;
-    let mut source = MemSource::new(alloc, script, 1_000_000, &[])?;
+    let mut source = MemSource::new(alloc, script, most, &[])?;
     Ok(geo_alone(alloc, words.as_slice(), &mut source, sink))
 }
 
@@ -22,72 +19,17 @@ fn open_sink(alloc: Global) -> Result<MemSink, Fail> {
     Ok(MemSink::new(alloc, 1_000_000, &[])?)
 }
 
+/// A million bytes in a call.
+const AT_ONCE: usize = 1_000_000;
+
+const DECLARATIONS: &[u8] =
+    b"geo 1\ncluster a\ncluster b\ntopic t\nclient p t a\ndo p produce\ndo p pub 0 * - hi\n";
+
+/// A message that goes to another cluster, and its receipt.
 const ONE_MESSAGE: &[u8] =
     b"geo 1\ncluster a\ncluster b\ntopic t\nclient p t a\ndo p produce\ndo p pub 0 * - hi\n\
 reconnect p\nserve a p\ngo p\nserve a p\ngo p\nserve a p\nget p\nget p\nget p\n\
 reset t a b\ntake t a b good\nreceipt t a b good\nread t a b\ntake t a b good\nreceipt t a b good\n";
-
-const ONE_MESSAGE_REPORT: &[u8] = b"events 15 idle 0 rounds 0\n\
-topic t at a\nentry 0:0 a p 0 * data - hi\nsender b session 1 open mark 1\n\
-topic t at b\nentry 0:0 a p 0 * data - hi\nsender a session 0 closed mark 0\n\
-client p at a lines 2/2 receipts 1 duplicates 0 errors 0\n";
-
-const DUPLICATE_PUBLISH: &[u8] = b"geo 1\ncluster a\ncluster b\ntopic t\nclient p t a\n\
-do p produce\ndo p pub 0 * - hi\ndo p pub 0 * - again\n\
-reconnect p\nserve a p\ngo p\nserve a p\ngo p\nserve a p\ngo p\nserve a p\nget p\nget p\nget p\nget p\n";
-
-const DUPLICATE_PUBLISH_REPORT: &[u8] = b"events 12 idle 0 rounds 0\n\
-topic t at a\nentry 0:0 a p 0 * data - hi\nsender b session 0 closed mark 0\n\
-topic t at b\nsender a session 0 closed mark 0\n\
-client p at a lines 3/3 receipts 1 duplicates 1 errors 0\n";
-
-/// Three clusters; a message for c and b with a key, one for b alone without text, one for all. Only what is for c comes there.
-const TARGETS_AND_KEYS: &[u8] = b"geo 1\ncluster a\ncluster b\ncluster c\ntopic t\nclient p t a\n\
-do p produce\ndo p pub 0 c,b k1 x\ndo p pub 1 b - \ndo p pub 2 * - hi there\n\
-reconnect p\nserve a p\ngo p\nserve a p\ngo p\nserve a p\ngo p\nserve a p\ngo p\nserve a p\n\
-reset t a c\ntake t a c good\nreceipt t a c good\nread t a c\nread t a c\nread t a c\n\
-take t a c good\ntake t a c good\nreceipt t a c good\nreceipt t a c good\n";
-
-const TARGETS_AND_KEYS_REPORT: &[u8] = b"events 20 idle 0 rounds 0\n\
-topic t at a\nentry 0:0 a p 0 b,c data k1 x\nentry 0:1 a p 1 b data - \nentry 0:2 a p 2 * data - hi there\n\
-sender b session 0 closed mark 0\nsender c session 1 open mark 3\n\
-topic t at b\nsender a session 0 closed mark 0\nsender c session 0 closed mark 0\n\
-topic t at c\nentry 0:0 a p 0 b,c data k1 x\nentry 0:1 a p 2 * data - hi there\n\
-sender a session 0 closed mark 0\nsender b session 0 closed mark 0\n\
-client p at a lines 4/4 receipts 0 duplicates 0 errors 0\n";
-
-/// The second message is acknowledged first; after a reconnect the first comes again, alone, and all up to it is acknowledged.
-const ACKNOWLEDGE_AND_RECONNECT: &[u8] =
-    b"geo 1\ncluster a\ncluster b\ntopic t\nclient p t a\nclient c t a\n\
-do p produce\ndo p pub 0 * - m0\ndo p pub 1 * - m1\n\
-do c sub s exclusive earliest local\ndo c flow 10\ndo c ack a p 1\ndo c ackto a p 0\n\
-reconnect p\nserve a p\ngo p\nserve a p\ngo p\nserve a p\ngo p\nserve a p\n\
-reconnect c\nserve a c\ngo c\nserve a c\ngo c\nserve a c\noffer t a s\noffer t a s\noffer t a s\n\
-get c\nget c\nget c\nget c\ngo c\nserve a c\nreconnect c\nserve a c\nserve a c\nserve a c\n\
-offer t a s\noffer t a s\nget c\nget c\nget c\ngo c\nserve a c\n";
-
-const ACKNOWLEDGE_AND_RECONNECT_REPORT: &[u8] = b"events 32 idle 2 rounds 0\n\
-topic t at a\nentry 0:0 a p 0 * data - m0\nentry 0:1 a p 1 * data - m1\n\
-sender b session 0 closed mark 0\nsub s exclusive local mark 2 backlog 0\n\
-topic t at b\nsender a session 0 closed mark 0\n\
-client p at a lines 3/3 receipts 0 duplicates 0 errors 0\n\
-client c at a lines 4/4 receipts 0 duplicates 0 errors 0\ngot a p 0\ngot a p 1\ngot a p 0\n";
-
-#[test]
-fn scripts_are_reported(rt: HostRuntime) -> Result<(), Fail> {
-    let scripts = [
-        (ONE_MESSAGE, ONE_MESSAGE_REPORT),
-        (DUPLICATE_PUBLISH, DUPLICATE_PUBLISH_REPORT),
-        (TARGETS_AND_KEYS, TARGETS_AND_KEYS_REPORT),
-        (ACKNOWLEDGE_AND_RECONNECT, ACKNOWLEDGE_AND_RECONNECT_REPORT),
-    ];
-    for (script, report) in scripts {
-        let mut sink = open_sink(rt.alloc())?;
-        assert_eq!(rt; run(rt.alloc(), script, &mut sink)?, Status::Ok);
-        assert_eq!(rt; sink.bytes(), report);
-    }
-    Ok(())
-}
 
 /// Each script with the first line that breaks a rule, and the lowest rule that it breaks. The table of all rules is that of
 /// the crate that reads scripts.
@@ -123,22 +65,32 @@ fn bad_scripts_are_refused_at_their_first_bad_line(rt: HostRuntime) -> Result<()
     ];
     for (script, line) in scripts {
         let mut sink = open_sink(rt.alloc())?;
-        let status = run(rt.alloc(), script, &mut sink)?;
+        let status = run(rt.alloc(), script, 7, &mut sink)?;
         assert_eq!(rt; status.number(), 3);
         assert_eq!(rt; sink.bytes(), line);
     }
     Ok(())
 }
 
+/// Nothing is read for them: the source would fail.
 #[test]
 fn words_that_are_no_command(rt: HostRuntime) -> Result<(), Fail> {
-    let lines: [&[&str]; 6] = [
+    let lines: [&[&str]; 15] = [
         &[],
         &["run", "x"],
         &["--help"],
         &["Run"],
         &[""],
         &["live", "1", "1"],
+        &["big"],
+        &["big", ""],
+        &["big", "x"],
+        &["big", "01"],
+        &["big", "+1"],
+        &["big", "-1"],
+        &["big", "4294967296"],
+        &["big", "1", "2"],
+        &["Big", "1"],
     ];
     for line in lines {
         let mut words = Vec::new(rt.alloc());
@@ -157,29 +109,26 @@ fn words_that_are_no_command(rt: HostRuntime) -> Result<(), Fail> {
     Ok(())
 }
 
-/// The sink takes ten bytes in a call: what went out before it failed is a part of the report, or of a refusal's line.
+/// A sink that takes ten bytes in a call and fails at one of the first five: what went out before is a part of the report, or of a
+/// refusal's line. And a source that gives 80 bytes in a call and fails at one of the first five: the script comes in four calls, and
+/// the fifth sees its end.
 #[test]
-fn each_write_fails_in_turn(rt: HostRuntime) -> Result<(), Fail> {
-    let calls: [(u64, &[u8]); 3] = [(1, b""), (2, b"events 15 "), (3, b"events 15 idle 0 rou")];
-    for (call, out) in calls {
+fn each_call_of_a_sink_or_a_source_fails_in_turn(rt: HostRuntime) -> Result<(), Fail> {
+    let report: &[u8] = b"events 15 idle 0 rounds 0\ntopic t at a\nen";
+    for call in 1..6 {
         let mut sink = MemSink::new(rt.alloc(), 10, &[call])?;
-        let status = run(rt.alloc(), ONE_MESSAGE, &mut sink)?;
+        let status = run(rt.alloc(), ONE_MESSAGE, 7, &mut sink)?;
         assert_eq!(rt; status, Status::WriteFault);
         assert_eq!(rt; status.number(), 5);
-        assert_eq!(rt; sink.bytes(), out);
+        assert_eq!(rt; sink.bytes(), &report[..10 * (call as usize - 1)]);
     }
     let mut sink = MemSink::new(rt.alloc(), 10, &[2])?;
-    assert_eq!(rt; run(rt.alloc(), b"geo", &mut sink)?, Status::WriteFault);
+    assert_eq!(rt; run(rt.alloc(), b"geo", 7, &mut sink)?, Status::WriteFault);
     assert_eq!(rt; sink.bytes(), b"bad script".as_slice());
-    Ok(())
-}
 
-#[test]
-fn each_read_fails_in_turn(rt: HostRuntime) -> Result<(), Fail> {
     let words = vec![in rt.alloc(); Word::from_str(rt.alloc(), "run")?]?;
-    // The script comes in three calls, and the fourth sees its end.
-    for call in 1..5 {
-        let mut source = MemSource::new(rt.alloc(), ONE_MESSAGE, 100, &[call])?;
+    for call in 1..6 {
+        let mut source = MemSource::new(rt.alloc(), ONE_MESSAGE, 80, &[call])?;
         let mut sink = open_sink(rt.alloc())?;
         let status = geo_alone(rt.alloc(), words.as_slice(), &mut source, &mut sink);
         assert_eq!(rt; status, Status::ReadFault);
@@ -189,45 +138,87 @@ fn each_read_fails_in_turn(rt: HostRuntime) -> Result<(), Fail> {
     Ok(())
 }
 
-/// One byte more than is read.
-#[test]
-fn an_input_that_is_too_large(rt: HostRuntime) -> Result<(), Fail> {
-    let words = vec![in rt.alloc(); Word::from_str(rt.alloc(), "run")?]?;
-    let input = vec![in rt.alloc(); b'\n'; 67_108_865]?;
-    let mut source = MemSource::new(rt.alloc(), input.as_slice(), 1_000_000, &[])?;
-    let mut sink = open_sink(rt.alloc())?;
-    let status = geo_alone(rt.alloc(), words.as_slice(), &mut source, &mut sink);
-    assert_eq!(rt; status, Status::TooLarge(1));
-    assert_eq!(rt; status.number(), 6);
-    assert_eq!(rt; sink.bytes(), b"too large 1\n".as_slice());
-    Ok(())
+/// So many copies of a line behind a text.
+fn with_lines(alloc: Global, text: &[u8], line: &[u8], count: u64) -> Result<Vec<u8>, Fail> {
+    let mut script = text.to_vec(alloc)?;
+    for copy in 0..count {
+        script.extend_from_slice(line)?;
+    }
+    Ok(script)
 }
 
-/// The most events, all of them idle, and one more.
-#[test]
-fn a_run_of_too_many_events(rt: HostRuntime) -> Result<(), Fail> {
-    let mut script = Vec::new(rt.alloc());
-    script.extend_from_slice(b"geo 1\ncluster a\ncluster b\ntopic t\nclient p t a\n")?;
-    for _event in 0..2_000_000 {
-        script.extend_from_slice(b"go p\n")?;
+/// 256 messages of 1,024 bytes that wait for their receipts, which every reconnect sends again.
+fn unanswered(alloc: Global) -> Result<Vec<u8>, Fail> {
+    let mut script = b"geo 1\ncluster a\ncluster b\ntopic t\nclient p t a\ndo p produce\n".to_vec(
+        alloc,
+    )?;
+    let text = vec![in alloc; b'x'; 1_024]?;
+    for seq in 0..256 {
+        let words = format!(in alloc; "do p pub {seq} * - ")?;
+        script.extend_from_slice(words.as_bytes())?;
+        script.extend_from_slice(text.as_slice())?;
+        script.push(b'\n')?;
     }
-    let mut sink = open_sink(rt.alloc())?;
+    script.extend_from_slice(b"reconnect p\n")?;
+    with_lines(alloc, script.as_slice(), b"go p\n", 257)
+}
+
+/// Each limit with an input that passes it: one byte more than are read, one event more than are done, idle ones here, and more
+/// than a gibibyte of frames.
+#[test]
+fn inputs_and_runs_that_are_too_large(rt: HostRuntime) -> Result<(), Fail> {
+    let alloc = rt.alloc();
+    let inputs = vec![in alloc;
+        (1, vec![in alloc; b'\n'; 67_108_865]?),
+        (2, with_lines(alloc, DECLARATIONS, b"get p\n", 2_000_001)?),
+        (
+            3,
+            with_lines(
+                alloc,
+                unanswered(alloc)?.as_slice(),
+                b"reconnect p\n",
+                5_000
+            )?
+        ),
+    ]?;
+    for (limit, input) in inputs {
+        let mut sink = open_sink(alloc)?;
+        let status = run(alloc, input.as_slice(), AT_ONCE, &mut sink)?;
+        assert_eq!(rt; status, Status::TooLarge(limit));
+        assert_eq!(rt; status.number(), 6);
+        let line = format!(in alloc; "too large {limit}\n")?;
+        assert_eq!(rt; sink.bytes(), line.as_bytes());
+    }
+
+    // The most events are done.
+    let most = with_lines(alloc, DECLARATIONS, b"get p\n", 2_000_000)?;
+    let mut sink = open_sink(alloc)?;
     assert_eq!(rt;
-        run_at_once(rt.alloc(), script.as_slice(), &mut sink)?,
+        run(alloc, most.as_slice(), AT_ONCE, &mut sink)?,
         Status::Ok
     );
     assert_eq!(rt;
         sink.bytes(),
         b"events 0 idle 2000000 rounds 0\n\
 topic t at a\nsender b session 0 closed mark 0\ntopic t at b\nsender a session 0 closed mark 0\n\
-client p at a lines 0/0 receipts 0 duplicates 0 errors 0\n"
+client p at a lines 0/2 receipts 0 duplicates 0 errors 0\n"
             .as_slice()
     );
-    script.extend_from_slice(b"go p\n")?;
-    let mut refused = open_sink(rt.alloc())?;
-    let status = run_at_once(rt.alloc(), script.as_slice(), &mut refused)?;
-    assert_eq!(rt; status, Status::TooLarge(2));
-    assert_eq!(rt; status.number(), 6);
-    assert_eq!(rt; refused.bytes(), b"too large 2\n".as_slice());
+    Ok(())
+}
+
+/// The run of a number: every message comes to every cluster, and all is quiet at the end. Nothing is read for it: the source would
+/// fail.
+#[test]
+fn a_generated_run_is_summed_up(rt: HostRuntime) -> Result<(), Fail> {
+    let alloc = rt.alloc();
+    let words = vec![in alloc; Word::from_str(alloc, "big")?, Word::from_str(alloc, "7")?]?;
+    let mut source = MemSource::new(alloc, b"", 7, &[1])?;
+    let mut sink = open_sink(alloc)?;
+    let status = geo_alone(alloc, words.as_slice(), &mut source, &mut sink);
+    assert_eq!(rt; status, Status::Ok);
+    let lines: &[u8] = b"big 7 clusters 3 messages 2000\n\
+stored a 2000\nstored b 2000\nstored c 2000\nquiet\nevents ";
+    assert!(rt; sink.bytes().starts_with(lines));
     Ok(())
 }

@@ -2,55 +2,60 @@
 //!
 //! Each part appends its lines to those before it. Where a part wants memory, it is left open what it appended, since the whole
 //! is made apart from where it goes.
-ghost use Rattle.std.specs.Prelude.{◌≡◌, ◌<◌, ◌++◌, length, OnOk, OnErr};
-ghost use Rattle.geo_base.specs.Report.{client_lines, cluster_lines, report, topic_lines, with_line_feeds};
-ghost use Rattle.geo_base.specs.Worlds.{IsWorldOf};
+ghost use Rattle.std.specs.Prelude.{◌≡◌, ◌<◌, ◌++◌, ◌∷◌, [], length, OnOk, OnErr};
+ghost use Rattle.geo_base.specs.Report.{client_lines, cluster_lines, head_line, report, topic_lines, with_line_feeds};
+ghost use Rattle.geo_top.specs.Shown.{shown_world};
+ghost use Rattle.geo_world.specs.World.{IsAt};
 
-use client_core::setup::Declarations;
 use geo_base::bytes::Blob;
 use geo_base::memory::Memory;
-use report::add;
-use report::broker::add_broker;
-use report::client::add_client;
-use report::lines::{head_line, place_line};
+use geo_world::World;
+use node_report::{add_broker, add_client};
+use report_lines::{add, head_line, place_line};
+use script_text::Scenario;
 use std::alloc::Global;
-use world_core::world::World;
 
 /// Appends the report of a world; nothing where memory is wanting.
 #[tactic(auto, unfolding(geo_base::specs::Report::report_lines))]
 pub fn append_report(
     alloc: Global,
     out: &mut Blob,
-    setup: &Declarations,
+    scenario: &Scenario,
     world: &World,
 ) -> Result<(), Memory>
-    requires { IsWorldOf setup.now world.now.world }
-    ensures ok { OnOk result (out.new ≡ out.old ++ report setup.now world.now.world) }
+    requires { IsAt scenario.now.setup world.now }
+    ensures ok { OnOk result (out.new ≡ out.old ++ report scenario.now.setup (shown_world world.now)) }
     ensures err { OnErr result (out.new ≡ out.old) }
 {
     let mut lines = Blob::new(alloc);
-    add(
-        &mut lines,
-        head_line(alloc, world.events(), world.idle(), world.rounds())?,
-    )?;
-    add_topics(alloc, &mut lines, setup, world)?;
+    add_head(alloc, &mut lines, world)?;
+    add_topics(alloc, &mut lines, scenario, world)?;
     out.append(lines.as_slice())
+}
+
+/// The counts of a run.
+pub fn add_head(alloc: Global, lines: &mut Blob, world: &World) -> Result<(), Memory>
+    ensures { OnOk result (lines.new ≡ lines.old ++ (head_line (shown_world world.now) ++ 10 ∷ [])) }
+{
+    let counts = world.counts();
+    let line = head_line(alloc, counts.events, counts.idle, counts.rounds)?;
+    add(lines, line)
 }
 
 /// The topics.
 fn add_topics(
     alloc: Global,
     lines: &mut Blob,
-    setup: &Declarations,
+    scenario: &Scenario,
     world: &World,
 ) -> Result<(), Memory>
-    requires { IsWorldOf setup.now world.now.world }
-    ensures { OnOk result (lines.new ≡ lines.old ++ with_line_feeds (topic_lines setup.now world.now.world 0 setup.now.topics)) }
+    requires { IsAt scenario.now.setup world.now }
+    ensures { OnOk result (lines.new ≡ lines.old ++ with_line_feeds (topic_lines scenario.now.setup (shown_world world.now) 0 scenario.now.setup.topics)) }
 {
-    let topics = setup.topics();
+    let topics = scenario.topics();
     for (number, topic) in topics.iter().enumerate() {
-        add_places(alloc, lines, setup, world, number, topic.as_str())?;
-        add_clients(alloc, lines, setup, world, number)?;
+        add_places(alloc, lines, scenario, world, number as u32, topic.as_str())?;
+        add_clients(alloc, lines, scenario, world, number)?;
     }
     Ok(())
 }
@@ -59,25 +64,19 @@ fn add_topics(
 fn add_places(
     alloc: Global,
     lines: &mut Blob,
-    setup: &Declarations,
+    scenario: &Scenario,
     world: &World,
-    topic: usize,
+    topic: u32,
     name: &str,
 ) -> Result<(), Memory>
-    requires world { IsWorldOf setup.now world.now.world }
-    requires topic { topic < length setup.now.topics }
-    ensures { OnOk result (lines.new ≡ lines.old ++ with_line_feeds (cluster_lines setup.now world.now.world topic name.now 0 setup.now.clusters)) }
+    requires at { IsAt scenario.now.setup world.now }
+    requires topic { topic < length scenario.now.setup.topics }
+    ensures { OnOk result (lines.new ≡ lines.old ++ with_line_feeds (cluster_lines scenario.now.setup (shown_world world.now) topic name.now 0 scenario.now.setup.clusters)) }
 {
-    let clusters = setup.clusters();
+    let clusters = scenario.clusters();
     for (number, cluster) in clusters.iter().enumerate() {
         add(lines, place_line(alloc, name, cluster.as_str())?)?;
-        add_broker(
-            alloc,
-            lines,
-            clusters,
-            number,
-            world.broker(setup, topic, number),
-        )?;
+        add_broker(alloc, lines, world.topic(scenario, topic, number as u32))?;
     }
     Ok(())
 }
@@ -86,17 +85,17 @@ fn add_places(
 fn add_clients(
     alloc: Global,
     lines: &mut Blob,
-    setup: &Declarations,
+    scenario: &Scenario,
     world: &World,
     topic: usize,
 ) -> Result<(), Memory>
-    requires { IsWorldOf setup.now world.now.world }
-    ensures { OnOk result (lines.new ≡ lines.old ++ with_line_feeds (client_lines setup.now world.now.world topic 0 setup.now.clients)) }
+    requires { IsAt scenario.now.setup world.now }
+    ensures { OnOk result (lines.new ≡ lines.old ++ with_line_feeds (client_lines scenario.now.setup (shown_world world.now) topic 0 scenario.now.setup.clients)) }
 {
-    let declarations = setup.clients();
-    let clients = world.clients();
-    for (number, declared) in declarations.iter().enumerate() {
-        add_client(alloc, lines, setup, declared, &clients[number], topic)?;
+    let clients = scenario.clients();
+    for (number, declared) in clients.iter().enumerate() {
+        let client = world.client(number as u32);
+        add_client(alloc, lines, scenario, declared, client, topic)?;
     }
     Ok(())
 }

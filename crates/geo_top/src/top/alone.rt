@@ -1,15 +1,16 @@
 //! The top call.
-ghost use Rattle.std.specs.Prelude.{◌≡◌, ℕ, Some, None, Err, IfSome, IsOkAnd};
+ghost use Rattle.std.specs.Prelude.{◌≡◌, ℕ, true, Some, None, Err, IfSome, IsOkAnd};
 ghost use Rattle.geo_base.specs.Report.{report};
-ghost use Rattle.geo_base.specs.Run.{run};
+ghost use Rattle.geo_base.specs.Run.{is_quiet, run};
 ghost use Rattle.geo_io.specs.Faults.{Rose, Stood};
 ghost use Rattle.geo_io.specs.Sink.{Gains};
 ghost use Rattle.geo_top.specs.Commands.{command_of};
-ghost use Rattle.geo_top.specs.Headline.{IsAlwaysOnce, IsAlwaysSafe};
-ghost use Rattle.geo_top.specs.Outputs.{IsPassed, WentOut, WritesLine, answer_for};
+ghost use Rattle.geo_top.specs.Headline.{IsAlwaysOnce, IsAlwaysSafe, IsAlwaysSettled};
+ghost use Rattle.geo_top.specs.Outputs.{IsPassed, WentOut, WritesLine, answer_for, answer_to_big, summary_of};
 ghost use Rattle.geo_top.specs.Statuses.{IsDue};
 ghost use Rattle.geo_top.specs.declared.top.command.Command.TheVariants as command;
-ghost use Rattle.script.specs.Rules.{script_of};
+ghost use Rattle.schedule_gen.specs.Generated.{generated_run};
+ghost use Rattle.script_text.specs.Rules.{script_of};
 
 use crate::top::answer::answer_to_words;
 use crate::top::command::Word;
@@ -17,13 +18,14 @@ use crate::top::status::Status;
 use geo_io::{Sink, Source, write_all};
 use std::alloc::Global;
 
-/// The whole program but for the words of `live`: it reads a script from the source, does its run, and writes the report to the
-/// sink, or the one line of a refusal. It takes no runtime and starts no thread.
+/// The whole program but for the words of `live`. For `run` it reads a script from the source, does its run, and writes the
+/// report to the sink; for `big NUMBER` it does the run that the number generates, and writes its summary; else, and where it
+/// refuses, it writes one line. It takes no runtime and starts no thread.
 ///
 /// The whole output is made before its first byte is written. The first of these refusals wins: words that are no command; a
 /// fault of the source, or more than 67,108,864 bytes; a line of the script that breaks a rule; more than 2,000,000 events and
-/// idle events; a fault of the sink.
-#[tactic(auto, using(crate::proofs::Answering::ok_report, crate::proofs::Answering::ok_once, crate::proofs::Answering::ok_safe, crate::proofs::Answering::caused, crate::proofs::Answering::bad_script, crate::proofs::Answering::no_command, crate::proofs::Answering::due, crate::proofs::Answering::whole_out, crate::proofs::Answering::part_out, crate::proofs::Answering::nothing_out, crate::proofs::Answering::nothing_gained, crate::proofs::Answering::free_due, crate::proofs::Answering::written_due, crate::proofs::Answering::line_out, crate::proofs::Answering::never_memory))]
+/// idle events, or more than 1 GiB of frames; a fault of the sink.
+#[tactic(auto, using(crate::proofs::Answering::ok_report, crate::proofs::Answering::caused, crate::proofs::Answering::bad_script, crate::proofs::Answering::no_command, crate::proofs::Answering::due, crate::proofs::Answering::whole_out, crate::proofs::Answering::part_out, crate::proofs::Answering::nothing_out, crate::proofs::Answering::nothing_gained, crate::proofs::Answering::free_due, crate::proofs::Answering::written_due, crate::proofs::Answering::line_out, crate::proofs::Answering::never_memory, crate::proofs::Answering::big_due, crate::proofs::Answering::big_summary, crate::proofs::Quiet::generated_quiet))]
 pub fn geo_alone<S: Source, K: Sink>(
     alloc: Global,
     words: &[Word],
@@ -31,23 +33,32 @@ pub fn geo_alone<S: Source, K: Sink>(
     sink: &mut K,
 ) -> Status
     // With Ok, what went out is the report of the written machine's run over the script that the source held,
-    ensures report { result ≡ Status.Ok → IfSome (S.left source.old) (λ input. IsOkAnd (script_of input) (λ n.
+    ensures report { result ≡ Status.Ok → command_of words.now ≡ Some command.Run → IfSome (S.left source.old) (λ input. IsOkAnd (script_of input) (λ n.
         Gains (K.held sink.old) (K.held sink.new) (report n.setup (run n.setup n.steps)))) }
 
     // and at every moment of that run, between its events, inside settling and after each single durable write: each topic has
     // its messages once, per producer in order,
-    ensures once { result ≡ Status.Ok → IfSome (S.left source.old) (λ input. IsOkAnd (script_of input) IsAlwaysOnce) }
+    ensures once { result ≡ Status.Ok → command_of words.now ≡ Some command.Run → IfSome (S.left source.old) (λ input. IsOkAnd (script_of input) IsAlwaysOnce) }
 
     // and whatever a subscription has acknowledged is settled, so that every message stored anywhere is settled on each
     // subscription there or stands in its backlog.
-    ensures safe { result ≡ Status.Ok → IfSome (S.left source.old) (λ input. IsOkAnd (script_of input) IsAlwaysSafe) }
+    ensures safe { result ≡ Status.Ok → command_of words.now ≡ Some command.Run → IfSome (S.left source.old) (λ input. IsOkAnd (script_of input) IsAlwaysSafe) }
+
+    // Behind each step of it that settles all has come over: for every topic and every two clusters, the sender of the one to the
+    // other is open and has acknowledged all of its topic, and the other has, in order, all that the one stored first for it.
+    ensures settled { result ≡ Status.Ok → command_of words.now ≡ Some command.Run → IfSome (S.left source.old) (λ input. IsOkAnd (script_of input) IsAlwaysSettled) }
+
+    // For `big` it is the summary of the machine's run over the generated schedule, at whose end all is quiet.
+    ensures summary { (number : ℕ) → result ≡ Status.Ok → command_of words.now ≡ Some (command.Big number)
+        → Gains (K.held sink.old) (K.held sink.new) (summary_of number) }
+    ensures quiet { (number : ℕ) → let n = generated_run number in is_quiet n.setup (run n.setup n.steps) ≡ true }
 
     // Each refusal comes only for its cause.
     ensures usage { result ≡ Status.Usage → command_of words.now ≡ None }
     ensures read { result ≡ Status.ReadFault
         → (command_of words.now ≡ Some command.Run) × Rose (S.faults source.old) (S.faults source.new) }
-    // Limit 1 is on the bytes that are read, limit 2 on events and idle events together.
-    ensures large { (limit : ℕ) → result ≡ Status.TooLarge limit → IsPassed (S.left source.old) limit }
+    // Limit 1 is on the bytes that are read, limit 2 on events and idle events together, limit 3 on the bytes of all frames.
+    ensures large { (limit : ℕ) → result ≡ Status.TooLarge limit → IsPassed (command_of words.now) (S.left source.old) limit }
     ensures script { (line rule : ℕ) → result ≡ Status.BadScript line rule
         → IfSome (S.left source.old) (λ input. script_of input ≡ Err (record { line = line; rule = rule })) }
     ensures write { result ≡ Status.WriteFault → Rose (K.faults sink.old) (K.faults sink.new) }
@@ -57,6 +68,7 @@ pub fn geo_alone<S: Source, K: Sink>(
     // What is due comes, unless the source, the sink or memory fails.
     ensures no_command { command_of words.now ≡ None → IsDue Status.Usage result }
     ensures due { IfSome (S.left source.old) (λ input. IsDue (answer_for (command_of words.now) input).status result) }
+    ensures big { (number : ℕ) → command_of words.now ≡ Some (command.Big number) → IsDue (answer_to_big number).status result }
 
     // What goes out.
     ensures out { IfSome (S.left source.old) (λ input.

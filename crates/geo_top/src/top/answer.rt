@@ -1,27 +1,27 @@
 //! What the program is to write, made whole before its first byte goes out.
 ghost use Rattle.std.specs.Prelude.{◌≡◌, ◌≤◌, Some, IfOk, OnOk, OnErr, string_bytes, length};
-ghost use Rattle.geo_base.specs.Report.{report};
-ghost use Rattle.geo_base.specs.Worlds.{IsWorldOf};
 ghost use Rattle.geo_io.specs.Faults.{Stood};
 ghost use Rattle.geo_top.specs.Commands.{command_of};
-ghost use Rattle.geo_top.specs.Outputs.{DeclaresSetup, IsFounded, answer_to, answer_to_run, passed_limit, refused};
+ghost use Rattle.geo_top.specs.Finished.{IsFinished};
+ghost use Rattle.geo_top.specs.Outputs.{DeclaresSetup, IsFounded, answer_to, answer_to_big, answer_to_run, passed_limit, refused, report_of, summary_of};
 ghost use Rattle.geo_top.specs.Statuses.{refusal_line};
 ghost use Rattle.geo_top.specs.declared.top.command.Command.TheVariants as command;
-ghost use Rattle.script.specs.Rules.{script_of};
-ghost use Rattle.script.specs.Scenario.{IsScenario};
+ghost use Rattle.schedule_gen.specs.Generated.{generated_run};
+ghost use Rattle.script_text.specs.Rules.{script_of};
 
+use crate::run::run_script;
+use crate::summary::append_summary;
 use crate::top::command::{Command, Word};
 use crate::top::status::Status;
 use crate::world_report::append_report;
-use client_core::setup::Declarations;
 use geo_base::bytes::Blob;
 use geo_base::limits::INPUT_BYTES;
 use geo_base::memory::Memory;
 use geo_io::{ReadFault, Source, read_all};
-use script::{Scenario, ScriptFault, read_script};
+use geo_world::{RunFault, World};
+use schedule_gen::generate;
+use script_text::{Scenario, ScriptFault, read_script};
 use std::alloc::Global;
-use world_core::world::World;
-use world_core::world::run::{RunFault, run};
 
 /// How the program is to end, and what goes out.
 #[derive(Debug, Drop)]
@@ -42,6 +42,7 @@ pub fn answer_to_words<S: Source>(
 {
     match Command::read(words) {
         Some(Command::Run) => answer_to_script(alloc, source),
+        Some(Command::Big(number)) => answer_to_number(alloc, number),
         None => refusal(alloc, Status::Usage),
     }
 }
@@ -76,29 +77,64 @@ fn answer_to_bytes(alloc: Global, bytes: &[u8]) -> Result<Answer, Memory>
 }
 
 /// The report of the run of a script, or the limit that the run passes.
-#[tactic(auto, using(crate::proofs::Reporting::reports, crate::proofs::Reporting::passes))]
+#[tactic(auto, using(crate::proofs::Finishing::reported, crate::proofs::Finishing::refused_run))]
 fn answer_to_scenario(alloc: Global, scenario: &Scenario) -> Result<Answer, Memory>
-    requires { IsScenario scenario.now }
     ensures { IfOk result (λ a. a ≡ answer_to_run scenario.now (passed_limit scenario.now)) }
 {
-    let setup = Declarations::new(scenario);
-    match run(alloc, &setup, scenario.steps()) {
+    match run_script(alloc, scenario) {
         Ok(world) => Ok(Answer {
             status: Status::Ok,
-            bytes: report(alloc, &setup, &world)?,
+            bytes: report(alloc, scenario, &world)?,
         }),
         Err(RunFault::TooLarge(limit)) => refusal(alloc, Status::TooLarge(limit)),
         Err(RunFault::Memory) => Err(Memory),
     }
 }
 
-/// The report of a world.
-fn report(alloc: Global, setup: &Declarations, world: &World) -> Result<Blob, Memory>
-    requires { IsWorldOf setup.now world.now.world }
-    ensures { IfOk result (λ bytes. bytes ≡ report setup.now world.now.world) }
+/// The report of the world at the end of a script's run.
+#[tactic(auto, using(crate::proofs::Shown::shown_report))]
+fn report(alloc: Global, scenario: &Scenario, world: &World) -> Result<Blob, Memory>
+    requires { IsFinished scenario.now world.now }
+    ensures { IfOk result (λ bytes. bytes ≡ report_of scenario.now) }
 {
     let mut bytes = Blob::new(alloc);
-    append_report(alloc, &mut bytes, setup, world)?;
+    append_report(alloc, &mut bytes, scenario, world)?;
+    Ok(bytes)
+}
+
+/// The summary of the run that a number generates.
+#[tactic(auto, using(crate::proofs::Finishing::summed, crate::proofs::Finishing::refused_big))]
+fn answer_to_number(alloc: Global, number: u32) -> Result<Answer, Memory>
+    ensures { IfOk result (λ a. a ≡ answer_to_big number) }
+{
+    let scenario = generated(alloc, number)?;
+    match run_script(alloc, &scenario) {
+        Ok(world) => Ok(Answer {
+            status: Status::Ok,
+            bytes: summary(alloc, number, &scenario, &world)?,
+        }),
+        Err(RunFault::TooLarge(limit)) => refusal(alloc, Status::TooLarge(limit)),
+        Err(RunFault::Memory) => Err(Memory),
+    }
+}
+
+/// The script of a number's run.
+fn generated(alloc: Global, number: u32) -> Result<Scenario, Memory>
+    ensures { IfOk result (λ s. s ≡ generated_run number) }
+{
+    let parts = generate(alloc, number)?;
+    Scenario::of_parts(alloc, parts)
+}
+
+/// The summary of the world at the end of a number's run.
+#[tactic(auto, using(crate::proofs::Shown::shown_summary))]
+fn summary(alloc: Global, number: u32, scenario: &Scenario, world: &World) -> Result<Blob, Memory>
+    requires number { scenario.now ≡ generated_run number }
+    requires finished { IsFinished scenario.now world.now }
+    ensures { IfOk result (λ bytes. bytes ≡ summary_of number) }
+{
+    let mut bytes = Blob::new(alloc);
+    append_summary(alloc, &mut bytes, number, scenario, world)?;
     Ok(bytes)
 }
 

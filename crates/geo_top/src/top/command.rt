@@ -1,17 +1,24 @@
 //! The commands of the program.
 ghost use Rattle.std.specs.Prelude.{◌≡◌};
-ghost use Rattle.geo_top.specs.Commands.{command_of};
+ghost use Rattle.geo_top.specs.Commands.{big_of, command_of, most_number};
+ghost use Rattle.script_names.specs.Numbers.{number_of};
 
 use geo_base::bytes::Text;
+use script_names::number_of;
 
 /// A word of the command line.
 pub type Word = Text;
+
+/// The greatest number of a generated run: it has 32 bits.
+const MOST_NUMBER: u64 = 4_294_967_295;
 
 /// What the program can be asked to do.
 #[derive(Clone, Copy, Debug, Drop, PartialEq, Eq)]
 pub enum Command {
     /// Run a script, and report.
     Run,
+    /// Do the run that a number generates, and sum it up.
+    Big(u32),
 }
 
 impl Command {
@@ -21,7 +28,19 @@ impl Command {
     {
         match words {
             [word] if word.as_bytes() == b"run".as_slice() => Some(Command::Run),
+            [word, number] if word.as_bytes() == b"big".as_slice() => Command::big(number),
             _ => None,
+        }
+    }
+
+    /// The generated run of a word.
+    #[tactic(auto, using(script_rows::proofs::Chosen::number_small))]
+    fn big(word: &Word) -> Option<Command>
+        ensures { result ≡ big_of (number_of most_number word.now) }
+    {
+        match number_of(word.as_bytes(), MOST_NUMBER) {
+            Some(number) => Some(Command::Big(number as u32)),
+            None => None,
         }
     }
 }

@@ -15,7 +15,8 @@ pub enum Status {
     ReadFault,
     /// The sink failed: the output went out in part.
     WriteFault,
-    /// The limit of this number is passed: 1 is that of the bytes of an input, 2 that of events and idle events together.
+    /// The limit of this number is passed: 1 is that of the bytes of an input, 2 that of events and idle events together, 3 that
+    /// of the bytes of all frames.
     TooLarge(u64),
     /// A growth of memory was refused, and nothing went out.
     OutOfMemory,

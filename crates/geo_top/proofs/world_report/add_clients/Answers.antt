@@ -1,22 +1,22 @@
-use Rattle.std.proofs.Common.{◌<◌, length, ◌++◌, ap, arith}
-use Rattle.std.proofs.lemmas.List.{get_or_read}
-use Rattle.geo_base.specs.Client.{new_client}
+use Rattle.std.proofs.Common.{◌++◌}
 use Rattle.geo_base.specs.Report.{client_lines, with_line_feeds}
-use Rattle.geo_base.specs.Setup.{declared_at}
-use Rattle.report.proofs.AddedLines.{drop_read}
-use Rattle.geo_top.proofs.Lines.{client_added}
+use Rattle.geo_top.specs.Shown.{shown_world}
+use Rattle.geo_top.proofs.Lines.{client_added, client_number, client_there, client_within}
 use Rattle.geo_top.proofs.world_report.add_clients.Goals as goal
+
+pub overflow_cast-number : goal.overflow_cast-number
+overflow_cast-number c =
+    client_number c.args.scenario.now.setup c.loop-number.number c.requires.setup (rw c.clients-clients.ensures.clients at c.loop-number-test.true)
+
+pub client-client-requires : goal.client-client-requires
+client-client-requires c =
+    client_within c.args.scenario.now.setup c.args.world.now c.loop-number.number c.requires (rw c.clients-clients.ensures.clients at c.loop-number-test.true)
 
 pub loop-number-preserved : goal.loop-number-preserved
 loop-number-preserved c =
-    let s = c.args.setup.now in
-    let w = c.args.world.now.world in
-    let i = c.loop-number.number in
-    let ds = c.clients-declarations.result.now in
-    let d = c.index-declarations-number.result in
-    let k = c.index-clients-number.result in
-    let there : i < length c.clients-clients.result.now = omega (arith, c.requires.clients, ap length c.clients-clients.ensures, ap length c.clients-declarations.ensures) in
-    client_added s w c.args.topic i ds d k c.loop-number.lines c.add_client.new.lines (c.args.lines.now ++ with_line_feeds (client_lines s w c.args.topic 0 ds))
-    (drop_read ds i d c.loop-number-test.true c.index-declarations-number.is)
-    (rw c.clients-clients.ensures at (get_or_read c.clients-clients.result.now i k there c.index-clients-number.is (new_client (declared_at s i))))
-    c.in_ok-add_client.ensures c.loop-number.invariant
+    let s = c.args.scenario.now.setup in let b = c.args.world.now in let i = c.loop-number.number in
+    let clients = c.clients-clients.ensures.clients in
+    let k = c.client-client.result.now in
+    client_added s (shown_world b) c.args.topic i c.index-clients-number.result k c.loop-number.lines c.add_client.new.lines
+    (c.args.lines.now ++ with_line_feeds (client_lines s (shown_world b) c.args.topic 0 s.clients)) (rw clients at c.loop-number-test.true) (rw clients at c.index-clients-number.is)
+    (client_there s b i k (client_within s b i c.requires (rw clients at c.loop-number-test.true)) c.client-client.ensures) c.in_ok-add_client.ensures c.loop-number.invariant

@@ -1,8 +1,10 @@
 use Rattle.std.proofs.Common.{◌≡◌, ◌++◌, drop}
 use Rattle.geo_base.specs.Report.{client_lines, with_line_feeds}
+use Rattle.geo_top.specs.Shown.{shown_world}
 use Rattle.geo_top.proofs.world_report.add_clients.Given as goal
 
 -- the lines so far and the rest make the whole
 abbrev pub invariant-loop-number : goal.invariant-loop-number
 invariant-loop-number l =
-    l.lines ++ with_line_feeds (client_lines l.setup l.world.world l.topic l.number (drop l.number l.declarations)) ≡ l.initial.lines ++ with_line_feeds (client_lines l.setup l.world.world l.topic 0 l.declarations)
+    l.lines ++ with_line_feeds (client_lines l.scenario.setup (shown_world l.world) l.topic l.number (drop l.number l.scenario.setup.clients))
+    ≡ l.initial.lines ++ with_line_feeds (client_lines l.scenario.setup (shown_world l.world) l.topic 0 l.scenario.setup.clients)

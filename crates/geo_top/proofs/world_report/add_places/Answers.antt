@@ -1,18 +1,19 @@
 use Rattle.std.proofs.Common.{◌++◌}
-use Rattle.std.specs.Prelude.{string_bytes}
 use Rattle.geo_base.specs.Report.{cluster_lines, with_line_feeds}
-use Rattle.report.proofs.AddedLines.{drop_read}
-use Rattle.geo_top.proofs.Lines.{place_added}
+use Rattle.geo_top.specs.Shown.{shown_world}
+use Rattle.geo_top.proofs.Lines.{place_added, senders_there}
 use Rattle.geo_top.proofs.world_report.add_places.Goals as goal
+
+pub add_broker-requires : goal.add_broker-requires
+add_broker-requires c =
+    rw c.topic.ensures (senders_there c.args.scenario.now.setup c.args.world.now c.requires.at c.args.topic c.loop-number.number c.requires.topic
+    (rw c.clusters-clusters.ensures.names at c.loop-number-test.true))
 
 pub loop-number-preserved : goal.loop-number-preserved
 loop-number-preserved c =
-    let s = c.args.setup.now in
-    let w = c.args.world.now.world in
-    let i = c.loop-number.number in
-    let names = c.clusters-clusters.result.now in
-    let n = c.index-clusters-number.result in
-    place_added s w c.args.topic i c.args.name.now n names c.broker.result.now.broker c.loop-number.lines (string_bytes c.in_ok-place_line.field-0) c.add.new.lines c.add_broker.new.lines
-    (c.args.lines.now ++ with_line_feeds (cluster_lines s w c.args.topic c.args.name.now 0 names))
-    (drop_read names i n c.loop-number-test.true c.index-clusters-number.is) c.broker.ensures
-    (rw c.as_str.ensures.text at c.in_ok-place_line.ensures) c.in_ok-add.ensures (rw c.clusters-clusters.ensures.value at c.in_ok-add_broker.ensures) c.loop-number.invariant
+    let s = c.args.scenario.now.setup in let b = c.args.world.now in
+    let names = c.clusters-clusters.ensures.names in
+    place_added s b c.requires.at c.args.topic c.loop-number.number c.requires.topic (rw names at c.loop-number-test.true) c.args.name.now c.index-clusters-number.result
+    c.topic.result.now c.loop-number.lines c.add.new.lines c.add_broker.new.lines
+    (c.args.lines.now ++ with_line_feeds (cluster_lines s (shown_world b) c.args.topic c.args.name.now 0 s.clusters))
+    (rw names at c.index-clusters-number.is) c.topic.ensures (rw (c.in_ok-place_line.ensures, c.as_str.ensures.text) at c.in_ok-add.ensures) c.in_ok-add_broker.ensures c.loop-number.invariant

@@ -1,8 +1,10 @@
 use Rattle.std.proofs.Common.{◌≡◌, ◌++◌, drop}
 use Rattle.geo_base.specs.Report.{topic_lines, with_line_feeds}
+use Rattle.geo_top.specs.Shown.{shown_world}
 use Rattle.geo_top.proofs.world_report.add_topics.Given as goal
 
 -- the lines so far and the rest make the whole
 abbrev pub invariant-loop-number : goal.invariant-loop-number
 invariant-loop-number l =
-    l.lines ++ with_line_feeds (topic_lines l.setup l.world.world l.number (drop l.number l.topics)) ≡ l.initial.lines ++ with_line_feeds (topic_lines l.setup l.world.world 0 l.topics)
+    l.lines ++ with_line_feeds (topic_lines l.scenario.setup (shown_world l.world) l.number (drop l.number l.scenario.setup.topics))
+    ≡ l.initial.lines ++ with_line_feeds (topic_lines l.scenario.setup (shown_world l.world) 0 l.scenario.setup.topics)

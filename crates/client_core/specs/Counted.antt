@@ -1,9 +1,0 @@
--- Numbers of a client that one more event does not bring to their end.
-use Rattle.std.specs.Prelude.{◌<◌, ◌^◌}
-use Rattle.geo_base.specs.Client.{Client}
-
-pub record CanCount (k : Client) : Type 0 where
-  pub connection : k.connection < 2 ^ 63
-  pub receipts : k.receipts < 2 ^ 63
-  pub duplicates : k.duplicates < 2 ^ 63
-  pub errors : k.errors < 2 ^ 63

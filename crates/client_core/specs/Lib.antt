@@ -1,3 +1,0 @@
-pub mod BuiltLine
-pub mod Counted
-pub mod Changing

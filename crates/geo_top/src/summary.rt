@@ -1,0 +1,73 @@
+//! The summary of a generated run, line by line.
+ghost use Rattle.std.specs.Prelude.{◌≡◌, ◌++◌, ◌∷◌, [], string_bytes, IfOk, OnErr, OnOk};
+ghost use Rattle.geo_base.specs.Report.{with_line_feeds};
+ghost use Rattle.geo_top.specs.Shown.{shown_world};
+ghost use Rattle.geo_top.specs.Summary.{big_line, stored_line, stored_lines, summary};
+ghost use Rattle.geo_world.specs.World.{IsAt};
+
+use crate::world_report::add_head;
+use geo_base::EntryStore;
+use geo_base::bytes::Blob;
+use geo_base::memory::Memory;
+use geo_world::World;
+use report_lines::add;
+use script_text::Scenario;
+use std::alloc::Global;
+use topic_ledger::TopicLedger;
+
+/// The one topic of a generated run.
+const TOPIC: u32 = 0;
+
+/// Appends the summary of the run of a number, which left a world; nothing where memory is wanting.
+#[tactic(auto, unfolding(crate::specs::Summary::summary_lines))]
+pub fn append_summary(
+    alloc: Global,
+    out: &mut Blob,
+    number: u32,
+    scenario: &Scenario,
+    world: &World,
+) -> Result<(), Memory>
+    requires { IsAt scenario.now.setup world.now }
+    ensures ok { OnOk result (out.new ≡ out.old ++ summary number scenario.now.setup (shown_world world.now)) }
+    ensures err { OnErr result (out.new ≡ out.old) }
+{
+    let mut lines = Blob::new(alloc);
+    add(&mut lines, big_line(alloc, number)?)?;
+    add_stored(alloc, &mut lines, scenario, world)?;
+    add(&mut lines, String::from_str(alloc, "quiet\n")?)?;
+    add_head(alloc, &mut lines, world)?;
+    out.append(lines.as_slice())
+}
+
+/// The number, and what each generated run has.
+fn big_line(alloc: Global, number: u32) -> Result<String, Memory>
+    ensures { IfOk result (λ line. string_bytes line ≡ big_line number ++ 10 ∷ []) }
+{
+    Ok(format!(in alloc; "big {number} clusters 3 messages 2000\n")?)
+}
+
+/// The messages that each cluster stored.
+fn add_stored(
+    alloc: Global,
+    lines: &mut Blob,
+    scenario: &Scenario,
+    world: &World,
+) -> Result<(), Memory>
+    requires { IsAt scenario.now.setup world.now }
+    ensures { OnOk result (lines.new ≡ lines.old ++ with_line_feeds (stored_lines scenario.now.setup (shown_world world.now) 0 scenario.now.setup.clusters)) }
+{
+    let clusters = scenario.clusters();
+    for (number, cluster) in clusters.iter().enumerate() {
+        let broker = world.topic(scenario, TOPIC, number as u32);
+        add(lines, stored_line(alloc, cluster.as_str(), broker.store())?)?;
+    }
+    Ok(())
+}
+
+/// The messages that a topic stored at a cluster.
+fn stored_line(alloc: Global, name: &str, store: &TopicLedger) -> Result<String, Memory>
+    ensures { IfOk result (λ line. string_bytes line ≡ stored_line name.now store.now.entries ++ 10 ∷ []) }
+{
+    let stored = store.messages_before(store.len());
+    Ok(format!(in alloc; "stored {name} {stored}\n")?)
+}

@@ -1,4 +1,0 @@
-pub mod EntryWords
-pub mod AddedLines
-pub mod Names
-pub mod Walking

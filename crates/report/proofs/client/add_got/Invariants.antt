@@ -1,8 +1,0 @@
-use Rattle.std.proofs.Common.{◌≡◌, ◌++◌, drop, map}
-use Rattle.geo_base.specs.Report.{got_line, with_line_feeds}
-use Rattle.report.proofs.client.add_got.Given as goal
-
--- the lines so far and the rest make the whole
-abbrev pub invariant-loop-ident : goal.invariant-loop-ident
-invariant-loop-ident l =
-    l.lines ++ with_line_feeds (map (got_line l.clusters) (drop l.ident-index l.got)) ≡ l.initial.lines ++ with_line_feeds (map (got_line l.clusters) l.got)

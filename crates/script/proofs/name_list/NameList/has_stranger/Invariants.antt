@@ -1,9 +1,0 @@
-use Rattle.std.proofs.Common.{◌≡◌, length}
-use Rattle.script.specs.Naming.{has_stranger}
-use Rattle.script.proofs.name_list.NameList.has_stranger.Given as goal
-
-abbrev pub invariant-loop-name : goal.invariant-loop-name
-invariant-loop-name g l = has_stranger l.names l.left ≡ has_stranger l.names l.self
-
-abbrev pub decreases-loop-name : goal.decreases-loop-name
-decreases-loop-name g l = length l.left

@@ -1,7 +1,0 @@
-pub mod SeenThrough
-pub mod Undoing
-pub mod Nodes
-pub mod BookTable
-pub mod Places
-pub mod Doing
-pub mod Running

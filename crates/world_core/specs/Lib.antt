@@ -1,4 +1,0 @@
-pub mod Unsent
-pub mod Books
-pub mod Inputs
-pub mod Machines

@@ -1,0 +1,93 @@
+#!/usr/bin/env python3
+"""Makes the input and the expected output of crates/geo_examples from the scripts of the repository.
+
+The input has each script NAME.geo of examples/ and runs/ behind a line `== DIRECTORY/NAME`, the output has that line and the report
+NAME.report that lies beside the script. The program's own output is never read.
+
+usage: example_runs.py write     writes crates/geo_examples/stdin and crates/geo_examples/stdout
+       example_runs.py check     says whether they are what `write` would write
+       example_runs.py compare FILE     says which scripts have another report in FILE, an output of the program
+"""
+import os
+import sys
+
+ROOT = os.path.dirname(os.path.dirname(os.path.abspath(__file__)))
+DIRECTORIES = ('examples', 'runs')
+CRATE = os.path.join(ROOT, 'crates', 'geo_examples')
+HEADING = b'== '
+
+
+def names():
+    """The scripts, each as DIRECTORY/NAME, in order."""
+    for directory in DIRECTORIES:
+        for file in sorted(os.listdir(os.path.join(ROOT, directory))):
+            if file.endswith('.geo'):
+                yield directory + '/' + file[:-len('.geo')]
+
+
+def content(name, ending):
+    with open(os.path.join(ROOT, name + ending), 'rb') as file:
+        text = file.read()
+    if text and not text.endswith(b'\n'):
+        sys.exit('%s%s does not end in a line feed' % (name, ending))
+    if any(line.startswith(HEADING) for line in text.split(b'\n')):
+        sys.exit('%s%s has a line that names a script' % (name, ending))
+    return text
+
+
+def joined(ending):
+    return b''.join(HEADING + name.encode() + b'\n' + content(name, ending) for name in names())
+
+
+def parts(text):
+    """The answers of an output, by the name in their heading."""
+    answers, name = {}, None
+    for line in text.splitlines(keepends=True):
+        if line.startswith(HEADING):
+            name = line[len(HEADING):].strip().decode()
+            answers[name] = b''
+        elif name is not None:
+            answers[name] += line
+    return answers
+
+
+def compare(path):
+    with open(path, 'rb') as file:
+        answers = parts(file.read())
+    wrong = 0
+    for name in names():
+        wanted, given = content(name, '.report'), answers.get(name)
+        if given == wanted:
+            continue
+        wrong += 1
+        print('%s: %s' % (name, 'no answer' if given is None else 'another report'))
+        wanted, given = wanted.decode().splitlines(), (given or b'').decode(errors='replace').splitlines()
+        for at in range(max(len(wanted), len(given))):
+            left = wanted[at] if at < len(wanted) else '(nothing)'
+            right = given[at] if at < len(given) else '(nothing)'
+            if left != right:
+                print('  line %d\n    wanted %s\n    given  %s' % (at + 1, left, right))
+                break
+    print('%d scripts, %d with another report' % (len(list(names())), wrong))
+    return wrong
+
+
+def main():
+    files = {'stdin': joined('.geo'), 'stdout': joined('.report')}
+    if sys.argv[1:] == ['write']:
+        for name, text in files.items():
+            with open(os.path.join(CRATE, name), 'wb') as file:
+                file.write(text)
+    elif sys.argv[1:] == ['check']:
+        for name, text in files.items():
+            with open(os.path.join(CRATE, name), 'rb') as file:
+                if file.read() != text:
+                    sys.exit('crates/geo_examples/%s is not what the scripts say' % name)
+    elif len(sys.argv) == 3 and sys.argv[1] == 'compare':
+        sys.exit(1 if compare(sys.argv[2]) else 0)
+    else:
+        sys.exit(__doc__)
+
+
+if __name__ == '__main__':
+    main()
