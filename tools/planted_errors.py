@@ -43,6 +43,7 @@ ERRORS = {
     'a snapshot without a replicated subscription': ('Markers', 'list_any (λ (s : Subscription). s.replicated) b.subs && is_none b.builder', 'is_none b.builder'),
     'done after one round': ('Builder', 'if b.second || (b.clusters == 2) then', 'if b.second || nat_lt 1 b.clusters then'),
     'the first id counts in the second round': ('Builder', 'current_id b = if b.second then second_id b.id else b.id', 'current_id b = b.id'),
+    'an answer of the first round counts in the second': ('Builder', 'bytes_eq id (current_id b) &&', '(bytes_eq id b.id || bytes_eq id (current_id b)) &&'),
     'the earliest local position is kept': ('Position', 'later_position p q = if position_lt p q then q else p', 'later_position p q = if position_lt p q then p else q'),
     'the last local position is kept': ('Position', 'later_position p q = if position_lt p q then q else p', 'later_position p q = q'),
     'the second round replaces positions': ('Builder', 'if b.second then b.cut.remote else slice_set', 'if b.second then slice_set b.cut.remote c (Some remote) else slice_set'),
