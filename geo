@@ -1,5 +1,5 @@
 #!/usr/bin/env bash
-# Runs the program on standard input, as in: ./geo run < examples/one_message.geo
+# Runs the program, as in: ./geo run < examples/one_message.geo, or: ./geo big 7
 #
 # Where tools/build has made the program (.built/geo) and no source is newer, that is what runs. Else the source is compiled and
 # run without its proof, by the toolchain's `rt try`, which keeps nothing from one call to the next.
