@@ -1,0 +1,4 @@
+pub mod Origins
+pub mod Stored
+pub mod Texts
+pub mod Told

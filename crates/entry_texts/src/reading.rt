@@ -1,0 +1,62 @@
+//! An entry from its metadata and its payload.
+ghost use Rattle.std.specs.Prelude.{◌≡◌, ◌≤◌, length, IfOk, OnOk};
+ghost use Rattle.std.specs.List.{AllByRecursion};
+ghost use Rattle.message_meta.specs.Known.{IsRest};
+ghost use Rattle.pb_fields.specs.Canonical.{text};
+ghost use Rattle.pb_fields.specs.Field.{IsField};
+ghost use Rattle.entry_texts.specs.Stored.{IsStored};
+
+use crate::content::content_of;
+use crate::place::targets_of;
+use geo_base::limits::CLUSTERS;
+use geo_base::name::ProducerName;
+use geo_base::{Blob, ClusterName, Entry, Ident, Memory, Metadata};
+use message_meta::Meta;
+use pb_fields::{ByteList, FieldList, write_fields};
+use std::alloc::Global;
+
+/// The entry that metadata and a payload are, where the cluster of a number stored it first.
+pub fn read_entry(
+    alloc: Global,
+    names: &[ClusterName],
+    meta: Meta,
+    origin: u32,
+    payload: Blob,
+) -> Result<Entry, Memory>
+    requires { length names.now ≤ CLUSTERS }
+    ensures is { IfOk result (IsStored names.now meta origin payload) }
+    ensures rest { IfOk result (λ e. IsRest e.meta.rest) }
+{
+    let rest = fields_text(alloc, &meta.rest)?;
+    let producer = ProducerName::from_text(meta.producer);
+    let to = targets_of(names, meta.replicate_to.as_slice());
+    let (content, payload) = content_of(alloc, names, meta.marker, payload)?;
+    Ok(Entry {
+        ident: Ident {
+            origin,
+            producer,
+            seq: meta.seq,
+        },
+        content,
+        to,
+        meta: Metadata {
+            publish_time: meta.publish_time,
+            key: meta.key,
+            names: meta.replicate_to,
+            rest,
+        },
+        payload,
+    })
+}
+
+/// The bytes of fields that nobody reads.
+fn fields_text(alloc: Global, fields: &FieldList) -> Result<Blob, Memory>
+    ensures text { IfOk result (λ b. b ≡ text fields.now) }
+    ensures fields { OnOk result (AllByRecursion IsField fields.now) }
+{
+    let mut bytes = ByteList::new(alloc);
+    match write_fields(&mut bytes, fields) {
+        Ok(()) => Ok(Blob::from_vec(bytes.into_vec())),
+        Err(_) => Err(Memory),
+    }
+}

@@ -1,0 +1,12 @@
+use Rattle.std.proofs.Common.{[]}
+use Rattle.std.proofs.lemmas.Result.{err_from_is_err_and}
+use Rattle.state_clients.specs.Clients.{ident_at}
+use Rattle.state_items.specs.Reading.{many}
+use Rattle.state_items.proofs.Loops.{ends}
+use Rattle.state_clients.proofs.clients.counted_idents.Goals as goal
+
+pub returns-in_err-ident : goal.returns-in_err-ident
+returns-in_err-ident c =
+    let one = ident_at c.args.clusters in
+    let p = err_from_is_err_and c.from_residual.result c.from_residual.ensures.1 in
+    rw (p.1, p.2) (ends one c.in_err-ident.field-0.0 c.args.count c.loop.counter c.loop.idents.items c.loop.rest.now (many one c.args.count [] c.args.bytes.now) c.loop-test.true (c.in_err-ident.ensures c.loop.idents.items) c.loop.invariant)

@@ -1,0 +1,104 @@
+//! Clients as texts.
+ghost use Rattle.std.specs.Prelude.{◌≡◌, ◌++◌, ◌<◌, ◌+◌, ◌^◌, length, IfSome, OnOk};
+ghost use Rattle.std.specs.List.{All, flat_map};
+ghost use Rattle.client_node.specs.State.{stopped};
+ghost use Rattle.geo_base.specs.declared.entry.Ident.{Ident};
+ghost use Rattle.state_items.specs.Texts.{list, number};
+ghost use Rattle.state_clients.specs.Clients.{CanWrite, client_text, force_text, ident_text, index_text, place_text, tally_text};
+
+use client_node::ClientState;
+use geo_base::bytes::Blob;
+use geo_base::entry::Ident;
+use geo_base::memory::Memory;
+use state_items::{put_number, put_text};
+
+/// Appends what a stop left of a client.
+pub fn put_client(out: &mut Blob, state: &ClientState) -> Result<(), Memory>
+    requires { CanWrite (stopped state.now) }
+    ensures { OnOk result (out.new ≡ out.old ++ client_text (stopped state.now)) }
+{
+    put_place(out, state)?;
+    put_force(out, state)?;
+    put_publishes(out, state.unanswered.as_slice())?;
+    put_tally(out, state)?;
+    put_got(out, state.got.as_slice())
+}
+
+fn put_place(out: &mut Blob, state: &ClientState) -> Result<(), Memory>
+    ensures { OnOk result (out.new ≡ out.old ++ place_text (stopped state.now)) }
+{
+    put_number(out, u64::from(state.cluster))?;
+    put_number(out, state.connection)?;
+    put_number(out, state.done as u64)
+}
+
+fn put_force(out: &mut Blob, state: &ClientState) -> Result<(), Memory>
+    requires { CanWrite (stopped state.now) }
+    ensures { OnOk result (out.new ≡ out.old ++ force_text (stopped state.now)) }
+{
+    put_index(out, state.produce)?;
+    put_index(out, state.sub)?;
+    put_index(out, state.flow)
+}
+
+/// A line's index and one more, 0 where there is none.
+fn put_index(out: &mut Blob, index: Option<usize>) -> Result<(), Memory>
+    requires { IfSome index (λ i. i + 1 < 2 ^ 64) }
+    ensures { OnOk result (out.new ≡ out.old ++ index_text index) }
+{
+    match index {
+        None => put_number(out, 0),
+        Some(index) => put_number(out, index as u64 + 1),
+    }
+}
+
+fn put_tally(out: &mut Blob, state: &ClientState) -> Result<(), Memory>
+    ensures { OnOk result (out.new ≡ out.old ++ tally_text (stopped state.now)) }
+{
+    put_number(out, state.receipts)?;
+    put_number(out, state.duplicates)?;
+    put_number(out, state.errors)
+}
+
+fn put_publishes(out: &mut Blob, indexes: &[usize]) -> Result<(), Memory>
+    ensures { OnOk result (out.new ≡ out.old ++ list number indexes.now) }
+{
+    put_number(out, indexes.len() as u64)?;
+    put_each_index(out, indexes)
+}
+
+fn put_each_index(out: &mut Blob, indexes: &[usize]) -> Result<(), Memory>
+    ensures { OnOk result (out.new ≡ out.old ++ flat_map number indexes.now) }
+{
+    for index in indexes {
+        put_number(out, *index as u64)?;
+    }
+    Ok(())
+}
+
+fn put_got(out: &mut Blob, idents: &[Ident]) -> Result<(), Memory>
+    requires { All (λ (i : Ident). length i.producer < 2 ^ 32) idents.now }
+    ensures { OnOk result (out.new ≡ out.old ++ list ident_text idents.now) }
+{
+    put_number(out, idents.len() as u64)?;
+    put_each_ident(out, idents)
+}
+
+fn put_each_ident(out: &mut Blob, idents: &[Ident]) -> Result<(), Memory>
+    requires { All (λ (i : Ident). length i.producer < 2 ^ 32) idents.now }
+    ensures { OnOk result (out.new ≡ out.old ++ flat_map ident_text idents.now) }
+{
+    for ident in idents {
+        put_ident(out, ident)?;
+    }
+    Ok(())
+}
+
+fn put_ident(out: &mut Blob, ident: &Ident) -> Result<(), Memory>
+    requires { length ident.now.producer < 2 ^ 32 }
+    ensures { OnOk result (out.new ≡ out.old ++ ident_text ident.now) }
+{
+    put_number(out, u64::from(ident.origin))?;
+    put_text(out, ident.producer.as_bytes())?;
+    put_number(out, ident.seq)
+}

@@ -1,0 +1,6 @@
+pub mod Telling
+pub mod Loops
+pub mod Runs
+pub mod Gaps
+pub mod Many
+pub mod Again

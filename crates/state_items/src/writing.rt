@@ -1,0 +1,75 @@
+//! Items as texts.
+ghost use Rattle.std.specs.Prelude.{◌≡◌, ◌<◌, ◌++◌, ◌^◌, ◌∷◌, [], length, OnOk};
+ghost use Rattle.std.specs.List.{flat_map};
+ghost use Rattle.cursor_acks.specs.Acks.{AreBelow};
+ghost use Rattle.state_items.specs.Texts.{cursor, number, range, text, word};
+
+use cursor_acks::{Cursor, IndexRange};
+use geo_base::bytes::Blob;
+use geo_base::memory::Memory;
+
+/// Appends a number as eight bytes.
+#[tactic(auto, unfolding(crate::specs::Texts::number))]
+pub fn put_number(out: &mut Blob, n: u64) -> Result<(), Memory>
+    ensures { OnOk result (out.new ≡ out.old ++ number n) }
+{
+    out.append(&n.to_be_bytes())
+}
+
+/// Appends one byte.
+pub fn put_byte(out: &mut Blob, byte: u8) -> Result<(), Memory>
+    ensures { OnOk result (out.new ≡ out.old ++ byte ∷ []) }
+{
+    out.append(&[byte])
+}
+
+/// Appends a number as four bytes.
+#[tactic(auto, unfolding(crate::specs::Texts::word))]
+pub fn put_word(out: &mut Blob, n: u32) -> Result<(), Memory>
+    ensures { OnOk result (out.new ≡ out.old ++ word n) }
+{
+    out.append(&n.to_be_bytes())
+}
+
+/// Appends a text behind its length.
+pub fn put_text(out: &mut Blob, content: &[u8]) -> Result<(), Memory>
+    requires { length content.now < 2 ^ 32 }
+    ensures { OnOk result (out.new ≡ out.old ++ text content.now) }
+{
+    put_word(out, content.len() as u32)?;
+    out.append(content)
+}
+
+/// Appends the ranges of a cursor over a topic of `entries` entries.
+#[tactic(auto, using(crate::proofs::Runs::cursor_text))]
+pub fn put_cursor(out: &mut Blob, written: &Cursor, entries: u64) -> Result<(), Memory>
+    requires { AreBelow entries written.now.indexes }
+    ensures { OnOk result (out.new ≡ out.old ++ cursor entries written.now.indexes) }
+{
+    put_ranges(out, written.ranges().as_slice())
+}
+
+/// Appends a list of ranges.
+fn put_ranges(out: &mut Blob, ranges: &[IndexRange]) -> Result<(), Memory>
+    ensures { OnOk result (out.new ≡ out.old ++ (number (length ranges.now) ++ flat_map range ranges.now)) }
+{
+    put_number(out, ranges.len() as u64)?;
+    put_each(out, ranges)
+}
+
+/// Appends ranges one behind the other.
+fn put_each(out: &mut Blob, ranges: &[IndexRange]) -> Result<(), Memory>
+    ensures { OnOk result (out.new ≡ out.old ++ flat_map range ranges.now) }
+{
+    for each in ranges {
+        put_range(out, *each)?;
+    }
+    Ok(())
+}
+
+fn put_range(out: &mut Blob, written: IndexRange) -> Result<(), Memory>
+    ensures { OnOk result (out.new ≡ out.old ++ range written) }
+{
+    put_number(out, written.first)?;
+    put_number(out, written.last)
+}
