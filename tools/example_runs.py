@@ -1,7 +1,7 @@
 #!/usr/bin/env python3
 """Makes the input and the expected output of crates/geo_examples from the scripts of the repository.
 
-The input has each script NAME.geo of examples/ and runs/ behind a line `== DIRECTORY/NAME`, the output has that line and the report
+The input has each script NAME.geo of examples/, runs/ and edges/ behind a line `== DIRECTORY/NAME`, the output has that line and the report
 NAME.report that lies beside the script. The program's own output is never read.
 
 usage: example_runs.py write     writes crates/geo_examples/stdin and crates/geo_examples/stdout
@@ -12,7 +12,7 @@ import os
 import sys
 
 ROOT = os.path.dirname(os.path.dirname(os.path.abspath(__file__)))
-DIRECTORIES = ('examples', 'runs')
+DIRECTORIES = ('examples', 'runs', 'edges')
 CRATE = os.path.join(ROOT, 'crates', 'geo_examples')
 HEADING = b'== '
 
