@@ -1,0 +1,13 @@
+pub mod Places
+pub mod Turns
+pub mod Headings
+pub mod EntryExits
+pub mod NodeExits
+pub mod Sums
+pub mod Names
+pub mod Back
+pub mod NodeBack
+pub mod One
+pub mod Tails
+pub mod Items
+pub mod Rows

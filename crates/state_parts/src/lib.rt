@@ -1,0 +1,21 @@
+//! The parts of a state file: what a run counted, the durable parts of its brokers.
+//!
+//! Each has one text, and a reader that answers what bytes say or the first item that breaks a rule. No reader takes more memory
+//! than its bytes call for: a list grows item by item, and each item has a byte at least.
+#![tactic(auto)]
+
+mod book;
+mod counts;
+mod entries;
+mod heading;
+mod laws;
+mod ledgers;
+mod nodes;
+mod senders;
+mod subs;
+mod writing;
+
+pub use counts::{Counts, counts_at};
+pub use laws::parts_read_back;
+pub use nodes::{NodeParts, node_at};
+pub use writing::{put_counts, put_node};
