@@ -13,11 +13,9 @@ mod dispatcher;
 mod due;
 mod fault;
 mod offering;
-mod out;
+mod outstanding;
 mod parts;
 mod plain_pick;
-#[cfg(test)]
-mod tests;
 
 pub use dispatcher::Dispatcher;
 pub use fault::{AckFault, AttachFault, ConsumerNotFound};

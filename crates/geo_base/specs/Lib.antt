@@ -44,7 +44,6 @@ pub mod Cuts
 pub mod Scripted
 pub mod Laws
 pub mod Message
-pub mod Built
 pub mod Worlds
 pub mod Nodes
 pub mod NodeState
