@@ -11,6 +11,3 @@ mod seeking;
 
 pub use offering::prepare_offer;
 pub use seeking::{prepare_restart, prepare_seek};
-
-#[cfg(test)]
-mod tests;

@@ -17,6 +17,3 @@ pub use changing::SubChange;
 pub use sub::Sub;
 pub use table::SubTable;
 pub use writing::SubWrite;
-
-#[cfg(test)]
-mod tests;

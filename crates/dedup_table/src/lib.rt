@@ -11,6 +11,3 @@ mod table;
 pub use laws::{law_table_of_nothing, law_table_with_one_more};
 pub use stream::Stream;
 pub use table::{DedupTable, Verdict};
-
-#[cfg(test)]
-mod tests;

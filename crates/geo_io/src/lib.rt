@@ -25,8 +25,6 @@ mod sink;
 mod source;
 mod std_ends;
 mod steady;
-#[cfg(test)]
-mod tests;
 mod whole;
 
 pub use byte_buf::ByteBuf;

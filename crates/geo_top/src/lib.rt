@@ -6,8 +6,6 @@
 
 mod run;
 mod summary;
-#[cfg(test)]
-mod tests;
 mod top;
 mod world_report;
 

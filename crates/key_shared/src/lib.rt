@@ -6,8 +6,6 @@
 
 mod key_pick;
 mod law;
-#[cfg(test)]
-mod tests;
 
 pub use key_pick::{KeyPick, key_number};
 pub use law::law_keys;

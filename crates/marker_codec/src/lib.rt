@@ -13,6 +13,3 @@ pub use fault::MarkerFault;
 pub use kind::MarkerKind;
 pub use laws::{canonical_marker, machine_sizes, one_meaning};
 pub use marker::{ClusterMessageId, ClusterMessageIds, Marker};
-
-#[cfg(test)]
-mod tests;

@@ -12,6 +12,3 @@ pub use known::KnownMeta;
 pub use laws::{canonical_metadata, one_meaning};
 pub use meta::{Meta, TextList};
 pub use pb_fields::message::MessageFault as MetaFault;
-
-#[cfg(test)]
-mod tests;

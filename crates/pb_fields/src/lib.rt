@@ -22,6 +22,3 @@ pub use laws::{canonical_text, one_reading};
 pub use memory::Memory;
 pub use read::read_fields;
 pub use write::{write_bytes, write_field, write_fields, write_optional_varint, write_varint};
-
-#[cfg(test)]
-mod tests;

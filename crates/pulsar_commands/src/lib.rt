@@ -17,6 +17,3 @@ pub use command::{Command, PositionList};
 pub use fault::CommandFault;
 pub use kind::Kind;
 pub use laws::{canonical_command, one_meaning};
-
-#[cfg(test)]
-mod tests;

@@ -16,6 +16,3 @@ pub use laws::{any_pieces, canonical_frame, no_prefix, one_frame, one_limit, one
 pub use read::{carries_message, read_frame};
 pub use reader::FrameReader;
 pub use write::{write_carrying, write_frame};
-
-#[cfg(test)]
-mod tests;

@@ -13,8 +13,6 @@ mod pending;
 mod reading;
 mod receiver;
 mod sender;
-#[cfg(test)]
-mod tests;
 
 pub use laws::{law_read, law_receipt, law_take};
 pub use reading::ReadOut;

@@ -18,6 +18,3 @@ pub use recovery::{Recovered, recover};
 pub use senders::DurableSenders;
 pub use subs::DurableSubs;
 pub use write::Write;
-
-#[cfg(test)]
-mod tests;

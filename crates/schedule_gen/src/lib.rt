@@ -9,7 +9,5 @@ mod draws;
 mod run;
 mod scenario;
 mod schedule;
-#[cfg(test)]
-mod tests;
 
 pub use run::generate;

@@ -5,7 +5,5 @@
 #![tactic(auto)]
 
 mod snapshot_cache;
-#[cfg(test)]
-mod tests;
 
 pub use snapshot_cache::{MOST_SNAPSHOTS, SnapshotCache};

@@ -7,8 +7,6 @@
 
 mod naming;
 mod passing;
-#[cfg(test)]
-mod tests;
 
 pub use naming::{make, named_positions};
 pub use passing::{apply, runs};

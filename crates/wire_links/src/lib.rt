@@ -21,6 +21,3 @@ pub use laws::{
 pub use links::Links;
 pub use name::{LinkName, Node};
 pub use packet::{WireOut, WirePacket};
-
-#[cfg(test)]
-mod tests;

@@ -1,0 +1,24 @@
+//! Copies.
+use geo_base::position::Position;
+use geo_base::sequence::Sequence;
+use geo_base::snapshot::Cut;
+use std::test::Fail;
+
+#[test]
+fn a_cut_is_copied(rt: HostRuntime) -> Result<(), Fail> {
+    let here = Position {
+        ledger: 0,
+        entry: 7,
+    };
+    let mut remote: Sequence<Option<Position>> = Sequence::new(rt.alloc());
+    remote.push(None)?;
+    remote.push(Some(here))?;
+    let copy = Cut {
+        local: here,
+        remote,
+    }
+    .copy(rt.alloc())?;
+    assert_eq!(rt; copy.local, here);
+    assert_eq!(rt; copy.remote.as_slice(), [None, Some(here)].as_slice());
+    Ok(())
+}

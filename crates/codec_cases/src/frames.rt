@@ -1,0 +1,269 @@
+//! Frames.
+use geo_base::{Blob, Sequence, Text};
+use message_meta::Meta;
+use pb_fields::FieldList;
+use pulsar_commands::Command;
+use pulsar_frames::*;
+use std::alloc::{AllocError, Global};
+use std::test::Fail;
+
+/// The message `hi` of producer p, replicated from cluster a, as producer 1 sends it.
+const SEND: [u8; 34] = [
+    0x00, 0x00, 0x00, 0x1e, 0x00, 0x00, 0x00, 0x0a, 0x08, 0x06, 0x32, 0x06, 0x08, 0x01, 0x10, 0x00,
+    0x18, 0x01, 0x00, 0x00, 0x00, 0x0a, 0x0a, 0x01, 0x70, 0x10, 0x00, 0x18, 0x00, 0x2a, 0x01, 0x61,
+    0x68, 0x69,
+];
+
+const PING: [u8; 13] = [
+    0x00, 0x00, 0x00, 0x09, 0x00, 0x00, 0x00, 0x05, 0x08, 0x12, 0x92, 0x01, 0x00,
+];
+
+/// That frame with another payload, written.
+fn write_send(alloc: Global, payload: Blob) -> Result<Blob, FrameFault> {
+    let meta = Meta {
+        producer: Text::from_str(alloc, "p")?,
+        seq: 0,
+        publish_time: 0,
+        replicated_from: Some(Text::from_str(alloc, "a")?),
+        key: None,
+        replicate_to: Sequence::new(alloc),
+        marker: None,
+        rest: FieldList::new(alloc),
+    };
+    let frame = Frame {
+        command: Command::Send {
+            producer_id: 1,
+            sequence_id: 0,
+            num_messages: 1,
+        },
+        body: Some(Body { meta, payload }),
+    };
+    write_frame(alloc, &frame)
+}
+
+/// How many bytes that frame takes with a payload of so many, or its fault.
+fn size_of_send(alloc: Global, payload: usize) -> Result<String, AllocError> {
+    let payload = Blob::from_vec(vec![in alloc; 0u8; payload]?);
+    match write_send(alloc, payload) {
+        Ok(written) => {
+            let bytes = written.as_slice().len();
+            format!(in alloc; "{bytes} bytes")
+        }
+        Err(why) => format!(in alloc; "{why}"),
+    }
+}
+
+/// What a reader has come to: how many frames, how many bytes after them, and what it answered last.
+fn outcome(
+    alloc: Global,
+    reader: &mut FrameReader,
+    answer: Result<(), FrameFault>,
+) -> Result<String, AllocError> {
+    let mut frames = 0u64;
+    for _ in 0..100 {
+        if reader.next().is_some() {
+            frames = frames.wrapping_add(1);
+        }
+    }
+    let rest = reader.rest();
+    match answer {
+        Ok(()) => format!(in alloc; "{frames} frames, {rest} bytes"),
+        Err(why) => format!(in alloc; "{frames} frames, {rest} bytes, {why}"),
+    }
+}
+
+/// Rows are a stream, and what comes of it.
+const TABLE: [(&[u8], &str); 21] = [
+    (&[], "0 frames, 0 bytes"),
+    (&[0x00, 0x00, 0x00], "0 frames, 3 bytes"),
+    (&PING, "1 frames, 0 bytes"),
+    (&SEND, "1 frames, 0 bytes"),
+    // a PONG, a PING, and the beginning of another frame
+    (
+        &[
+            0x00, 0x00, 0x00, 0x09, 0x00, 0x00, 0x00, 0x05, 0x08, 0x13, 0x9a, 0x01, 0x00, 0x00,
+            0x00, 0x00, 0x09, 0x00, 0x00, 0x00, 0x05, 0x08, 0x12, 0x92, 0x01, 0x00, 0x00, 0x50,
+            0x28, 0x00,
+        ],
+        "2 frames, 4 bytes",
+    ),
+    // the greatest size, and one more
+    (&[0x00, 0x50, 0x28, 0x00, 0x00], "0 frames, 5 bytes"),
+    (
+        &[0x00, 0x50, 0x28, 0x01],
+        "0 frames, 4 bytes, TooLarge(1, 5253121)",
+    ),
+    (
+        &[0xff, 0xff, 0xff, 0xff],
+        "0 frames, 4 bytes, TooLarge(1, 4294967295)",
+    ),
+    // a total size without room for the command's size, and a command longer than its frame
+    (
+        &[0x00, 0x00, 0x00, 0x03, 0x00, 0x00, 0x00],
+        "0 frames, 7 bytes, Sizes(2)",
+    ),
+    (
+        &[0x00, 0x00, 0x00, 0x05, 0x00, 0x00, 0x00, 0x05, 0x08],
+        "0 frames, 9 bytes, Sizes(2)",
+    ),
+    // a checksum after the command, also after one without a reading
+    (
+        &[
+            0x00, 0x00, 0x00, 0x13, 0x00, 0x00, 0x00, 0x05, 0x08, 0x12, 0x92, 0x01, 0x00, 0x0e,
+            0x01, 0x00, 0x00, 0x00, 0x00, 0x00, 0x00, 0x00, 0x00,
+        ],
+        "0 frames, 23 bytes, Checksum(3)",
+    ),
+    (
+        &[0x00, 0x00, 0x00, 0x06, 0x00, 0x00, 0x00, 0x00, 0x0e, 0x01],
+        "0 frames, 10 bytes, Checksum(3)",
+    ),
+    // less than a size after the command, and a metadata's size that does not fit
+    (
+        &[0x00, 0x00, 0x00, 0x06, 0x00, 0x00, 0x00, 0x01, 0xff, 0x0e],
+        "0 frames, 10 bytes, Sizes(2)",
+    ),
+    (
+        &[
+            0x00, 0x00, 0x00, 0x12, 0x00, 0x00, 0x00, 0x0a, 0x08, 0x06, 0x32, 0x06, 0x08, 0x01,
+            0x10, 0x00, 0x18, 0x01, 0x00, 0x00, 0x00, 0x01,
+        ],
+        "0 frames, 22 bytes, Sizes(2)",
+    ),
+    // commands without a reading, one of them with a message
+    (
+        &[0x00, 0x00, 0x00, 0x06, 0x00, 0x00, 0x00, 0x02, 0x08, 0x10],
+        "0 frames, 10 bytes, Command(4, Missing(16))",
+    ),
+    (
+        &[0x00, 0x00, 0x00, 0x04, 0x00, 0x00, 0x00, 0x00],
+        "0 frames, 8 bytes, Command(4, Missing(1))",
+    ),
+    (
+        &[
+            0x00, 0x00, 0x00, 0x0a, 0x00, 0x00, 0x00, 0x02, 0x08, 0x01, 0x00, 0x00, 0x00, 0x00,
+        ],
+        "0 frames, 14 bytes, Command(4, UnknownType(1))",
+    ),
+    // a PING with a message, and a SEND without one
+    (
+        &[
+            0x00, 0x00, 0x00, 0x0d, 0x00, 0x00, 0x00, 0x05, 0x08, 0x12, 0x92, 0x01, 0x00, 0x00,
+            0x00, 0x00, 0x00,
+        ],
+        "0 frames, 17 bytes, Sizes(2)",
+    ),
+    (
+        &[
+            0x00, 0x00, 0x00, 0x0e, 0x00, 0x00, 0x00, 0x0a, 0x08, 0x06, 0x32, 0x06, 0x08, 0x01,
+            0x10, 0x00, 0x18, 0x01,
+        ],
+        "0 frames, 18 bytes, Sizes(2)",
+    ),
+    // metadata without a reading
+    (
+        &[
+            0x00, 0x00, 0x00, 0x12, 0x00, 0x00, 0x00, 0x0a, 0x08, 0x06, 0x32, 0x06, 0x08, 0x01,
+            0x10, 0x00, 0x18, 0x01, 0x00, 0x00, 0x00, 0x00,
+        ],
+        "0 frames, 22 bytes, Meta(5, Missing(1))",
+    ),
+    // a frame before a refused one
+    (
+        &[
+            0x00, 0x00, 0x00, 0x09, 0x00, 0x00, 0x00, 0x05, 0x08, 0x12, 0x92, 0x01, 0x00, 0x00,
+            0x50, 0x28, 0x01,
+        ],
+        "1 frames, 4 bytes, TooLarge(1, 5253121)",
+    ),
+];
+
+#[test]
+fn streams_are_judged_in_order_however_they_are_cut(rt: HostRuntime) -> Result<(), Fail> {
+    let alloc = rt.alloc();
+    for (stream, expected) in TABLE {
+        let mut whole = FrameReader::new(alloc);
+        let answer = whole.feed(stream);
+        assert_eq!(rt; outcome(alloc, &mut whole, answer)?.as_str(), expected);
+        let mut by_byte = FrameReader::new(alloc);
+        let mut last = by_byte.feed(&[]);
+        for byte in stream {
+            last = by_byte.feed(&[*byte]);
+        }
+        assert_eq!(rt; outcome(alloc, &mut by_byte, last)?.as_str(), expected);
+    }
+    Ok(())
+}
+
+#[test]
+fn a_frame_comes_with_its_last_byte(rt: HostRuntime) -> Result<(), Fail> {
+    let mut reader = FrameReader::new(rt.alloc());
+    for byte in &PING {
+        assert!(rt; reader.next().is_none());
+        assert_eq!(rt; reader.feed(&[*byte]), Ok(()));
+    }
+    let frame = reader.next().ok_or("no frame")?;
+    assert!(rt; !carries_message(&frame.command));
+    assert!(rt; reader.next().is_none());
+    Ok(())
+}
+
+/// What a reader answers to pieces one by one, as a fault or `Ok`, and what it has come to.
+fn answers(alloc: Global, pieces: &[&[u8]]) -> Result<String, AllocError> {
+    let mut text = String::new(alloc);
+    let mut reader = FrameReader::new(alloc);
+    for piece in pieces {
+        match reader.feed(piece) {
+            Ok(()) => text.push_str("Ok, ")?,
+            Err(why) => {
+                let why = format!(in alloc; "{why}, ")?;
+                text.push_str(why.as_str())?;
+            }
+        }
+    }
+    let came = outcome(alloc, &mut reader, Ok(()))?;
+    text.push_str(came.as_str())?;
+    Ok(text)
+}
+
+#[test]
+fn a_refused_stream_stays_refused(rt: HostRuntime) -> Result<(), Fail> {
+    let pieces = [
+        PING.as_slice(),
+        [0; 4].as_slice(),
+        PING.as_slice(),
+        [].as_slice(),
+    ];
+    let found = answers(rt.alloc(), &pieces)?;
+    assert_eq!(rt;
+        found.as_str(),
+        "Ok, Sizes(2), Sizes(2), Sizes(2), 1 frames, 4 bytes"
+    );
+    Ok(())
+}
+
+#[test]
+fn frames_are_written_byte_for_byte(rt: HostRuntime) -> Result<(), Fail> {
+    let alloc = rt.alloc();
+    let written = write_send(alloc, Blob::from_slice(alloc, b"hi")?)?;
+    assert_eq!(rt; written.as_slice(), SEND.as_slice());
+    let ping = Frame {
+        command: Command::Ping,
+        body: None,
+    };
+    assert_eq!(rt; write_frame(alloc, &ping)?.as_slice(), PING.as_slice());
+    Ok(())
+}
+
+#[test]
+fn a_frame_has_at_most_the_limit(rt: HostRuntime) -> Result<(), Fail> {
+    let table = [
+        (5_253_092, "5253124 bytes"),
+        (5_253_093, "TooLarge(1, 5253121)"),
+    ];
+    for (payload, expected) in table {
+        let found = size_of_send(rt.alloc(), payload)?;
+        assert_eq!(rt; found.as_str(), expected);
+    }
+    Ok(())
+}

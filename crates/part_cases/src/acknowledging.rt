@@ -1,0 +1,255 @@
+//! Cursors.
+use cursor_acks::*;
+use geo_base::Memory;
+use rand_core::utils::NextWord;
+use rand_pcg::Pcg32;
+use std::alloc::{AllocError, Global};
+use std::test::Fail;
+
+/// A call: an acknowledgement of one index, or of all up to one, or a seek.
+enum Call {
+    One(u64),
+    To(u64),
+    Seek(u64),
+}
+
+/// Calls on a topic of `len` entries, and what the cursor then says.
+struct Row {
+    len: u64,
+    calls: &'static [Call],
+    said: &'static str,
+}
+
+/// A cursor after calls.
+fn after(alloc: Global, len: u64, calls: &[Call]) -> Result<Cursor, Memory> {
+    let mut cursor = Cursor::none(alloc);
+    for call in calls {
+        cursor.reserve(1)?;
+        let _answer = match call {
+            Call::One(index) => cursor.ack_one(*index, len),
+            Call::To(index) => cursor.ack_to(*index, len),
+            Call::Seek(index) => cursor.seek_to(*index, len),
+        };
+    }
+    cursor.copy(alloc)
+}
+
+/// A cursor's ranges, its mark-delete, and the next open indexes from 0, 2 and 4.
+fn said(alloc: Global, cursor: &Cursor) -> Result<String, AllocError> {
+    let mut text = String::new(alloc);
+    for range in cursor.ranges().as_slice() {
+        let first = range.first;
+        let last = range.last;
+        write!(&mut text, "{first}-{last} ")?;
+    }
+    let mark = cursor.mark_delete();
+    let zero = cursor.next_open(0);
+    let two = cursor.next_open(2);
+    let four = cursor.next_open(4);
+    write!(&mut text, "mark {mark} open {zero} {two} {four}")?;
+    Ok(text)
+}
+
+const TABLE: [Row; 12] = [
+    Row {
+        len: 5,
+        calls: &[],
+        said: "mark 0 open 0 2 4",
+    },
+    Row {
+        len: 5,
+        calls: &[Call::One(0), Call::One(2), Call::One(3)],
+        said: "0-0 2-3 mark 1 open 1 4 4",
+    },
+    // 5 is past the end
+    Row {
+        len: 5,
+        calls: &[Call::One(0), Call::One(2), Call::One(5), Call::To(5)],
+        said: "0-0 2-2 mark 1 open 1 3 4",
+    },
+    Row {
+        len: 5,
+        calls: &[Call::One(0), Call::One(2), Call::One(3), Call::To(1)],
+        said: "0-3 mark 4 open 4 4 4",
+    },
+    Row {
+        len: 5,
+        calls: &[Call::To(4)],
+        said: "0-4 mark 5 open 5 5 5",
+    },
+    Row {
+        len: 5,
+        calls: &[Call::One(4), Call::One(2), Call::One(3)],
+        said: "2-4 mark 0 open 0 5 5",
+    },
+    Row {
+        len: 5,
+        calls: &[Call::One(2), Call::One(2)],
+        said: "2-2 mark 0 open 0 3 4",
+    },
+    Row {
+        len: 5,
+        calls: &[Call::One(4), Call::To(2)],
+        said: "0-2 4-4 mark 3 open 3 3 5",
+    },
+    // a seek forgets what is above it
+    Row {
+        len: 5,
+        calls: &[Call::One(0), Call::One(4), Call::Seek(2)],
+        said: "0-1 mark 2 open 2 2 4",
+    },
+    // 6 is past the end, 5 is the end
+    Row {
+        len: 5,
+        calls: &[Call::One(3), Call::Seek(6), Call::One(1)],
+        said: "1-1 3-3 mark 0 open 0 2 4",
+    },
+    Row {
+        len: 5,
+        calls: &[Call::Seek(5), Call::Seek(0), Call::One(2)],
+        said: "2-2 mark 0 open 0 3 4",
+    },
+    // the greatest index of the greatest length
+    Row {
+        len: u64::MAX,
+        calls: &[Call::One(u64::MAX), Call::One(u64::MAX - 1)],
+        said: "18446744073709551614-18446744073709551614 mark 0 open 0 2 4",
+    },
+];
+
+#[test]
+fn calls_leave_their_ranges(rt: HostRuntime) -> Result<(), Fail> {
+    for row in TABLE.iter() {
+        let cursor = after(rt.alloc(), row.len, row.calls)?;
+        assert_eq!(rt; said(rt.alloc(), &cursor)?.as_str(), row.said);
+    }
+    Ok(())
+}
+
+#[test]
+fn latest_and_past_the_end(rt: HostRuntime) -> Result<(), Fail> {
+    let most = Cursor::all(rt.alloc(), u64::MAX)?;
+    assert_eq!(rt; most.next_open(7), u64::MAX);
+    let mut cursor = Cursor::all(rt.alloc(), 5)?;
+    cursor.reserve(1)?;
+    assert!(rt; cursor.spare() >= 1);
+    let past = Err(PastEnd { index: 5, len: 5 });
+    assert_eq!(rt; cursor.ack_one(5, 5), past);
+    assert_eq!(rt;
+        said(rt.alloc(), &cursor)?.as_str(),
+        "0-4 mark 5 open 5 5 5"
+    );
+    Ok(())
+}
+
+/// How many entries the topic of the random calls has.
+const LEN: u64 = 40;
+
+/// A plain set: a flag for each index of the topic.
+#[derive(Drop)]
+struct Flags {
+    acked: [bool; 40],
+}
+
+impl Flags {
+    fn ack_one(&mut self, index: u64) -> bool {
+        if index >= LEN {
+            return false;
+        }
+        self.acked[index as usize] = true;
+        true
+    }
+
+    fn ack_to(&mut self, index: u64) -> bool {
+        if index >= LEN {
+            return false;
+        }
+        for i in 0..=index as usize {
+            self.acked[i] = true;
+        }
+        true
+    }
+
+    fn seek_to(&mut self, index: u64) -> bool {
+        if index > LEN {
+            return false;
+        }
+        for i in 0..LEN {
+            self.acked[i as usize] = i < index;
+        }
+        true
+    }
+
+    fn is_acked(&self, index: u64) -> bool {
+        index < LEN && self.acked[index as usize]
+    }
+
+    /// The least index from one on whose flag is as wanted; `from` or the length where there is none.
+    fn next(&self, from: u64, wanted: bool) -> u64 {
+        for index in from..LEN {
+            if self.acked[index as usize] == wanted {
+                return index;
+            }
+        }
+        from.max(LEN)
+    }
+
+    /// Whether ranges are the runs of set flags, one after another.
+    fn are_runs(&self, ranges: &[IndexRange]) -> bool {
+        let mut from = 0;
+        for range in ranges {
+            if range.last >= LEN || range.first != self.next(from, true) {
+                return false;
+            }
+            from = range.last + 1;
+            if from != self.next(range.first, false) {
+                return false;
+            }
+        }
+        self.next(from, true) == LEN
+    }
+}
+
+/// One random call on both, and whether they answer alike then.
+fn is_same_call(
+    cursor: &mut Cursor,
+    flags: &mut Flags,
+    random: &mut Pcg32,
+) -> Result<bool, Memory> {
+    let index = (random.next_word() % 42) as u64;
+    let probe = (random.next_word() % 45) as u64;
+    cursor.reserve(1)?;
+    let alike = match random.next_word() % 40 {
+        0 => cursor.seek_to(index, LEN).is_ok() == flags.seek_to(index),
+        1 | 2 => cursor.ack_to(index, LEN).is_ok() == flags.ack_to(index),
+        _ => cursor.ack_one(index, LEN).is_ok() == flags.ack_one(index),
+    };
+    Ok(
+        alike
+            && cursor.is_acked(probe) == flags.is_acked(probe)
+            && cursor.next_open(probe) == flags.next(probe, false)
+            && cursor.mark_delete() == flags.next(0, false)
+            && flags.are_runs(cursor.ranges().as_slice()),
+    )
+}
+
+/// Whether 60 random calls on a cursor and on a plain set have the same answers.
+fn are_same_calls(alloc: Global, seed: u64) -> Result<bool, Memory> {
+    let mut random = Pcg32::new(seed, 7);
+    let mut cursor = Cursor::none(alloc);
+    let mut flags = Flags { acked: [false; 40] };
+    for _ in 0..60 {
+        if !is_same_call(&mut cursor, &mut flags, &mut random)? {
+            return Ok(false);
+        }
+    }
+    Ok(true)
+}
+
+#[test]
+fn a_cursor_is_a_plain_set(rt: HostRuntime) -> Result<(), Fail> {
+    for seed in 0..12 {
+        assert!(rt; are_same_calls(rt.alloc(), seed)?);
+    }
+    Ok(())
+}

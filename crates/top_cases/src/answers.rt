@@ -1,0 +1,225 @@
+//! What the program answers.
+ghost use Rattle.std.specs.Prelude.{◌<◌};
+
+use geo_io::{MemSink, MemSource};
+use geo_top::{Status, Word, geo_alone};
+use std::alloc::Global;
+use std::test::Fail;
+
+/// What `run` does with a script and a sink, read so many bytes at a time.
+fn run(alloc: Global, script: &[u8], most: usize, sink: &mut MemSink) -> Result<Status, Fail>
+    requires { 0 < most }
+{
+    let words = vec![in alloc; Word::from_str(alloc, "run")?]?;
+    let mut source = MemSource::new(alloc, script, most, &[])?;
+    Ok(geo_alone(alloc, words.as_slice(), &mut source, sink))
+}
+
+/// A sink that takes all.
+fn open_sink(alloc: Global) -> Result<MemSink, Fail> {
+    Ok(MemSink::new(alloc, 1_000_000, &[])?)
+}
+
+/// A million bytes in a call.
+const AT_ONCE: usize = 1_000_000;
+
+const DECLARATIONS: &[u8] =
+    b"geo 1\ncluster a\ncluster b\ntopic t\nclient p t a\ndo p produce\ndo p pub 0 * - hi\n";
+
+/// A message that goes to another cluster, and its receipt.
+const ONE_MESSAGE: &[u8] =
+    b"geo 1\ncluster a\ncluster b\ntopic t\nclient p t a\ndo p produce\ndo p pub 0 * - hi\n\
+reconnect p\nserve a p\ngo p\nserve a p\ngo p\nserve a p\nget p\nget p\nget p\n\
+reset t a b\ntake t a b good\nreceipt t a b good\nread t a b\ntake t a b good\nreceipt t a b good\n";
+
+/// Each script with the first line that breaks a rule, and the lowest rule that it breaks. The table of all rules is that of
+/// the crate that reads scripts.
+#[test]
+fn bad_scripts_are_refused_at_their_first_bad_line(rt: HostRuntime) -> Result<(), Fail> {
+    let scripts: [(&[u8], &[u8]); 8] = [
+        // Nothing at all, and a script that begins with another line.
+        (b"", b"bad script line 1 rule 2\n"),
+        (b"cluster a\n", b"bad script line 1 rule 2\n"),
+        // No topic: the line behind the last one. Skipped lines count.
+        (b"# a comment\n\ngeo 1\n", b"bad script line 4 rule 10\n"),
+        // A wrong word where all before is good.
+        (
+            b"geo 1\ncluster a\ncluster b\ntopic t\nclient p t a\ndo p produce\ntopik t\n",
+            b"bad script line 7 rule 3\n",
+        ),
+        // A ninth cluster, and a name of 17 bytes.
+        (
+            b"geo 1\ncluster a\ncluster b\ncluster c\ncluster d\ncluster e\ncluster f\ncluster g\ncluster h\ncluster i\n",
+            b"bad script line 10 rule 8\n",
+        ),
+        (
+            b"geo 1\ncluster abcdefghijklmnopq\n",
+            b"bad script line 2 rule 5\n",
+        ),
+        // No last line feed.
+        (b"geo 1\ncluster a", b"bad script line 2 rule 1\n"),
+        // Two lines: the earlier one is named, though the later breaks a lower rule.
+        (
+            b"geo 1\ncluster a\ncluster a\nwrong\n",
+            b"bad script line 3 rule 9\n",
+        ),
+    ];
+    for (script, line) in scripts {
+        let mut sink = open_sink(rt.alloc())?;
+        let status = run(rt.alloc(), script, 7, &mut sink)?;
+        assert_eq!(rt; status.number(), 3);
+        assert_eq!(rt; sink.bytes(), line);
+    }
+    Ok(())
+}
+
+/// Nothing is read for them: the source would fail.
+#[test]
+fn words_that_are_no_command(rt: HostRuntime) -> Result<(), Fail> {
+    let lines: [&[&str]; 15] = [
+        &[],
+        &["run", "x"],
+        &["--help"],
+        &["Run"],
+        &[""],
+        &["live", "1", "1"],
+        &["big"],
+        &["big", ""],
+        &["big", "x"],
+        &["big", "01"],
+        &["big", "+1"],
+        &["big", "-1"],
+        &["big", "4294967296"],
+        &["big", "1", "2"],
+        &["Big", "1"],
+    ];
+    for line in lines {
+        let mut words = Vec::new(rt.alloc());
+        for word in line {
+            words.push(Word::from_str(rt.alloc(), word)?)?;
+        }
+        let mut source = MemSource::new(rt.alloc(), ONE_MESSAGE, 7, &[1])?;
+        let mut sink = open_sink(rt.alloc())?;
+        let status = geo_alone(rt.alloc(), words.as_slice(), &mut source, &mut sink);
+        assert_eq!(rt; status, Status::Usage);
+        assert_eq!(rt;
+            sink.bytes(),
+            b"usage: geo run, live WORKERS TURNS, big NUMBER, save, resume, audit\n".as_slice()
+        );
+    }
+    Ok(())
+}
+
+/// A sink that takes ten bytes in a call and fails at one of the first five: what went out before is a part of the report, or of a
+/// refusal's line. And a source that gives 80 bytes in a call and fails at one of the first five: the script comes in four calls, and
+/// the fifth sees its end.
+#[test]
+fn each_call_of_a_sink_or_a_source_fails_in_turn(rt: HostRuntime) -> Result<(), Fail> {
+    let report: &[u8] = b"events 15 idle 0 rounds 0\ntopic t at a\nen";
+    for call in 1..6 {
+        let mut sink = MemSink::new(rt.alloc(), 10, &[call])?;
+        let status = run(rt.alloc(), ONE_MESSAGE, 7, &mut sink)?;
+        assert_eq!(rt; status, Status::WriteFault);
+        assert_eq!(rt; status.number(), 5);
+        assert_eq!(rt; sink.bytes(), &report[..10 * (call as usize - 1)]);
+    }
+    let mut sink = MemSink::new(rt.alloc(), 10, &[2])?;
+    assert_eq!(rt; run(rt.alloc(), b"geo", 7, &mut sink)?, Status::WriteFault);
+    assert_eq!(rt; sink.bytes(), b"bad script".as_slice());
+
+    let words = vec![in rt.alloc(); Word::from_str(rt.alloc(), "run")?]?;
+    for call in 1..6 {
+        let mut source = MemSource::new(rt.alloc(), ONE_MESSAGE, 80, &[call])?;
+        let mut sink = open_sink(rt.alloc())?;
+        let status = geo_alone(rt.alloc(), words.as_slice(), &mut source, &mut sink);
+        assert_eq!(rt; status, Status::ReadFault);
+        assert_eq!(rt; status.number(), 4);
+        assert_eq!(rt; sink.bytes(), b"read fault\n".as_slice());
+    }
+    Ok(())
+}
+
+/// So many copies of a line behind a text.
+fn with_lines(alloc: Global, text: &[u8], line: &[u8], count: u64) -> Result<Vec<u8>, Fail> {
+    let mut script = text.to_vec(alloc)?;
+    for copy in 0..count {
+        script.extend_from_slice(line)?;
+    }
+    Ok(script)
+}
+
+/// 256 messages of 1,024 bytes that wait for their receipts, which every reconnect sends again.
+fn unanswered(alloc: Global) -> Result<Vec<u8>, Fail> {
+    let mut script = b"geo 1\ncluster a\ncluster b\ntopic t\nclient p t a\ndo p produce\n".to_vec(
+        alloc,
+    )?;
+    let text = vec![in alloc; b'x'; 1_024]?;
+    for seq in 0..256 {
+        let words = format!(in alloc; "do p pub {seq} * - ")?;
+        script.extend_from_slice(words.as_bytes())?;
+        script.extend_from_slice(text.as_slice())?;
+        script.push(b'\n')?;
+    }
+    script.extend_from_slice(b"reconnect p\n")?;
+    with_lines(alloc, script.as_slice(), b"go p\n", 257)
+}
+
+/// Each limit with an input that passes it: one byte more than are read, one event more than are done, idle ones here, and more
+/// than a gibibyte of frames.
+#[test]
+fn inputs_and_runs_that_are_too_large(rt: HostRuntime) -> Result<(), Fail> {
+    let alloc = rt.alloc();
+    let inputs = vec![in alloc;
+        (1, vec![in alloc; b'\n'; 67_108_865]?),
+        (2, with_lines(alloc, DECLARATIONS, b"get p\n", 2_000_001)?),
+        (
+            3,
+            with_lines(
+                alloc,
+                unanswered(alloc)?.as_slice(),
+                b"reconnect p\n",
+                5_000
+            )?
+        ),
+    ]?;
+    for (limit, input) in inputs {
+        let mut sink = open_sink(alloc)?;
+        let status = run(alloc, input.as_slice(), AT_ONCE, &mut sink)?;
+        assert_eq!(rt; status, Status::TooLarge(limit));
+        assert_eq!(rt; status.number(), 6);
+        let line = format!(in alloc; "too large {limit}\n")?;
+        assert_eq!(rt; sink.bytes(), line.as_bytes());
+    }
+
+    // The most events are done.
+    let most = with_lines(alloc, DECLARATIONS, b"get p\n", 2_000_000)?;
+    let mut sink = open_sink(alloc)?;
+    assert_eq!(rt;
+        run(alloc, most.as_slice(), AT_ONCE, &mut sink)?,
+        Status::Ok
+    );
+    assert_eq!(rt;
+        sink.bytes(),
+        b"events 0 idle 2000000 rounds 0\n\
+topic t at a\nsender b session 0 closed mark 0\ntopic t at b\nsender a session 0 closed mark 0\n\
+client p at a lines 0/2 receipts 0 duplicates 0 errors 0\n"
+            .as_slice()
+    );
+    Ok(())
+}
+
+/// The run of a number: every message comes to every cluster, and all is quiet at the end. Nothing is read for it: the source would
+/// fail.
+#[test]
+fn a_generated_run_is_summed_up(rt: HostRuntime) -> Result<(), Fail> {
+    let alloc = rt.alloc();
+    let words = vec![in alloc; Word::from_str(alloc, "big")?, Word::from_str(alloc, "7")?]?;
+    let mut source = MemSource::new(alloc, b"", 7, &[1])?;
+    let mut sink = open_sink(alloc)?;
+    let status = geo_alone(alloc, words.as_slice(), &mut source, &mut sink);
+    assert_eq!(rt; status, Status::Ok);
+    let lines: &[u8] = b"big 7 clusters 3 messages 2000\n\
+stored a 2000\nstored b 2000\nstored c 2000\nquiet\nevents ";
+    assert!(rt; sink.bytes().starts_with(lines));
+    Ok(())
+}
