@@ -1,5 +1,5 @@
 -- Inclusive ranges of indexes, and the set that they stand for.
-use Rattle.std.specs.Prelude.{◌≡◌, ℕ, ◌+◌, ◌-◌, ◌≤◌, ◌<◌, nat_le, Bool, false, ◌&&◌, ◌||◌, List, [], ◌∷◌, ◌++◌}
+use Rattle.std.specs.Prelude.{◌≡◌, ℕ, ◌+◌, ◌-◌, ◌≤◌, ◌<◌, ◌^◌, nat_le, Bool, false, ◌&&◌, ◌||◌, List, [], ◌∷◌, ◌++◌, length}
 use Rattle.std.specs.List.{All, AllPairs, range_with_len}
 use Rattle.cursor_acks.specs.declared.range.IndexRange.{IndexRange}
 use Rattle.geo_base.specs.Cursor.{has}
@@ -32,3 +32,10 @@ pub record AreApart (rs : List IndexRange) : Type 0 where
 pub record AreRangesOf (set : List ℕ) (rs : List IndexRange) : Type 0 where
   pub apart : AreApart rs
   pub same : (i : ℕ) → covers rs i ≡ has set i
+
+-- indexes that are those of ascending ranges with gaps between them, range after range, and no more ranges than a list can count
+pub record IsToldByRanges (set : List ℕ) : Type 0 where
+  pub ranges : List IndexRange
+  pub apart : AreApart ranges
+  pub is : set ≡ indexes_of ranges
+  pub few : length ranges < 2 ^ 64

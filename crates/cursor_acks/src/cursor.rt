@@ -1,8 +1,8 @@
 //! A cursor.
-ghost use Rattle.std.specs.Prelude.{◌≡◌, ◌≤◌, ◌<◌, ◌+◌, ◌-◌, ℕ, [], true, false, IfOk, OnOk, IfErr, OnErr};
+ghost use Rattle.std.specs.Prelude.{◌≡◌, ◌≤◌, ◌<◌, ◌+◌, ◌-◌, ℕ, [], true, false, length, IfOk, OnOk, IfErr, OnErr};
 ghost use Rattle.geo_base.specs.Cursor.{below, has, mark, next_open, with_index, with_indexes};
 ghost use Rattle.cursor_acks.specs.Acks.{IsFirstOpen, if_below, stands_alone};
-ghost use Rattle.cursor_acks.specs.Ranges.{AreRangesOf};
+ghost use Rattle.cursor_acks.specs.Ranges.{AreRangesOf, IsToldByRanges};
 
 use crate::range::{IndexRange, RangeList};
 use crate::search::{holds, place_of};
@@ -174,6 +174,13 @@ impl Cursor {
         &self.ranges
     }
 
+    /// Shows that the ranges give the cursor: its indexes are theirs, range after range. It does nothing.
+    pub fn is_told_by_ranges(&self)
+        ensures { IsToldByRanges self.now.indexes }
+    {
+        let _count = count_of(self.ranges.as_slice());
+    }
+
     /// A cursor with the same acknowledged indexes.
     pub fn copy(&self, alloc: Global) -> Result<Cursor, Memory>
         ensures { IfOk result (λ c. c.indexes ≡ self.now.indexes) }
@@ -183,6 +190,13 @@ impl Cursor {
             Err(_) => Err(Memory),
         }
     }
+}
+
+/// How many ranges there are.
+fn count_of(ranges: &[IndexRange]) -> usize
+    ensures { result ≡ length ranges.now }
+{
+    ranges.len()
 }
 
 /// Whether an index has an entry in a topic of `len` entries.

@@ -14,6 +14,3 @@ mod search;
 pub use cursor::{Cursor, PastEnd};
 pub use laws::{acks_add, acks_stay_below, one_list_of_ranges};
 pub use range::{IndexRange, RangeList};
-
-#[cfg(test)]
-mod tests;

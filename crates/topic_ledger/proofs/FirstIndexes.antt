@@ -18,7 +18,7 @@ pub count_of_lengths : (fs : List ℕ) (n : ℕ) → length (lengths_of fs n) �
 count_of_lengths [] n = refl
 count_of_lengths (f ∷ fs) n = ap suc (count_of_lengths fs n)
 
-length_at : (fs : List ℕ) (n k : ℕ) → k < length fs → get_or (lengths_of fs n) k 0 ≡ get_or fs (suc k) n - get_or fs k 0
+pub length_at : (fs : List ℕ) (n k : ℕ) → k < length fs → get_or (lengths_of fs n) k 0 ≡ get_or fs (suc k) n - get_or fs k 0
 length_at [] n k h = absurd (omega arith)
 length_at (f ∷ fs) n zero h = refl
 length_at (f ∷ fs) n (suc k) h = length_at fs n k (omega arith)

@@ -2,4 +2,5 @@ pub mod Counts
 pub mod FirstIndexes
 pub mod Found
 pub mod Ledgers
+pub mod Parts
 pub mod Searched

@@ -1,10 +1,57 @@
 //! Positions from the first index of each ledger.
-ghost use Rattle.std.specs.Prelude.{◌≡◌, ◌<◌, ◌≤◌, ◌+◌, ◌^◌, [], ◌∷◌, ◌++◌, length, slice_index, vec_len, vec_capacity};
+ghost use Rattle.std.specs.Prelude.{◌≡◌, ◌<◌, ◌≤◌, ◌+◌, ◌^◌, [], ◌∷◌, ◌++◌, length, slice_index, slice_index_or, vec_len, vec_capacity, IfOk};
+ghost use Rattle.std.specs.List.{sum};
 ghost use Rattle.geo_base.specs.Topic.{grown, index_of, next_position, position_of};
 ghost use Rattle.topic_ledger.specs.Firsts.{lengths_of, AreFirsts, IsLedgerOf, NeverFall};
 
 use crate::entry_of::entry_of;
+use geo_base::memory::Memory;
 use geo_base::position::Position;
+use std::alloc::Global;
+
+/// The first index of each ledger, from the ledgers' lengths.
+#[tactic(auto, using(crate::proofs::Parts::one_ledger, crate::proofs::Parts::one_length))]
+pub(crate) fn firsts_of(alloc: Global, lengths: &[u64]) -> Result<Vec<u64>, Memory>
+    requires opened { 0 < length lengths.now }
+    requires fits { sum lengths.now < 2 ^ 64 }
+    ensures firsts { IfOk result (λ v. AreFirsts v.items (sum lengths.now)) }
+    ensures lengths { IfOk result (λ v. lengths_of v.items (sum lengths.now) ≡ lengths.now) }
+{
+    let mut firsts = Vec::new(alloc);
+    firsts.reserve(lengths.len())?;
+    firsts.push_reserved(0);
+    let mut end = lengths[0];
+    for ledger in 1..lengths.len() {
+        firsts.push_reserved(end);
+        end += lengths[ledger];
+    }
+    Ok(firsts)
+}
+
+/// The ledgers' lengths in a topic of `len` entries.
+#[tactic(auto, using(crate::proofs::Parts::end_above, crate::proofs::Parts::length_more, crate::proofs::Parts::all_lengths))]
+pub(crate) fn lengths_of(alloc: Global, firsts: &[u64], len: u64) -> Result<Vec<u64>, Memory>
+    requires { AreFirsts firsts.now len }
+    ensures { IfOk result (λ v. v.items ≡ lengths_of firsts.now len) }
+{
+    let mut lengths = Vec::new(alloc);
+    lengths.reserve(firsts.len())?;
+    for ledger in 0..firsts.len() {
+        lengths.push_reserved(end_of(firsts, ledger, len) - firsts[ledger]);
+    }
+    Ok(lengths)
+}
+
+/// Where a ledger ends: where the next one begins, or at the topic's end.
+fn end_of(firsts: &[u64], ledger: usize, len: u64) -> u64
+    requires { ledger < length firsts.now }
+    ensures { result ≡ slice_index_or firsts.now (ledger + 1) len }
+{
+    match firsts.get(ledger + 1) {
+        Some(first) => *first,
+        None => len,
+    }
+}
 
 /// Where the next entry of a topic of `len` entries goes.
 #[tactic(auto, using(crate::proofs::Found::first_within, crate::proofs::Found::next_here, crate::proofs::Found::next_opens))]

@@ -1,6 +1,7 @@
 //! The store that a broker keeps.
 ghost use Rattle.std.specs.Prelude.{◌≡◌, ◌<◌, ◌≤◌, ◌+◌, ◌-◌, ◌^◌, [], ◌∷◌, length, slice_index, vec_len, if◌then◌else◌, IfOk};
-ghost use Rattle.topic_ledger.specs.Messages.{is_message, messages_before};
+ghost use Rattle.std.specs.List.{sum};
+ghost use Rattle.topic_ledger.specs.Messages.{CountMessages, is_message, messages_before};
 
 use crate::firsts;
 use geo_base::entry::{Content, Entry};
@@ -49,6 +50,40 @@ impl TopicLedger {
             per_ledger,
             spare: 0,
         })
+    }
+
+    /// The store of some entries, of which each ledger has as many as `ledgers` says. The entries are moved in.
+    pub fn from_parts(
+        alloc: Global,
+        per_ledger: u64,
+        ledgers: &[u64],
+        entries: Vec<Entry>,
+    ) -> Result<TopicLedger, Memory>
+        requires opened { 0 < length ledgers.now }
+        requires counted { sum ledgers.now ≡ length entries.items }
+        ensures { IfOk result (λ l. l ≡ record { entries = entries.items; ledgers = ledgers.now; per_ledger = per_ledger; spare = 0 }) }
+    {
+        let firsts = firsts::firsts_of(alloc, ledgers)?;
+        let messages = counts_of(alloc, entries.as_slice())?;
+        Ok(TopicLedger {
+            entries,
+            firsts,
+            messages,
+            per_ledger,
+            spare: 0,
+        })
+    }
+
+    /// The ledgers' lengths and the entries. The entries are moved out; they are lost where memory for the lengths is wanting.
+    #[tactic(auto, using(crate::proofs::FirstIndexes::sum_of_lengths))]
+    pub fn into_parts(self, alloc: Global) -> Result<(Vec<u64>, Vec<Entry>), Memory>
+        ensures ledgers { IfOk result (λ x. x.0.items ≡ self.ledgers) }
+        ensures entries { IfOk result (λ x. x.1.items ≡ self.entries) }
+        ensures opened { 0 < length self.ledgers }
+        ensures counted { sum self.ledgers ≡ length self.entries }
+    {
+        let lengths = firsts::lengths_of(alloc, self.firsts.as_slice(), self.entries.len() as u64)?;
+        Ok((lengths, self.entries))
     }
 
     /// A copy, which has no spare.
@@ -168,6 +203,20 @@ fn is_message(entry: &Entry) -> bool
     ensures { result ≡ is_message entry.now }
 {
     matches!(entry.content, Content::Data)
+}
+
+/// How many messages there are up to each entry.
+#[tactic(auto, using(crate::proofs::Parts::none_counted, crate::proofs::Parts::count_small, crate::proofs::Parts::counted_more, crate::proofs::Parts::counted_all))]
+fn counts_of(alloc: Global, entries: &[Entry]) -> Result<Vec<u64>, Memory>
+    ensures { IfOk result (λ v. CountMessages entries.now v.items) }
+{
+    let mut counts = Vec::new(alloc);
+    counts.reserve(entries.len())?;
+    for entry in entries {
+        let count = count_with(counts.as_slice(), is_message(entry));
+        counts.push_reserved(count);
+    }
+    Ok(counts)
 }
 
 /// How many messages there are after one more entry, from the counts up to each earlier one.

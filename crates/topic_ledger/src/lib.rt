@@ -12,6 +12,3 @@ mod list_store;
 
 pub use ledger::TopicLedger;
 pub use list_store::ListStore;
-
-#[cfg(test)]
-mod tests;
