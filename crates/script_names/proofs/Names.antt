@@ -67,3 +67,11 @@ pub name_missing : (ks : List (Bor Word)) (i : ℕ) → slice_get ks i ≡ None 
 name_missing ks i e =
     let none : slice_get (words ks) i ≡ None = slice_get-map (λ (w : Bor Word). w.now) ks i ∙ ap (option_map (λ (w : Bor Word). w.now)) e in
     ap (λ (o : Option Word). unwrap_or o []) (sym none) ∙ unwrap_or-slice_get (words ks) i []
+
+-- the number of a name, where it is one of them
+pub found : (w : Word) (ks : List (Bor Word)) (i : ℕ) → position (λ (k : Bor Word). bytes_eq w k.now) ks ≡ Some i → true ≡ list_any (λ (k : Bor Word). bytes_eq w k.now) ks → Some i ≡ cond (is_among (words ks) w) (Some (number_in (words ks) w)) None
+found w ks i e is =
+    let one : is_among (words ks) w ≡ true = sym (is ∙ among w ks) in rw one (ap Some (number_found w ks i e))
+
+pub not_found : (w : Word) (ks : List (Bor Word)) → false ≡ list_any (λ (k : Bor Word). bytes_eq w k.now) ks → None ≡ cond (is_among (words ks) w) (Some (number_in (words ks) w)) None
+not_found w ks is = let none : is_among (words ks) w ≡ false = sym (is ∙ among w ks) in rw none refl

@@ -10,8 +10,6 @@ mod name_list;
 mod name_word;
 mod number;
 mod table;
-#[cfg(test)]
-mod tests;
 
 pub use cut::{Parts, cut_at};
 pub use law::{lists_read_back, numbers_read_back};

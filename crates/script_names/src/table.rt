@@ -1,5 +1,5 @@
 //! Names, numbered from 0 in their order, and found by a table.
-ghost use Rattle.std.specs.Prelude.{◌≡◌, ◌<◌, ◌^◌, [], ◌∷◌, ◌++◌, false, length, OnErr, OnOk};
+ghost use Rattle.std.specs.Prelude.{◌≡◌, ◌<◌, ◌^◌, [], ◌∷◌, ◌++◌, false, if◌then◌else◌, length, None, Some, OnErr, OnOk};
 ghost use Rattle.script_names.specs.Names.{is_among, name_at, number_in, words};
 
 use geo_base::Memory;
@@ -62,6 +62,17 @@ impl<'a> NameTable<'a> {
         match self.names.get_index_of(word) {
             Some(place) => place as u32,
             None => self.names.len() as u32,
+        }
+    }
+
+    /// The number of a name; None where it is none of them.
+    #[tactic(auto, using(crate::proofs::Names::not_found))]
+    pub fn find(&self, word: &[u8]) -> Option<u32>
+        ensures { result ≡ (if is_among self.now word.now then Some (number_in self.now word.now) else None) }
+    {
+        match self.names.get_index_of(word) {
+            Some(place) => Some(place as u32),
+            None => None,
         }
     }
 

@@ -1,8 +1,10 @@
 -- The heading of a line: its kind is one that is read, and the words that write a step have the step's.
-use Rattle.std.proofs.Common.{◌≡◌, Bool, true, false, cond, ◌&&◌, List, [], ◌∷◌, Option, Some, None, codes, refl, ap, ◌∙◌}
+use Rattle.std.proofs.Common.{◌≡◌, Bool, true, false, cond, ◌&&◌, List, [], ◌∷◌, Option, Some, None, codes, find, inl, inr, refl, ap, subst, ◌∙◌}
 use Rattle.std.specs.Str.{bytes_eq}
 use Rattle.std.specs.Prelude.{⊤}
 use Rattle.std.proofs.lemmas.Bool.{and_parts}
+use Rattle.std.proofs.lemmas.Option.{none-some, same_Some}
+use Rattle.std.proofs.lemmas.Slice.Eq.{bytes_eq-Decides}
 use Rattle.script_names.specs.Words.{Word}
 use Rattle.script_rows.specs.declared.act_kind.ActKind.{ActKind}
 use Rattle.script_rows.specs.declared.event_kind.EventKind.{EventKind}
@@ -14,7 +16,8 @@ use Rattle.script_rows.specs.declared.line_kind.LineKind.{LineKind}
 use Rattle.script_rows.specs.declared.line_kind.LineKind.TheVariants as line
 use Rattle.script_rows.specs.Judging.{act_cells, do_headed, do_heading, event_headed, halt_headed, halt_heading, heading_of, other_headed}
 use Rattle.script_rows.specs.Known.{is_kind_built}
-use Rattle.script_rows.specs.Rows.{act_built, act_of_word, event_built, event_of_word, event_word, halt_built, line_built, line_of_word, may_halt}
+use Rattle.script_rows.specs.Rows.{act_built, act_of_word, event_built, event_kinds, event_of_word, event_word, halt_built, line_built, line_of_word, may_halt}
+use Rattle.script_rows.proofs.Chosen.{chosen}
 
 -- ---- a heading's kind is read
 -- what an unknown or a formless line has, is no kind
@@ -119,3 +122,32 @@ settle_heads is = on_built (line_built line.Settle) (heading.Headed (line_kind.O
 
 pub stop_heads : line_built line.Stop ≡ true → heading_of (codes "stop" ∷ []) ≡ heading.Headed (line_kind.Other line.Stop) []
 stop_heads is = on_built (line_built line.Stop) (heading.Headed (line_kind.Other line.Stop) []) heading.Unknown is
+
+-- ---- an event's word begins no other line
+event_is_none : (k : EventKind) → line_of_word (event_word k) ≡ None
+event_is_none kind.Go = refl
+event_is_none kind.Get = refl
+event_is_none kind.Reconnect = refl
+event_is_none kind.Serve = refl
+event_is_none kind.Drop = refl
+event_is_none kind.Reset = refl
+event_is_none kind.Read = refl
+event_is_none kind.Take = refl
+event_is_none kind.Receipt = refl
+event_is_none kind.Snap = refl
+event_is_none kind.Offer = refl
+event_is_none kind.Seek = refl
+event_is_none kind.Restart = refl
+
+found_passes : (p : EventKind → Bool) (ks : List EventKind) (k : EventKind) → find p ks ≡ Some k → p k ≡ true
+found_passes p [] k e = absurd (none-some k e)
+found_passes p (x ∷ ks) k e =
+    elim (chosen (p x) (Some x) (find p ks) (Some k) e) [
+      | inl here ↦ subst (λ (y : EventKind). p y ≡ true) (same_Some x k here.1) here.0
+      | inr later ↦ found_passes p ks k later.1
+    ]
+
+pub no_line : (w : Word) (k : EventKind) → event_of_word w ≡ Some k → line_of_word w ≡ None
+no_line w k e =
+    let same = (bytes_eq-Decides w (event_word k)).0 (found_passes (λ (x : EventKind). bytes_eq w (event_word x)) event_kinds k e) in
+    ap line_of_word same ∙ event_is_none k

@@ -5,6 +5,7 @@ pub mod Fits
 pub mod Gathered
 pub mod Heads
 pub mod Lines
+pub mod Lowers
 pub mod Parts
 pub mod Places
 pub mod Plain
@@ -14,4 +15,5 @@ pub mod RowValues
 pub mod Spaced
 pub mod Subs
 pub mod Targets
+pub mod Walks
 pub mod Writable

@@ -133,7 +133,7 @@ none_found : {A : Type 0} (b : Bool) (x : A) (more : Option A) → cond b (Some 
 none_found true x more e = cc
 none_found false x more e = (refl, e)
 
-all_fail : (p : Rule → Bool) (rs : List Rule) → find p rs ≡ None → AllFail p rs
+pub all_fail : (p : Rule → Bool) (rs : List Rule) → find p rs ≡ None → AllFail p rs
 all_fail p [] e = tt
 all_fail p (r ∷ rs) e =
     let parts = none_found (p r) r (find p rs) e in (parts.0, all_fail p rs parts.1)

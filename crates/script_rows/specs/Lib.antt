@@ -1,5 +1,6 @@
 pub mod Words
 pub mod Names
+pub mod Reading
 pub mod Rows
 pub mod Columns
 pub mod Judging

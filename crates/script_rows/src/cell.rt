@@ -1,195 +1,284 @@
-//! A word in its column.
-ghost use Rattle.std.specs.Prelude.{◌≡◌};
-ghost use Rattle.script_names.specs.Names.{number_in};
-ghost use Rattle.script_rows.specs.Names.{subs_of};
-ghost use Rattle.script_rows.specs.Columns.{cell_breaks, counted, has_later, has_long_name, has_long_text, is_client_past, is_declared, is_lone, is_loop, is_mixed, is_ninth_cluster, is_other_role, is_repeat, is_strange_sub, is_stranger, is_sub_past, is_topic_past, named, new_name, value_of};
+//! A word in its column: what it says there, or the lowest rule that it breaks.
+ghost use Rattle.std.specs.Prelude.{◌≡◌, ◌-◌, ◌^◌, false, nat_lt, not, true, if◌then◌else◌, is_none, length, option_map, None, Some};
+ghost use Rattle.script_names.specs.Names.{is_among, number_in};
+ghost use Rattle.script_names.specs.Numbers.{number_of};
+ghost use Rattle.script_names.specs.Words.{has_name_bytes, is_long};
+ghost use Rattle.script_rows.specs.Columns.{choice_of, counted, is_other_role, key_of, place_of};
+ghost use Rattle.script_rows.specs.Names.{nothing_seen};
+ghost use Rattle.script_rows.specs.Reading.{cell_read, is_named, said};
+ghost use Rattle.script_rows.specs.declared.column.Column.TheVariants as kind;
 
-use crate::choice::{choice_of, is_later, key_of, place_of, target_list, targets_of};
-use crate::column::{Column, Role};
+use crate::choice::{choice_of, key_of, place_of, target_list};
+use crate::column::{Column, Menu, Role};
 use crate::fault::Rule;
 use crate::names::{Member, Names};
 use crate::seen::{Seen, THOUSAND};
 use crate::value::{TextWord, Value};
+use geo_base::Targets;
 use geo_base::limits::{CLIENTS, CLUSTERS, NAME_BYTES, SUBSCRIPTIONS, TEXT_BYTES, TOPICS};
-use script_names::{NameTable, NameWord, has_name_bytes, number_of};
+use script_names::{NameTable, NameWord, has_name_bytes, mask_of, number_of};
 
 /// The greatest sequence id: it fits a signed number of 64 bits.
 const MOST_SEQ: u64 = 9_223_372_036_854_775_807;
 
 impl Names<'_> {
-    /// What a word says; None where it has not the column's form.
-    pub(crate) fn value<'b>(
+    /// What a word says in its column, or the lowest rule that it breaks there.
+    pub(crate) fn read_cell<'b>(
         &self,
         seen: &Seen<'_>,
         column: Column,
         word: &'b [u8],
-    ) -> Option<Value<'b>>
-        ensures { result ≡ value_of self.now seen.now column word.now }
+    ) -> Result<Value<'b>, Rule>
+        ensures { result ≡ cell_read self.now seen.now column word.now }
     {
         match column {
-            Column::Topic | Column::Home => named(self.topics(), word),
-            Column::Cluster | Column::Other => named(self.clusters(), word),
-            Column::Client | Column::Doer(_) => named(self.clients(), word),
-            Column::Offered => self.offered(seen, word),
-            Column::Sub
-            | Column::Producer
-            | Column::NewCluster
-            | Column::NewTopic
-            | Column::NewClient => Some(Value::Name(NameWord::read(word)?)),
-            Column::Targets => Some(Value::Targets(targets_of(self.clusters(), word)?)),
-            Column::Key => Some(Value::Key(key_of(word)?)),
-            Column::Text => Some(Value::Text(TextWord::new(word))),
-            Column::Count { least, most } => counted(least, most, word),
-            Column::Lost => counted(0, THOUSAND, word),
-            Column::Twice => counted(0, seen.kept(), word),
-            Column::Seq => Some(Value::Seq(number_of(word, MOST_SEQ)?)),
-            Column::Place => Some(Value::Place(place_of(word)?)),
-            Column::Menu(menu) => Some(Value::Item(choice_of(menu, word)?)),
+            Column::Targets => self.read_targets(word),
+            Column::Key => read_key(word),
+            Column::Text => read_text(word),
+            Column::Count { least, most } => formed(counted(least, most, word)),
+            Column::Lost => formed(counted(0, THOUSAND, word)),
+            Column::Twice => formed(counted(0, seen.kept(), word)),
+            Column::Seq => formed(sequence_id(word)),
+            Column::Place => formed(place(word)),
+            Column::Menu(menu) => formed(chosen(menu, word)),
+            _ => {
+                if !has_name_bytes(word) {
+                    Err(Rule::Form)
+                } else if word.len() > NAME_BYTES {
+                    Err(Rule::LongName)
+                } else {
+                    self.read_name(seen, column, word)
+                }
+            }
         }
     }
 
-    /// The number of a subscription of the line's topic.
-    fn offered<'b>(&self, seen: &Seen<'_>, word: &'b [u8]) -> Option<Value<'b>>
-        ensures { result ≡ named (subs_of self.now seen.now.topic) word.now }
-    {
-        if has_name_bytes(word) {
-            Some(Value::Item(self.sub_number(seen.topic(), word)))
-        } else {
-            None
-        }
-    }
-
-    /// Whether a word breaks a rule.
-    pub(crate) fn cell_breaks(
+    /// The same of a name.
+    fn read_name<'b>(
         &self,
         seen: &Seen<'_>,
         column: Column,
-        word: &[u8],
-        rule: Rule,
-    ) -> bool
-        ensures { result ≡ cell_breaks self.now seen.now column word.now rule }
+        word: &'b [u8],
+    ) -> Result<Value<'b>, Rule>
+        requires column { is_named column ≡ true }
+        requires name { has_name_bytes word.now ≡ true }
+        requires short { is_long word.now ≡ false }
+        ensures { result ≡ cell_read self.now seen.now column word.now }
     {
-        match rule {
-            Rule::Word => has_later(column, word),
-            Rule::Form => self.value(seen, column, word).is_none(),
-            Rule::LongName => has_long_name(column, word),
-            Rule::Clusters => self.is_ninth_cluster(column),
-            Rule::NameTwice => self.is_declared(column, word),
-            Rule::Lone => self.is_lone(column),
-            Rule::Topics => self.is_topic_past(column),
-            Rule::Clients => self.is_client_past(column, word),
-            Rule::Subscriptions => self.is_sub_past(seen, column, word),
-            Rule::LongText => has_long_text(column, word),
-            Rule::Undeclared => self.is_stranger(column, word),
-            Rule::Mixed => self.is_mixed(column, word),
-            Rule::StrangeSubscription => self.is_strange_sub(seen, column, word),
-            Rule::Loop => is_loop(seen, column, word),
-            Rule::TargetTwice => is_repeat(column, word),
-            Rule::Bytes | Rule::Head | Rule::Order | Rule::Twice => false,
+        match column {
+            Column::Topic => declared(self.topics(), word),
+            Column::Cluster => declared(self.clusters(), word),
+            Column::Client => declared(self.clients(), word),
+            Column::Home => self.read_home(word),
+            Column::Other => self.read_other(seen, word),
+            Column::Doer(role) => self.read_doer(role, word),
+            Column::Offered => self.read_offered(seen, word),
+            Column::Sub => self.read_sub(seen, word),
+            Column::Producer => self.read_producer(word),
+            Column::NewCluster => self.read_new_cluster(word),
+            Column::NewTopic => self.read_new_topic(word),
+            Column::NewClient => self.read_new_client(word),
+            _ => unreachable!(),
         }
     }
 
-    fn is_ninth_cluster(&self, column: Column) -> bool
-        ensures { result ≡ is_ninth_cluster self.now column }
+    /// The topic of one more client.
+    fn read_home<'b>(&self, word: &'b [u8]) -> Result<Value<'b>, Rule>
+        requires name { has_name_bytes word.now ≡ true }
+        requires short { is_long word.now ≡ false }
+        ensures { result ≡ cell_read self.now nothing_seen kind.Home word.now }
     {
-        match column {
-            Column::NewCluster => self.clusters().len() >= CLUSTERS,
-            _ => false,
+        if self.count(self.topics().number(word)) >= CLIENTS {
+            return Err(Rule::Clients);
+        }
+        declared(self.topics(), word)
+    }
+
+    /// Another cluster than the one before.
+    fn read_other<'b>(&self, seen: &Seen<'_>, word: &'b [u8]) -> Result<Value<'b>, Rule>
+        requires name { has_name_bytes word.now ≡ true }
+        requires short { is_long word.now ≡ false }
+        ensures { result ≡ cell_read self.now seen.now kind.Other word.now }
+    {
+        match self.clusters().find(word) {
+            None => Err(Rule::Undeclared),
+            Some(_) if seen.cluster() == word => Err(Rule::Loop),
+            Some(number) => Ok(Value::Item(number)),
         }
     }
 
-    fn is_declared(&self, column: Column, word: &[u8]) -> bool
-        ensures { result ≡ is_declared self.now column word.now }
+    /// The client that does a line.
+    fn read_doer<'b>(&self, role: Role, word: &'b [u8]) -> Result<Value<'b>, Rule>
+        requires name { has_name_bytes word.now ≡ true }
+        requires short { is_long word.now ≡ false }
+        ensures { result ≡ cell_read self.now nothing_seen (kind.Doer role) word.now }
     {
-        match column {
-            Column::NewCluster => self.clusters().contains(word),
-            Column::NewTopic => self.topics().contains(word),
-            Column::NewClient => self.clients().contains(word),
-            _ => false,
+        match self.clients().find(word) {
+            None => Err(Rule::Undeclared),
+            Some(number) if is_other_role(self.member_at(number), role) => Err(Rule::Mixed),
+            Some(number) => Ok(Value::Item(number)),
         }
     }
 
-    fn is_lone(&self, column: Column) -> bool
-        ensures { result ≡ is_lone self.now column }
+    /// A subscription of the line's topic.
+    fn read_offered<'b>(&self, seen: &Seen<'_>, word: &'b [u8]) -> Result<Value<'b>, Rule>
+        requires name { has_name_bytes word.now ≡ true }
+        requires short { is_long word.now ≡ false }
+        ensures { result ≡ cell_read self.now seen.now kind.Offered word.now }
     {
-        match column {
-            Column::NewTopic => self.clusters().len() < 2,
-            _ => false,
+        match self.find_sub(seen.topic(), word) {
+            None => Err(Rule::StrangeSubscription),
+            Some(number) => Ok(Value::Item(number)),
         }
     }
 
-    fn is_topic_past(&self, column: Column) -> bool
-        ensures { result ≡ is_topic_past self.now column }
+    /// The name of a subscription of the line's topic.
+    fn read_sub<'b>(&self, seen: &Seen<'_>, word: &'b [u8]) -> Result<Value<'b>, Rule>
+        requires name { has_name_bytes word.now ≡ true }
+        requires short { is_long word.now ≡ false }
+        ensures { result ≡ cell_read self.now seen.now kind.Sub word.now }
     {
-        match column {
-            Column::NewTopic => self.topics().len() >= TOPICS,
-            _ => false,
+        if !self.is_sub(seen.topic(), word) && self.sub_count(seen.topic()) >= SUBSCRIPTIONS {
+            return Err(Rule::Subscriptions);
         }
+        Ok(named(word))
     }
 
-    fn is_client_past(&self, column: Column, word: &[u8]) -> bool
-        ensures { result ≡ is_client_past self.now column word.now }
+    /// The name of a declared client.
+    fn read_producer<'b>(&self, word: &'b [u8]) -> Result<Value<'b>, Rule>
+        requires name { has_name_bytes word.now ≡ true }
+        requires short { is_long word.now ≡ false }
+        ensures { result ≡ cell_read self.now nothing_seen kind.Producer word.now }
     {
-        match column {
-            Column::Home => self.count(self.topics().number(word)) >= CLIENTS,
-            _ => false,
+        if !self.clients().contains(word) {
+            return Err(Rule::Undeclared);
         }
+        Ok(named(word))
     }
 
-    fn is_sub_past(&self, seen: &Seen<'_>, column: Column, word: &[u8]) -> bool
-        ensures { result ≡ is_sub_past self.now seen.now column word.now }
+    /// The name of one more cluster.
+    fn read_new_cluster<'b>(&self, word: &'b [u8]) -> Result<Value<'b>, Rule>
+        requires name { has_name_bytes word.now ≡ true }
+        requires short { is_long word.now ≡ false }
+        ensures { result ≡ cell_read self.now nothing_seen kind.NewCluster word.now }
     {
-        match column {
-            Column::Sub => !self.is_sub(seen.topic(), word)
-                && self.sub_count(seen.topic()) >= SUBSCRIPTIONS,
-            _ => false,
+        if self.clusters().len() >= CLUSTERS {
+            return Err(Rule::Clusters);
         }
+        if self.clusters().contains(word) {
+            return Err(Rule::NameTwice);
+        }
+        Ok(named(word))
     }
 
-    /// Whether a word names nothing declared.
-    fn is_stranger(&self, column: Column, word: &[u8]) -> bool
-        ensures { result ≡ is_stranger self.now column word.now }
+    /// The name of one more topic.
+    fn read_new_topic<'b>(&self, word: &'b [u8]) -> Result<Value<'b>, Rule>
+        requires name { has_name_bytes word.now ≡ true }
+        requires short { is_long word.now ≡ false }
+        ensures { result ≡ cell_read self.now nothing_seen kind.NewTopic word.now }
     {
-        match column {
-            Column::Topic | Column::Home => !self.topics().contains(word),
-            Column::Cluster | Column::Other => !self.clusters().contains(word),
-            Column::Client | Column::Doer(_) | Column::Producer => !self.clients().contains(word),
-            Column::Targets => match target_list(word) {
-                Some(names) => names.has_stranger(self.clusters()),
-                None => false,
-            },
-            _ => false,
+        if self.topics().contains(word) {
+            return Err(Rule::NameTwice);
         }
+        if self.clusters().len() < 2 {
+            return Err(Rule::Lone);
+        }
+        if self.topics().len() >= TOPICS {
+            return Err(Rule::Topics);
+        }
+        Ok(named(word))
     }
 
-    fn is_mixed(&self, column: Column, word: &[u8]) -> bool
-        ensures { result ≡ is_mixed self.now column word.now }
+    /// The name of one more client.
+    fn read_new_client<'b>(&self, word: &'b [u8]) -> Result<Value<'b>, Rule>
+        requires name { has_name_bytes word.now ≡ true }
+        requires short { is_long word.now ≡ false }
+        ensures { result ≡ cell_read self.now nothing_seen kind.NewClient word.now }
     {
-        match column {
-            Column::Doer(role) => is_other_role(self.member(word), role),
-            _ => false,
+        if self.clients().contains(word) {
+            return Err(Rule::NameTwice);
         }
+        Ok(named(word))
     }
 
-    /// Whether a word is no subscription of the line's topic.
-    fn is_strange_sub(&self, seen: &Seen<'_>, column: Column, word: &[u8]) -> bool
-        ensures { result ≡ is_strange_sub self.now seen.now column word.now }
+    /// `*`, or names of clusters.
+    fn read_targets<'b>(&self, word: &'b [u8]) -> Result<Value<'b>, Rule>
+        ensures { result ≡ cell_read self.now nothing_seen kind.Targets word.now }
     {
-        match column {
-            Column::Offered => !self.is_sub(seen.topic(), word),
-            _ => false,
+        let Some(names) = target_list(word) else {
+            return Ok(Value::Targets(Targets::All));
+        };
+        if !names.are_names() {
+            return Err(Rule::Form);
         }
+        if names.has_long() {
+            return Err(Rule::LongName);
+        }
+        if names.has_stranger(self.clusters()) {
+            return Err(Rule::Undeclared);
+        }
+        if names.has_repeat() {
+            return Err(Rule::TargetTwice);
+        }
+        Ok(Value::Targets(Targets::Only(mask_of(self.clusters(), &names))))
     }
 }
 
-/// The number of a name.
-fn named<'b>(names: &NameTable<'_>, word: &'b [u8]) -> Option<Value<'b>>
-    ensures { result ≡ named names.now word.now }
+/// A declared name.
+fn declared<'b>(names: &NameTable<'_>, word: &'b [u8]) -> Result<Value<'b>, Rule>
+    ensures { result ≡ said (if not (is_among names.now word.now) then Some Rule.Undeclared else None)
+        (Some (Value.Item (number_in names.now word.now))) }
 {
-    if has_name_bytes(word) {
-        Some(Value::Item(names.number(word)))
-    } else {
-        None
+    match names.find(word) {
+        Some(number) => Ok(Value::Item(number)),
+        None => Err(Rule::Undeclared),
+    }
+}
+
+/// A name itself.
+fn named(word: &[u8]) -> Value<'_>
+    requires { has_name_bytes word.now ≡ true }
+    ensures { result ≡ Value.Name word.now }
+{
+    match NameWord::read(word) {
+        Some(name) => Value::Name(name),
+        None => unreachable!(),
+    }
+}
+
+/// A key, or `-`.
+fn read_key(word: &[u8]) -> Result<Value<'_>, Rule>
+    ensures { result ≡ said
+        (if is_none (key_of word.now) then Some Rule.Form else if is_long word.now then Some Rule.LongName else None)
+        (option_map Value.Key (key_of word.now)) }
+{
+    let Some(key) = key_of(word) else {
+        return Err(Rule::Form);
+    };
+    if word.len() > NAME_BYTES {
+        return Err(Rule::LongName);
+    }
+    Ok(Value::Key(key))
+}
+
+/// All that is left.
+fn read_text(word: &[u8]) -> Result<Value<'_>, Rule>
+    ensures { result ≡ said (if nat_lt 1024 (length word.now) then Some Rule.LongText else None)
+        (Some (Value.Text word.now)) }
+{
+    if word.len() > TEXT_BYTES {
+        return Err(Rule::LongText);
+    }
+    Ok(Value::Text(TextWord::new(word)))
+}
+
+/// What has its column's form.
+fn formed(value: Option<Value<'_>>) -> Result<Value<'_>, Rule>
+    ensures { result ≡ said (if is_none value.entry then Some Rule.Form else None) value.entry }
+{
+    match value {
+        Some(value) => Ok(value),
+        None => Err(Rule::Form),
     }
 }
 
@@ -205,44 +294,7 @@ fn counted<'b>(least: u32, most: u32, word: &'b [u8]) -> Option<Value<'b>>
     }
 }
 
-fn has_later(column: Column, word: &[u8]) -> bool
-    ensures { result ≡ has_later column word.now }
-{
-    match column {
-        Column::Menu(menu) => is_later(menu, word),
-        _ => false,
-    }
-}
-
-/// Whether a name that is too long stands in a column.
-fn has_long_name(column: Column, word: &[u8]) -> bool
-    ensures { result ≡ has_long_name column word.now }
-{
-    match column {
-        Column::Targets => match target_list(word) {
-            Some(names) => names.has_long(),
-            None => false,
-        },
-        Column::Text
-        | Column::Count { .. }
-        | Column::Lost
-        | Column::Twice
-        | Column::Seq
-        | Column::Place
-        | Column::Menu(_) => false,
-        _ => word.len() > NAME_BYTES,
-    }
-}
-
-fn has_long_text(column: Column, word: &[u8]) -> bool
-    ensures { result ≡ has_long_text column word.now }
-{
-    match column {
-        Column::Text => word.len() > TEXT_BYTES,
-        _ => false,
-    }
-}
-
+/// Whether a client has the other of the two roles.
 fn is_other_role(member: Member, role: Role) -> bool
     ensures { result ≡ is_other_role member role }
 {
@@ -253,23 +305,23 @@ fn is_other_role(member: Member, role: Role) -> bool
     }
 }
 
-fn is_loop(seen: &Seen<'_>, column: Column, word: &[u8]) -> bool
-    ensures { result ≡ is_loop seen.now column word.now }
+/// A sequence id.
+fn sequence_id(word: &[u8]) -> Option<Value<'_>>
+    ensures { result ≡ option_map Value.Seq (number_of (2 ^ 63 - 1) word.now) }
 {
-    match column {
-        Column::Other => seen.cluster() == word,
-        _ => false,
-    }
+    Some(Value::Seq(number_of(word, MOST_SEQ)?))
 }
 
-fn is_repeat(column: Column, word: &[u8]) -> bool
-    ensures { result ≡ is_repeat column word.now }
+/// A position, or the end.
+fn place(word: &[u8]) -> Option<Value<'_>>
+    ensures { result ≡ option_map Value.Place (place_of word.now) }
 {
-    match column {
-        Column::Targets => match target_list(word) {
-            Some(names) => names.has_repeat(),
-            None => false,
-        },
-        _ => false,
-    }
+    Some(Value::Place(place_of(word)?))
+}
+
+/// A word of a choice.
+fn chosen(menu: Menu, word: &[u8]) -> Option<Value<'_>>
+    ensures { result ≡ option_map Value.Item (choice_of menu word.now) }
+{
+    Some(Value::Item(choice_of(menu, word)?))
 }

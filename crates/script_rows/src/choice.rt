@@ -69,15 +69,6 @@ fn sub_kind_of(word: &[u8]) -> Option<u32>
     }
 }
 
-/// Whether a word of a choice is not read yet: all are read.
-pub(crate) fn is_later(menu: Menu, word: &[u8]) -> bool
-    ensures { result ≡ is_later menu word.now }
-{
-    match menu {
-        Menu::Version | Menu::Fate | Menu::Start | Menu::SubKind | Menu::Replication => false,
-    }
-}
-
 /// The key that a word is: none for `-`.
 pub(crate) fn key_of(word: &[u8]) -> Option<Option<NameWord<'_>>>
     ensures { result ≡ key_of word.now }
@@ -97,23 +88,6 @@ pub(crate) fn target_list(word: &[u8]) -> Option<NameList<'_>>
         None
     } else {
         Some(NameList::new(word))
-    }
-}
-
-/// The clusters that a word is for.
-pub(crate) fn targets_of(clusters: &NameTable<'_>, word: &[u8]) -> Option<Targets>
-    requires { length clusters.now ≤ 8 }
-    ensures { result ≡ targets_of clusters.now word.now }
-{
-    match target_list(word) {
-        None => Some(Targets::All),
-        Some(names) => {
-            if names.are_names() {
-                Some(Targets::Only(mask_of(clusters, &names)))
-            } else {
-                None
-            }
-        }
     }
 }
 

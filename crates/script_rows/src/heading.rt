@@ -102,21 +102,22 @@ fn halt_heading(mut words: LineWords<'_>) -> Heading<'_>
     }
 }
 
-/// An event, or a line of declarations
+/// An event, as most lines are, or a line of declarations
+#[tactic(auto, using(crate::proofs::Heads::no_line))]
 fn other_heading<'a>(word: &'a [u8], words: LineWords<'a>) -> Heading<'a>
     ensures { result ≡ other_headed word.now words.entry (line_of_word word.now) }
 {
-    if let Some(kind) = LineKind::of(word) {
+    if let Some(kind) = EventKind::of(word) {
         return if kind.is_built() {
-            Heading::Headed(Kind::Other(kind), Cells::new(Words::all(words)))
+            Heading::Headed(Kind::Event(kind), Cells::new(Words::all(words)))
         } else {
             Heading::Unknown
         };
     }
-    match EventKind::of(word) {
+    match LineKind::of(word) {
         Some(kind) => {
             if kind.is_built() {
-                Heading::Headed(Kind::Event(kind), Cells::new(Words::all(words)))
+                Heading::Headed(Kind::Other(kind), Cells::new(Words::all(words)))
             } else {
                 Heading::Unknown
             }

@@ -1,130 +1,95 @@
-//! Lines judged by their columns.
-ghost use Rattle.std.specs.Prelude.{◌≡◌, ◌||◌, find, IfOk};
-ghost use Rattle.script_rows.specs.Judging.{cells_break, heading_breaks, values_of, word_rules};
-ghost use Rattle.script_rows.specs.Known.{step_in};
+//! Lines judged by their columns, in one walk over their words.
+ghost use Rattle.std.specs.Prelude.{◌≡◌, ◌+◌, ◌≤◌, find, [], length, None, Some};
+ghost use Rattle.script_rows.specs.Judging.{cells_break, heading_breaks, kind_breaks, values_of, word_rules};
 ghost use Rattle.script_rows.specs.Names.{nothing_seen};
-ghost use Rattle.script_rows.specs.Rows.{columns_of};
+ghost use Rattle.script_rows.specs.Reading.{lower, step_said, values_in};
 
 use crate::cells::Cells;
 use crate::columns::Columns;
 use crate::fault::Rule;
 use crate::heading::Heading;
-use crate::kind::Kind;
 use crate::names::Names;
 use crate::progress::Progress;
+use crate::row::Row;
 use crate::seen::Seen;
 use crate::value::Value;
 use crate::values::step_of;
-use geo_base::{Memory, Sequence, Step};
-use std::alloc::Global;
-
-/// The rules that the words of a line may break, the lowest first.
-const WORD_RULES: [Rule; 17] = [
-    Rule::Word,
-    Rule::Form,
-    Rule::LongName,
-    Rule::Order,
-    Rule::Twice,
-    Rule::Clusters,
-    Rule::NameTwice,
-    Rule::Lone,
-    Rule::Topics,
-    Rule::Clients,
-    Rule::Subscriptions,
-    Rule::LongText,
-    Rule::Undeclared,
-    Rule::Mixed,
-    Rule::StrangeSubscription,
-    Rule::Loop,
-    Rule::TargetTwice,
-];
+use geo_base::Step;
 
 impl Names<'_> {
-    /// The lowest rule that the words of a line break.
-    #[tactic(auto, using(crate::proofs::Parts::found_later))]
-    pub fn broken(&self, progress: Progress, heading: &Heading<'_>) -> Option<Rule>
-        ensures { result ≡ find (heading_breaks progress self.now heading.now) word_rules }
-    {
-        for rule in WORD_RULES {
-            if self.heading_breaks(progress, heading, rule) {
-                return Some(rule);
-            }
-        }
-        None
-    }
-
-    /// Whether a line breaks a rule.
-    fn heading_breaks(&self, progress: Progress, heading: &Heading<'_>, rule: Rule) -> bool
-        ensures { result ≡ heading_breaks progress self.now heading.now rule }
+    /// The lowest rule that the words of a line break. Where they break none, what they say stands in the row.
+    pub fn read<'b>(
+        &self,
+        progress: Progress,
+        heading: &Heading<'b>,
+        row: &mut Row<'b>,
+    ) -> Option<Rule>
+        requires { row.old ≡ [] }
+        ensures broken { result ≡ find (heading_breaks progress self.now heading.now) word_rules }
+        ensures values { result ≡ None → values_in self.now heading.now ≡ Some row.new }
     {
         match heading {
-            Heading::Unknown => rule == Rule::Word,
-            Heading::Formless => rule == Rule::Form,
-            Heading::Headed(kind, cells) => progress.kind_breaks(*kind, rule)
-                || self.cells_break(rule, &Columns::of(*kind), cells),
-        }
-    }
-
-    /// Whether words in columns break a rule.
-    fn cells_break(&self, rule: Rule, columns: &Columns, cells: &Cells<'_>) -> bool
-        ensures { result ≡ cells_break self.now rule nothing_seen columns.now cells.now }
-    {
-        let (mut left_columns, mut left) = (columns.copied(), cells.copied());
-        let mut seen = Seen::nothing();
-        while let Some(column) = left_columns.next_column() {
-            let Some(word) = left.next_word() else {
-                return rule == Rule::Form;
-            };
-            if self.cell_breaks(&seen, column, word, rule) {
-                return true;
+            Heading::Unknown => Some(Rule::Word),
+            Heading::Formless => Some(Rule::Form),
+            Heading::Headed(kind, cells) => {
+                let broken = self.read_cells(Columns::of(*kind), cells.copied(), row);
+                lower(progress.broken(*kind), broken)
             }
-            seen = self.seen_after(&seen, column, word, word);
         }
-        left.next_word().is_some() && rule == Rule::Form
     }
 
-    /// What the words of a line of a kind say; None where they have not its form.
-    #[tactic(auto, using(crate::proofs::Parts::one_more))]
-    pub fn values<'b>(
-        &self,
-        alloc: Global,
-        kind: Kind,
-        cells: &Cells<'b>,
-    ) -> Result<Option<Sequence<Value<'b>>>, Memory>
-        ensures { IfOk result (λ vs. vs ≡ values_of self.now nothing_seen (columns_of kind) cells.now) }
+    /// The lowest rule that words in columns break. Where they break none, what they say stands in the row.
+    #[tactic(auto, using(crate::proofs::Lowers::lower_none))]
+    fn read_cells<'b>(&self, columns: Columns, cells: Cells<'b>, row: &mut Row<'b>) -> Option<Rule>
+        requires empty { row.old ≡ [] }
+        requires few { length columns ≤ 5 }
+        ensures broken { result ≡ find (λ rule. cells_break self.now rule nothing_seen columns cells.entry) word_rules }
+        ensures values { result ≡ None → values_of self.now nothing_seen columns cells.entry ≡ Some row.new }
     {
-        let (mut left_columns, mut left) = (Columns::of(kind), cells.copied());
+        let (mut left_columns, mut left) = (columns, cells);
         let mut seen = Seen::nothing();
-        let mut values = Sequence::new(alloc);
+        let mut broken = None;
         while let Some(column) = left_columns.next_column() {
             let Some(word) = left.next_word() else {
-                return Ok(None);
+                return lower(broken, Some(Rule::Form));
             };
-            let Some(value) = self.value(&seen, column, word) else {
-                return Ok(None);
-            };
-            values.push(value)?;
-            seen = self.seen_after(&seen, column, word, word);
+            match self.read_cell(&seen, column, word) {
+                Ok(value) => {
+                    seen = self.seen_with(seen, column, word, &value);
+                    row.push(value);
+                }
+                Err(rule) => {
+                    seen = self.seen_after(&seen, column, word, word);
+                    broken = lower(broken, Some(rule));
+                }
+            }
         }
         match left.next_word() {
-            Some(_) => Ok(None),
-            None => Ok(Some(values)),
+            Some(_) => lower(broken, Some(Rule::Form)),
+            None => broken,
         }
     }
+}
 
-    /// The step that a line schedules; None where it schedules none.
-    pub fn step(&self, alloc: Global, heading: &Heading<'_>) -> Result<Option<Step>, Memory>
-        ensures { IfOk result (λ step. step ≡ step_in self.now heading.now) }
+impl Heading<'_> {
+    /// The step that a line of these values schedules; None where it schedules none.
+    pub fn step(&self, values: &[Value<'_>]) -> Option<Step>
+        ensures { result ≡ step_said self.now values.now }
     {
-        let Heading::Headed(kind, cells) = heading else {
-            return Ok(None);
-        };
-        if !kind.schedules() {
-            return Ok(None);
+        match self {
+            Heading::Headed(kind, _) if kind.schedules() => Some(step_of(*kind, values)),
+            _ => None,
         }
-        match self.values(alloc, *kind, cells)? {
-            Some(values) => Ok(Some(step_of(*kind, values.as_slice()))),
-            None => Ok(None),
-        }
+    }
+}
+
+/// The lower of two rules, where there are any.
+fn lower(left: Option<Rule>, right: Option<Rule>) -> Option<Rule>
+    ensures { result ≡ lower left right }
+{
+    match (left, right) {
+        (Some(left), Some(right)) if left.number() > right.number() => Some(right),
+        (Some(left), _) => Some(left),
+        (None, right) => right,
     }
 }

@@ -21,9 +21,8 @@ mod law;
 mod line_kind;
 mod names;
 mod progress;
+mod row;
 mod seen;
-#[cfg(test)]
-mod tests;
 mod value;
 mod values;
 mod words;
@@ -40,5 +39,6 @@ pub use law::{steps_are_known, steps_read_back};
 pub use line_kind::LineKind;
 pub use names::{Member, Names};
 pub use progress::{Progress, Stage};
+pub use row::Row;
 pub use value::{TextWord, Value};
 pub use values::{item_at, line_of, name_at, rest, step_of};

@@ -1,8 +1,8 @@
 //! What a line may name.
-ghost use Rattle.std.specs.Prelude.{◌≡◌, ◌+◌, ◌<◌, ◌≤◌, ◌^◌, [], false, length, slice_get, OnOk};
+ghost use Rattle.std.specs.Prelude.{◌≡◌, ◌+◌, ◌<◌, ◌≤◌, ◌^◌, [], false, if◌then◌else◌, length, slice_get, None, Some, OnOk};
 ghost use Rattle.std.specs.Option.{option_copied};
 ghost use Rattle.script_names.specs.Names.{is_among, name_at, number_in};
-ghost use Rattle.script_rows.specs.Names.{count_of, in_role, member_of, subs_of, with_client, with_cluster, with_role, with_sub, with_topic};
+ghost use Rattle.script_rows.specs.Names.{count_of, in_role, member_at, member_of, subs_of, with_client, with_cluster, with_role, with_sub, with_topic};
 
 use crate::column::Role;
 use geo_base::Memory;
@@ -129,17 +129,6 @@ impl<'a> Names<'a> {
         }
     }
 
-    /// The number of a subscription of a topic; how many there are where it is none of them.
-    #[tactic(auto, using(crate::proofs::Subs::no_number))]
-    pub(crate) fn sub_number(&self, topic: u32, word: &[u8]) -> u32
-        ensures { result ≡ number_in (subs_of self.now topic) word.now }
-    {
-        match self.subs_at(topic) {
-            Some(names) => names.number(word),
-            None => 0,
-        }
-    }
-
     /// The name of a subscription of a topic; empty where there is none.
     #[tactic(auto, using(crate::proofs::Subs::no_name))]
     pub(crate) fn sub_name(&self, topic: u32, number: u32) -> &'a [u8]
@@ -148,6 +137,18 @@ impl<'a> Names<'a> {
         match self.subs_at(topic) {
             Some(names) => names.name(number as usize),
             None => &[],
+        }
+    }
+
+    /// The number of a subscription of a topic; None where it is none of them.
+    #[tactic(auto, using(crate::proofs::Subs::not_found))]
+    pub(crate) fn find_sub(&self, topic: u32, word: &[u8]) -> Option<u32>
+        ensures { result ≡ (if is_among (subs_of self.now topic) word.now
+            then Some (number_in (subs_of self.now topic) word.now) else None) }
+    {
+        match self.subs_at(topic) {
+            Some(names) => names.find(word),
+            None => None,
         }
     }
 
@@ -161,8 +162,14 @@ impl<'a> Names<'a> {
     pub(crate) fn member(&self, word: &[u8]) -> Member
         ensures { result ≡ member_of self.now word.now }
     {
-        let number = self.clients.number(word);
-        match self.members.as_slice().get(number as usize) {
+        self.member_at(self.clients.number(word))
+    }
+
+    /// What is known of the client of a number; one that is not declared has no topic.
+    pub(crate) fn member_at(&self, client: u32) -> Member
+        ensures { result ≡ member_at self.now client }
+    {
+        match self.members.as_slice().get(client as usize) {
             Some(member) => *member,
             None => Member {
                 topic: self.topics.len() as u32,

@@ -1,6 +1,6 @@
 //! How far a script has come.
-ghost use Rattle.std.specs.Prelude.{◌≡◌};
-ghost use Rattle.script_rows.specs.Judging.{came, kind_breaks};
+ghost use Rattle.std.specs.Prelude.{◌≡◌, find};
+ghost use Rattle.script_rows.specs.Judging.{came, kind_breaks, word_rules};
 ghost use Rattle.script_rows.specs.Rows.{rank};
 
 use crate::fault::Rule;
@@ -47,15 +47,17 @@ pub struct Progress {
 }
 
 impl Progress {
-    /// Whether a line of a kind breaks a rule on the order of lines.
-    pub(crate) fn kind_breaks(self, kind: Kind, rule: Rule) -> bool
-        ensures { result ≡ kind_breaks self kind rule }
+    /// The lowest rule on the order of lines that a line of a kind breaks.
+    pub(crate) fn broken(self, kind: Kind) -> Option<Rule>
+        ensures { result ≡ find (kind_breaks self kind) word_rules }
     {
-        match rule {
-            Rule::Order => kind.stage().rank() < self.last.rank(),
-            Rule::Twice => self.came(kind),
-            _ => false,
+        if kind.stage().rank() < self.last.rank() {
+            return Some(Rule::Order);
         }
+        if self.came(kind) {
+            return Some(Rule::Twice);
+        }
+        None
     }
 
     /// Whether a line of a kind that comes once came.

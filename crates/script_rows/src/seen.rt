@@ -1,12 +1,13 @@
 //! What the words before in a line named.
-ghost use Rattle.std.specs.Prelude.{◌≡◌, ◌-◌, unwrap_or};
+ghost use Rattle.std.specs.Prelude.{◌≡◌, ◌-◌, Some, unwrap_or};
 ghost use Rattle.script_names.specs.Numbers.{number_of};
-ghost use Rattle.script_rows.specs.Columns.{seen_after};
+ghost use Rattle.script_rows.specs.Columns.{seen_after, value_of};
 ghost use Rattle.script_rows.specs.Names.{nothing_seen};
 ghost use Rattle.script_rows.specs.declared.column.Column.TheVariants as kind;
 
 use crate::column::Column;
 use crate::names::Names;
+use crate::value::Value;
 use script_names::number_of;
 use std::marker::Model;
 
@@ -103,6 +104,28 @@ impl Names<'_> {
                 lost,
             },
         }
+    }
+
+    /// The same of a word whose value is known.
+    pub(crate) fn seen_with<'b>(
+        &self,
+        seen: Seen<'b>,
+        column: Column,
+        word: &'b [u8],
+        value: &Value<'_>,
+    ) -> Seen<'b>
+        requires { value_of self.now seen column word.now ≡ Some value.now }
+        ensures { result ≡ seen_after self.now seen.entry column word.now }
+    {
+        let mut seen = seen;
+        match column {
+            Column::Topic => seen.topic = value.item(),
+            Column::Doer(_) => seen.topic = self.member_at(value.item()).topic,
+            Column::Cluster => seen.cluster = word,
+            Column::Lost => seen.lost = value.item(),
+            _ => {}
+        }
+        seen
     }
 }
 

@@ -53,3 +53,10 @@ pub enum Value<'a> {
     /// a text
     Text(TextWord<'a>),
 }
+
+impl Default for Value<'_> {
+    /// A place of a row that no word fills.
+    fn default() -> Self {
+        Value::Item(0)
+    }
+}

@@ -20,7 +20,7 @@ use std::alloc::Global;
 use std::fmt::Write;
 
 impl Value<'_> {
-    fn item(&self) -> u32
+    pub(crate) fn item(&self) -> u32
         ensures { result ≡ item self.now }
     {
         match self {
