@@ -1,19 +1,18 @@
 -- What is declared is written so that it reads back.
-use Rattle.std.proofs.Common.{◌≡◌, ℕ, ◌<◌, ◌≤◌, ◌==◌, Bool, true, false, not, List, [], ◌∷◌, ◌++◌, length, map, Option, None, Some, Result, Ok, codes, arith, refl, sym, ap, ◌∙◌, subst}
-use Rattle.std.specs.Prelude.{IfSome}
+use Rattle.std.proofs.Common.{◌≡◌, ℕ, ◌<◌, ◌≤◌, ◌==◌, Bool, true, false, List, [], ◌∷◌, ◌++◌, append_assoc, length, map, Option, None, Ok, codes, arith, refl, sym, ap, ◌∙◌, subst}
 use Rattle.std.proofs.lemmas.Bool.{ne_eqb}
 use Rattle.std.proofs.lemmas.List.{append-nil}
-use Rattle.geo_base.specs.Scripted.{clients_of}
 use Rattle.geo_base.specs.Setup.{Declared, Setup}
 use Rattle.script_text.specs.declared.chance.Chance.{Chance}
 use Rattle.script_text.specs.Canonical.{all_lines_text, chance_text, clients_text, declarations_text, declared_alone, ledger_text, names_text}
 use Rattle.script_text.specs.Drafts.{so_far}
+use Rattle.script_text.specs.Kept.{IsKept}
 use Rattle.script_text.specs.Lines.{lines_of}
 use Rattle.script_text.specs.Rules.{script_from, script_of}
 use Rattle.script_text.specs.Scenario.{IsScenario}
-use Rattle.script_text.specs.Script.{Script, no_line, setup_with}
+use Rattle.script_text.specs.Script.{Script, setup_with}
 use Rattle.script_rows.specs.declared.progress.Progress.{Progress}
-use Rattle.script_text.proofs.DeclaredBack.{bare, chance_back, clients_back, clusters_back, head_at, head_goes, headed, ledger_back, of_topic, topics_back}
+use Rattle.script_text.proofs.DeclaredBack.{bare, chance_back, clients_back, clusters_back, head_goes, headed, ledger_back, of_topic, topics_back}
 use Rattle.script_text.proofs.LinesBack.{all_lines_back}
 use Rattle.script_text.proofs.RowsBack.{is_after, said}
 
@@ -31,8 +30,19 @@ ended n p chance s begun some =
     let topics : (length s.topics == 0) ≡ false = ne_eqb (length s.topics) 0 (λ none. omega (arith, none, some)) in
     rw (begun, topics) refl
 
-pub declarations_back : (s : Script) → IsScenario s → script_of (declarations_text s.setup s.chance) ≡ Ok (declared_alone s.setup s.chance)
-declarations_back script k =
+-- what stands behind the text is read as what is declared there meets it
+pub record IsDeclaredBy (s : Script) : Type 0 where
+  pub after : ℕ
+  pub last : Progress
+  pub reads : (more : List ℕ) → script_of (declarations_text s.setup s.chance ++ more) ≡ script_from after (so_far (said last s.chance s.setup)) (lines_of more)
+  pub kept : IsKept after (said last s.chance s.setup)
+  pub begun : last.begun ≡ true
+
+then : (a b c d e f more : List ℕ) → (a ++ (b ++ (c ++ (d ++ (e ++ f))))) ++ more ≡ a ++ (b ++ (c ++ (d ++ (e ++ (f ++ more)))))
+then a b c d e f more = simp append_assoc
+
+pub declared_read : (s : Script) → IsScenario s → IsDeclaredBy s
+declared_read script k =
     let s = script.setup in
     let c = script.chance in
     let per = s.per_ledger in
@@ -49,10 +59,23 @@ declarations_back script k =
     let clients = clients_back s.clients topics.after topics.last c s [] (is_after 3 clusters.after (said clusters.last c b) (names_text (codes "topic") ts) c e topics) (omega (arith, topics.early)) k.setup.clients.0 k.setup.clients.1 (λ t. subst (λ (m : ℕ). m ≤ 32) (sym (bare_topics t s.clients)) (k.setup.of_a_topic t).0) in
     let lines = all_lines_back s.clients clients.after clients.last c s [] k.setup refl k.setup.clients.0 k.clients (is_after 4 topics.after (said topics.last c e) (clients_text xs ts s.clients) c f clients) (omega (arith, clients.early)) in
     let last = all_lines_text xs s.clients in
-    let with_clients = clients_text xs ts s.clients ++ last in
-    let with_topics = names_text (codes "topic") ts ++ with_clients in
-    let with_clusters = names_text (codes "cluster") xs ++ with_topics in
-    head_goes (ledger_text per ++ (chance_text c ++ with_clusters)) ∙ (ledger.reads (chance_text c ++ with_clusters) ∙ (chances.reads with_clusters ∙ (clusters.reads with_topics ∙ (topics.reads with_clients ∙ (clients.reads last ∙ (ap (λ (bytes : List ℕ). script_from clients.after (so_far (said clients.last c f)) (lines_of bytes)) (sym (append-nil last)) ∙ (lines.reads [] ∙ ended lines.after lines.last c s lines.begun (omega (arith, k.setup.topics.0)))))))))
+    record {
+      after = lines.after;
+      last = lines.last;
+      reads = λ more.
+          let rest = last ++ more in
+          let with_clients = clients_text xs ts s.clients ++ rest in
+          let with_topics = names_text (codes "topic") ts ++ with_clients in
+          let with_clusters = names_text (codes "cluster") xs ++ with_topics in
+          ap (λ (bytes : List ℕ). script_of (codes "geo 1\n" ++ bytes)) (then (ledger_text per) (chance_text c) (names_text (codes "cluster") xs) (names_text (codes "topic") ts) (clients_text xs ts s.clients) last more) ∙ (head_goes (ledger_text per ++ (chance_text c ++ with_clusters)) ∙ (ledger.reads (chance_text c ++ with_clusters) ∙ (chances.reads with_clusters ∙ (clusters.reads with_topics ∙ (topics.reads with_clients ∙ (clients.reads rest ∙ lines.reads more))))));
+      kept = lines.kept;
+      begun = lines.begun;
+    }
+
+pub declarations_back : (s : Script) → IsScenario s → script_of (declarations_text s.setup s.chance) ≡ Ok (declared_alone s.setup s.chance)
+declarations_back s k =
+    let r = declared_read s k in
+    ap script_of (sym (append-nil (declarations_text s.setup s.chance))) ∙ (r.reads [] ∙ ended r.after r.last s.chance s.setup r.begun (omega (arith, k.setup.topics.0)))
 
 pub text_reads : (s : Script) (text : List ℕ) → IsScenario s → text ≡ declarations_text s.setup s.chance → script_of text ≡ Ok (declared_alone s.setup s.chance)
 text_reads s text k is = ap script_of is ∙ declarations_back s k

@@ -27,7 +27,7 @@ cut_none p xs e =
     slice_split_none p xs (All-from_get_or (λ x. p x ≡ false) xs 0 (λ k within. fails_before_first p xs k 0 (omega arith)))
 
 -- what stands before a line feed is a line that it ends
-before_more : (x : List ℕ) (parts : List (List ℕ)) → 0 < length parts → lines_between (x ∷ parts) ≡ record { bytes = x; ended = true } ∷ lines_between parts
+pub before_more : (x : List ℕ) (parts : List (List ℕ)) → 0 < length parts → lines_between (x ∷ parts) ≡ record { bytes = x; ended = true } ∷ lines_between parts
 before_more x [] some = absurd (omega arith)
 before_more x (y ∷ more) some = refl
 

@@ -1,11 +1,11 @@
 -- The lines of settings, clusters, topics and clients that are written read back.
-use Rattle.std.proofs.Common.{◌≡◌, ℕ, ◌+◌, ◌-◌, ◌<◌, ◌≤◌, nat_lt, ◌==◌, Bool, true, false, ◌&&◌, List, [], ◌∷◌, ◌++◌, length, map, filter, take, Option, None, Some, Result, Ok, codes, arith, refl, sym, ap, ◌∙◌, subst}
+use Rattle.std.proofs.Common.{◌≡◌, ℕ, ◌-◌, ◌<◌, ◌≤◌, nat_lt, ◌==◌, Bool, true, false, ◌&&◌, List, [], ◌∷◌, ◌++◌, length, map, filter, Option, None, Some, Result, Ok, codes, arith, refl, sym, ap, ◌∙◌, subst}
 use Rattle.std.specs.Fmt.{decimal}
 use Rattle.std.specs.List.{list_all}
 use Rattle.std.specs.Prelude.{IfSome, unwrap_or}
 use Rattle.std.proofs.Math.Seq.{get_or-append_seam, take-append_seam}
 use Rattle.std.proofs.lemmas.Bool.{and_from, and_parts, eq-eqb, eqb-true, ltb-true}
-use Rattle.std.proofs.lemmas.List.{append_assoc, append-nil, length-append, length-map, map-append}
+use Rattle.std.proofs.lemmas.List.{append_assoc, append-nil, length-append, map-append}
 use Rattle.std.proofs.lemmas.List.Elements.{filter-append}
 use Rattle.geo_base.specs.Name.{is_name}
 use Rattle.geo_base.specs.Scripted.{AreDistinct, is_declared, is_line, stays_or_is_silent}
@@ -14,7 +14,6 @@ use Rattle.script_names.specs.Names.{is_among, name_at}
 use Rattle.script_names.specs.Numbers.{number_of}
 use Rattle.script_names.specs.Words.{Word}
 use Rattle.script_rows.specs.declared.fault.Rule.{Rule}
-use Rattle.script_rows.specs.declared.heading.Heading.TheVariants as heading
 use Rattle.script_rows.specs.declared.kind.Kind.TheVariants as kind
 use Rattle.script_rows.specs.declared.line_kind.LineKind.TheVariants as row
 use Rattle.script_rows.specs.declared.progress.Progress.{Progress}
@@ -29,7 +28,6 @@ use Rattle.script_text.specs.declared.chance.Chance.{Chance}
 use Rattle.script_text.specs.Adding.{new_client, with_values}
 use Rattle.script_text.specs.Canonical.{chance_text, clients_text, ledger_text, names_text, row_text}
 use Rattle.script_text.specs.Drafts.{so_far}
-use Rattle.script_text.specs.Kept.{IsKept}
 use Rattle.script_text.specs.Lines.{TextLine, lines_of}
 use Rattle.script_text.specs.Naming.{names_of}
 use Rattle.script_text.specs.Rules.{at_line, judged, lowest, script_from}

@@ -21,6 +21,7 @@ use Rattle.script_rows.specs.declared.value.Value.{Value}
 use Rattle.script_rows.specs.Judging.{heading_breaks, rule_number, values_of, word_rules}
 use Rattle.script_rows.specs.Known.{schedules}
 use Rattle.script_rows.specs.Names.{Names, nothing_seen}
+use Rattle.script_rows.specs.Reading.{values_in}
 use Rattle.script_rows.specs.Rows.{columns_of, rank, role_of, stage_of}
 use Rattle.script_rows.specs.Values.{item_at, line_of, name_at, rest}
 use Rattle.script_rows.specs.Written.{AreFit}
@@ -86,6 +87,11 @@ heading_can d p (heading.Headed k ws) known none =
 pub line_can : (d : Draft) (l : TextLine) (h : Heading) → h ≡ said_by l → AreKnown d.declared.setup d.names → lowest d.declared.progress d.names l ≡ None → CanAddHeading d h
 line_can d l h is known none =
     subst (CanAddHeading d) (sym is) (heading_can d d.declared.progress (said_by l) known (words_ok d.declared.progress d.names l none))
+
+-- the values of such a line can be taken in
+pub row_adds : (d : Draft) (l : TextLine) (h : Heading) (k : Kind) (ws : List Word) (vs : List Value) → h ≡ said_by l → AreKnown d.declared.setup d.names → lowest d.declared.progress d.names l ≡ None → h ≡ heading.Headed k ws → values_in d.names h ≡ Some vs → CanAdd d k vs
+row_adds d l h k ws vs said known none is says =
+    subst (CanAddIn d k) (ap (values_in d.names) (sym is) ∙ says) (subst (CanAddHeading d) is (line_can d l h said known none))
 
 -- ---- what a line leaves
 pub record IsTaken (n : ℕ) (d new : Draft) : Type 0 where

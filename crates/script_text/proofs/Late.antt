@@ -56,7 +56,7 @@ last_kind (kind.Other line.Topic) late = absurd (omega arith)
 last_kind (kind.Other line.Client) late = absurd (omega arith)
 last_kind (kind.Do k) late = absurd (omega arith)
 
-scheduling : (p : Progress) (n : Names) (k : Kind) (ws : List Word) → find (heading_breaks p n (heading.Headed k ws)) word_rules ≡ None → (p.last ≡ stage.Event) ⊎ (schedules k ≡ true) → schedules k ≡ true
+pub scheduling : (p : Progress) (n : Names) (k : Kind) (ws : List Word) → find (heading_breaks p n (heading.Headed k ws)) word_rules ≡ None → (p.last ≡ stage.Event) ⊎ (schedules k ≡ true) → schedules k ≡ true
 scheduling p n k ws none (inr is) = is
 scheduling p n k ws none (inl late) =
     let last : rank p.last ≡ 6 = ap rank late in
@@ -80,7 +80,7 @@ abbrev pub at_step : SoFar → Steps → SoFar
 at_step s steps =
     record { declared = moved_on s.declared (record s.declared.progress { last = stage.Event }); steps = steps }
 
-added_step : (at : ℕ) (s : SoFar) (h : Heading) → find (heading_breaks s.declared.progress (names_of s.declared.setup) h) word_rules ≡ None → (s.declared.progress.last ≡ stage.Event) ⊎ (heads_step h ≡ true) → added at s h ≡ at_step s (with_step at s.steps (step_in (names_of s.declared.setup) h))
+pub added_step : (at : ℕ) (s : SoFar) (h : Heading) → find (heading_breaks s.declared.progress (names_of s.declared.setup) h) word_rules ≡ None → (s.declared.progress.last ≡ stage.Event) ⊎ (heads_step h ≡ true) → added at s h ≡ at_step s (with_step at s.steps (step_in (names_of s.declared.setup) h))
 added_step at s heading.Unknown none late = absurd (none-some rule.Word (sym none))
 added_step at s heading.Formless none late = absurd (none-some rule.Form (sym none))
 added_step at s (heading.Headed k ws) none late =

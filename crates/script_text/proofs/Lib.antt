@@ -28,3 +28,6 @@ pub mod LineWords
 pub mod PartRead
 pub mod LinesBack
 pub mod AllBack
+pub mod Appended
+pub mod Following
+pub mod Growing

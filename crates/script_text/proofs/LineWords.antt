@@ -1,7 +1,7 @@
 -- The rows of a client's lines: the kind, the values and the words of each.
-use Rattle.std.proofs.Common.{◌≡◌, ℕ, ◌<◌, ◌≤◌, ◌^◌, nat_lt, nat_le, ◌==◌, Bool, true, false, not, ◌&&◌, List, [], ◌∷◌, ◌++◌, length, Option, None, Some, codes, inl, inr, arith, refl, sym, ap, ◌∙◌, subst}
+use Rattle.std.proofs.Common.{◌≡◌, ℕ, ◌<◌, ◌≤◌, ◌^◌, nat_lt, nat_le, ◌==◌, Bool, true, false, not, ◌&&◌, List, [], ◌∷◌, length, Option, None, Some, codes, inl, inr, arith, refl, sym, ap, ◌∙◌, subst}
 use Rattle.std.specs.Fmt.{decimal}
-use Rattle.std.specs.List.{list_all, list_any, join_with_byte}
+use Rattle.std.specs.List.{list_all, list_any}
 use Rattle.std.specs.Str.{bytes_eq}
 use Rattle.std.proofs.lemmas.Bool.{and_from, and_parts, leb-true, ltb-true, or_cases}
 use Rattle.std.proofs.lemmas.Slice.Eq.{bytes_eq-Decides}
@@ -20,8 +20,6 @@ use Rattle.script_names.specs.Names.{is_among, name_at}
 use Rattle.script_names.specs.Words.{Word}
 use Rattle.script_rows.specs.declared.act_kind.ActKind.{ActKind}
 use Rattle.script_rows.specs.declared.act_kind.ActKind.TheVariants as act
-use Rattle.script_rows.specs.declared.column.Column.TheVariants as column
-use Rattle.script_rows.specs.declared.heading.Heading.{Heading}
 use Rattle.script_rows.specs.declared.heading.Heading.TheVariants as heading
 use Rattle.script_rows.specs.declared.kind.Kind.TheVariants as kind
 use Rattle.script_rows.specs.declared.value.Value.{Value}
@@ -34,8 +32,6 @@ use Rattle.script_rows.specs.Written.{AreFit, AreNames, IsKeyValue, IsTargetsVal
 use Rattle.script_rows.proofs.Back.{is_name_at, no_targets}
 use Rattle.script_rows.proofs.Plain.{are_plain, is_plain}
 use Rattle.script_text.specs.Canonical.{ident_words, kind_word, line_words, replication_word, start_word}
-use Rattle.script_text.specs.Naming.{names_of}
-use Rattle.script_text.proofs.Distinct.{among_names}
 use Rattle.script_text.proofs.NewNames.{producer_ok, sub_ok}
 use Rattle.script_text.proofs.PlainWords.{name_plain, number_plain}
 

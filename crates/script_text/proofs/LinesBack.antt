@@ -1,7 +1,7 @@
 -- The lines of the clients that are written read back.
-use Rattle.std.proofs.Common.{◌≡◌, ℕ, ◌+◌, ◌<◌, ◌≤◌, nat_le, Bool, true, false, not, ◌&&◌, ◌||◌, List, [], ◌∷◌, ◌++◌, length, map, slice_set, Option, Some, None, codes, arith, refl, sym, ap, ◌∙◌, subst}
+use Rattle.std.proofs.Common.{◌≡◌, ℕ, ◌+◌, ◌<◌, ◌≤◌, nat_le, Bool, true, false, not, ◌&&◌, List, [], ◌∷◌, ◌++◌, length, map, slice_set, Option, Some, codes, arith, refl, sym, ap, ◌∙◌, subst}
 use Rattle.std.specs.Fmt.{decimal}
-use Rattle.std.specs.List.{list_all, list_any, join_with_byte}
+use Rattle.std.specs.List.{list_all, join_with_byte}
 use Rattle.std.proofs.Math.Seq.{set-append_seam}
 use Rattle.std.proofs.lemmas.Bool.{and_from, and_parts, lt-leb, or_from}
 use Rattle.std.proofs.lemmas.List.{append-nil}
@@ -32,7 +32,6 @@ use Rattle.script_rows.specs.declared.value.Value.TheVariants as value
 use Rattle.script_rows.specs.Columns.{cell_breaks, is_other_role, seen_after, value_of}
 use Rattle.script_rows.specs.Judging.{cells_break, heading_of, values_of}
 use Rattle.script_rows.specs.Names.{Names, Seen, member_at, nothing_seen, subs_of}
-use Rattle.script_rows.specs.Names as rows
 use Rattle.script_rows.specs.Rows.{act_columns, columns_of, rank, role_of}
 use Rattle.script_rows.specs.Values.{line_of}
 use Rattle.script_rows.specs.Words.{words_of}
@@ -51,7 +50,7 @@ use Rattle.script_text.proofs.Accepted.{kept_declared}
 use Rattle.script_text.proofs.DeclaredBack.{IsClientOf, bare, client_of, moved, names_in}
 use Rattle.script_text.proofs.Distinct.{among_names}
 use Rattle.script_text.proofs.KeptRows.{line_kept}
-use Rattle.script_text.proofs.LineWords.{AreThere, HasRoom, IsPub, act_heads, act_of, and_plain, cells_are, is_pub, key_plain, line_cells, line_fits, line_made, line_plain, line_values, narrow, pub_parts, same_cells, words_are}
+use Rattle.script_text.proofs.LineWords.{AreThere, HasRoom, act_heads, act_of, and_plain, cells_are, is_pub, key_plain, line_cells, line_fits, line_made, line_plain, line_values, narrow, pub_parts, same_cells, words_are}
 use Rattle.script_text.proofs.Named.{names_declared, subs_at}
 use Rattle.script_text.proofs.NewNames.{cell_ok, doer_ok}
 use Rattle.script_text.proofs.PartRead.{IsLineOf, among_others, doer_member, doer_name, doer_within, here_at, part, role_ok, room_left, same_names, self_noted, setup_at}

@@ -16,7 +16,7 @@ use Rattle.script_rows.specs.declared.progress.Progress.{Progress}
 use Rattle.script_rows.specs.declared.value.Value.{Value}
 use Rattle.script_rows.specs.Judging.{came, cells_break, heading_breaks, heading_of, kind_breaks, values_of, word_rules}
 use Rattle.script_rows.specs.Known.{schedules}
-use Rattle.script_rows.specs.Names.{Names, nothing_seen}
+use Rattle.script_rows.specs.Names.{nothing_seen}
 use Rattle.script_rows.specs.Rows.{columns_of, rank, stage_of}
 use Rattle.script_rows.specs.Words.{words_of}
 use Rattle.script_rows.specs.Written.{AreFit, spaced, words_in}

@@ -51,11 +51,11 @@ pub not_skipped : (bytes : List ℕ) → IsSaid bytes → is_skipped bytes ≡ f
 not_skipped bytes said = subst (λ (bs : List ℕ). is_skipped bs ≡ false) (sym said.2) said.3
 
 -- the line of a step adds that step
-line_adds : (at : ℕ) (n : Names) (steps : Steps) (s : Step) → AreDeclared n → known.IsStep n s → scheduled at at_events n steps (line_with (step_line n s)) ≡ Ok (with_step at steps (Some s))
-line_adds at n steps s d is =
-    let reads = step_reads at_events n s d is in
+pub line_adds : (p : Progress) (at : ℕ) (n : Names) (steps : Steps) (s : Step) → p.begun ≡ true → AreDeclared n → known.IsStep n s → scheduled at p n steps (line_with (step_line n s)) ≡ Ok (with_step at steps (Some s))
+line_adds p at n steps s begun d is =
+    let reads = step_reads p n s d is in
     let plain : (list_all is_shown (step_line n s) && true) ≡ true = and_from (list_all is_shown (step_line n s)) true (step_shown n s d is) refl in
-    let none : lowest at_events n (line_with (step_line n s)) ≡ None = words_begun at_events n (line_with (step_line n s)) plain refl ∙ reads.0 in
+    let none : lowest p n (line_with (step_line n s)) ≡ None = words_begun p n (line_with (step_line n s)) plain begun ∙ reads.0 in
     rw (not_skipped (step_line n s) (step_said n s), none, reads.1) refl
 
 -- ---- a schedule
@@ -65,7 +65,7 @@ from_back k n steps (s ∷ ss) d all =
     let is = All-head (known.IsStep n) s ss all in
     let lines = first_line (step_line n s) (schedule_text n ss) (step_shown n s d is) in
     let more = with_step k steps (Some s) in
-    subst (λ (ls : List TextLine). schedule_from k n steps ls ≡ Ok (steps.list ++ s ∷ ss)) (sym lines) (subst (λ (r : Result Steps Rule). at_line k r (λ m. schedule_from (k + 1) n m (lines_of (schedule_text n ss))) ≡ Ok (steps.list ++ s ∷ ss)) (sym (line_adds k n steps s d is)) (from_back (k + 1) n more ss d (All-tail (known.IsStep n) s ss all) ∙ ap Ok (append_assoc steps.list (s ∷ []) ss)))
+    subst (λ (ls : List TextLine). schedule_from k n steps ls ≡ Ok (steps.list ++ s ∷ ss)) (sym lines) (subst (λ (r : Result Steps Rule). at_line k r (λ m. schedule_from (k + 1) n m (lines_of (schedule_text n ss))) ≡ Ok (steps.list ++ s ∷ ss)) (sym (line_adds at_events k n steps s refl d is)) (from_back (k + 1) n more ss d (All-tail (known.IsStep n) s ss all) ∙ ap Ok (append_assoc steps.list (s ∷ []) ss)))
 
 all_there : (s : Setup) (ss : List Step) → All (IsStep s) ss → All (known.IsStep (names_of s)) ss
 all_there s ss all = All-weaker (IsStep s) (known.IsStep (names_of s)) (step_there s) ss all

@@ -11,12 +11,12 @@ use crate::client::ClientDecl;
 use crate::declarations::Declarations;
 use crate::lines::TextLine;
 use crate::setup::SetupParts;
-use crate::steps::lowest;
+use crate::steps::read_row;
 use geo_base::limits::LEDGER_ENTRIES;
 use geo_base::{ClusterName, Line, Memory, ProducerName, Sequence, TopicName};
 use script_names::NameWord;
 use script_rows::{
-    ActKind, Heading, Kind, LineFault, LineKind, Names, Progress, Stage, Value, heading_of,
+    ActKind, Heading, Kind, LineFault, LineKind, Names, Progress, Row, Stage, Value, heading_of,
     item_at, line_of, name_at, rest,
 };
 use std::alloc::Global;
@@ -74,25 +74,14 @@ impl<'a> Draft<'a> {
             return Ok(());
         }
         let heading = heading_of(line.bytes());
-        if let Some(rule) = lowest(self.progress, &self.names, line, &heading) {
+        let mut row = Row::empty();
+        if let Some(rule) = read_row(self.progress, &self.names, line, &heading, &mut row) {
             return Err(LineFault::Broken(rule));
         }
-        self.add_heading(alloc, &heading)?;
-        Ok(())
-    }
-
-    /// Takes in what a line says.
-    fn add_heading(&mut self, alloc: Global, heading: &Heading<'a>) -> Result<(), Memory>
-        requires can { CanAddHeading self.old heading.now }
-        ensures { OnOk result (self.new ≡ drafted_with self.old heading.now) }
-    {
-        let Heading::Headed(kind, cells) = heading else {
-            return Ok(());
-        };
-        match self.names.values(alloc, *kind, cells)? {
-            Some(values) => self.add(alloc, *kind, values.as_slice()),
-            None => Ok(()),
+        if let Heading::Headed(kind, _) = heading {
+            self.add(alloc, kind, row.as_slice())?;
         }
+        Ok(())
     }
 
     /// Takes in what the values of a row say.

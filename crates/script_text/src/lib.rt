@@ -16,7 +16,8 @@
 //! A line that breaks a rule is refused by the lowest one. All of this is this project's own. The definition says it exactly:
 //! `specs/Rules.antt` has the rules of a line and of the whole, `specs/Adding.antt` what a line adds, and `script_of` is what
 //! the bytes of a script mean. [`read_script`] reads one, and a [`Scenario`] is what an accepted one says.
-//! [`read_schedule`] and [`write_schedule`] read and write events that stand by themselves.
+//! [`read_schedule`] and [`write_schedule`] read and write events that stand by themselves, and [`schedules_go_on`] says what
+//! they say behind a script.
 #![tactic(auto)]
 
 mod canonical;
@@ -34,14 +35,12 @@ mod schedule;
 mod setup;
 mod steps;
 mod subs;
-#[cfg(test)]
-mod tests;
 
 pub use canonical::write_declarations;
 pub use chance::Chance;
 pub use client::ClientDecl;
 pub use fault::ScriptFault;
-pub use law::declarations_read_back;
+pub use law::{declarations_read_back, schedules_go_on};
 pub use read::read_script;
 pub use scenario::{Scenario, ScenarioParts};
 pub use schedule::{read_schedule, write_schedule};

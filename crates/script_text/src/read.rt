@@ -169,7 +169,7 @@ impl Declarations {
         let mut progress = self.progress();
         let mut number = first;
         while let Some(line) = lines.next_line() {
-            match steps.read_line(alloc, progress, &names, number, &line) {
+            match steps.read_line(progress, &names, number, &line) {
                 Ok(()) => {}
                 Err(LineFault::Broken(rule)) => {
                     return Err(ScriptFault::Rule {

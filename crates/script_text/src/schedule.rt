@@ -65,7 +65,7 @@ fn read(alloc: Global, scenario: &Scenario, bytes: &[u8]) -> Result<Sequence<Ste
     let mut lines = Lines::new(bytes);
     let mut number = 1;
     while let Some(line) = lines.next_line() {
-        match steps.read_line(alloc, AT_EVENTS, &names, number, &line) {
+        match steps.read_line(AT_EVENTS, &names, number, &line) {
             Ok(()) => number += 1,
             Err(LineFault::Broken(rule)) => {
                 return Err(ScriptFault::Rule {

@@ -1,5 +1,6 @@
 //! The steps that lines schedule.
-ghost use Rattle.std.specs.Prelude.{◌≡◌, None, Some, OnOk};
+ghost use Rattle.std.specs.Prelude.{◌≡◌, [], None, Some, OnOk};
+ghost use Rattle.script_rows.specs.Reading.{values_in};
 ghost use Rattle.script_text.specs.Adding.{with_step};
 ghost use Rattle.script_text.specs.Drafts.{Judges, heads_step, says_step};
 ghost use Rattle.script_text.specs.Rules.{lowest, said_by};
@@ -8,7 +9,7 @@ ghost use Rattle.script_text.specs.Script.{no_steps};
 
 use crate::lines::TextLine;
 use geo_base::{Memory, Sequence, Step};
-use script_rows::{Heading, LineFault, Names, Progress, Rule, heading_of};
+use script_rows::{Heading, LineFault, Names, Progress, Row, Rule, heading_of};
 use std::alloc::Global;
 use std::marker::Model;
 
@@ -69,7 +70,6 @@ impl Steps {
     /// Takes the step of a line in, unless the line breaks a rule.
     pub(crate) fn read_line(
         &mut self,
-        alloc: Global,
         progress: Progress,
         names: &Names<'_>,
         number: u64,
@@ -81,10 +81,11 @@ impl Steps {
             return Ok(());
         }
         let heading = heading_of(line.bytes());
-        if let Some(rule) = lowest(progress, names, line, &heading) {
+        let mut row = Row::empty();
+        if let Some(rule) = read_row(progress, names, line, &heading, &mut row) {
             return Err(LineFault::Broken(rule));
         }
-        if let Some(step) = names.step(alloc, &heading)? {
+        if let Some(step) = heading.step(row.as_slice()) {
             self.push(number, step)?;
         }
         Ok(())
@@ -102,25 +103,28 @@ impl Steps {
     }
 }
 
-/// The lowest rule that a line breaks.
+/// The lowest rule that a line breaks. Where it breaks none, what its words say stands in the row.
 #[tactic(auto, using(crate::proofs::Lowest::not_plain, crate::proofs::Lowest::no_head, crate::proofs::Lowest::words_begun, crate::proofs::Lowest::words_head))]
-pub(crate) fn lowest(
+pub(crate) fn read_row<'a>(
     progress: Progress,
     names: &Names<'_>,
     line: &TextLine<'_>,
-    heading: &Heading<'_>,
+    heading: &Heading<'a>,
+    row: &mut Row<'a>,
 ) -> Option<Rule>
-    requires { heading.now ≡ said_by line.now }
-    ensures { result ≡ lowest progress names.now line.now }
+    requires said { heading.now ≡ said_by line.now }
+    requires empty { row.old ≡ [] }
+    ensures lowest { result ≡ lowest progress names.now line.now }
+    ensures values { result ≡ None → values_in names.now heading.now ≡ Some row.new }
 {
     if !line.is_plain() {
         return Some(Rule::Bytes);
     }
     if progress.begun {
-        return names.broken(progress, heading);
+        return names.read(progress, heading, row);
     }
     if line.bytes() == b"geo 1".as_slice() {
-        return names.broken(progress, heading);
+        return names.read(progress, heading, row);
     }
     Some(Rule::Head)
 }
