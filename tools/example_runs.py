@@ -2,7 +2,8 @@
 """Makes the input and the expected output of crates/geo_examples from the scripts of the repository.
 
 The input has each script NAME.geo of examples/, runs/ and edges/ behind a line `== DIRECTORY/NAME`, the output has that line and the report
-NAME.report that lies beside the script. The program's own output is never read.
+NAME.report that lies beside the script; and behind them each case of refused/cases.txt as `== refused/LINE`, by its line in that file, with
+the line that refuses it. The program's own output is never read.
 
 usage: example_runs.py write     writes crates/geo_examples/stdin and crates/geo_examples/stdout
        example_runs.py check     says whether they are what `write` would write
@@ -35,8 +36,36 @@ def content(name, ending):
     return text
 
 
-def joined(ending):
-    return b''.join(HEADING + name.encode() + b'\n' + content(name, ending) for name in names())
+# the rule that a word breaks which begins no line
+UNKNOWN_WORD = 3
+
+
+def refusals():
+    """The cases of refused/cases.txt, each as its name, its script and the line that refuses it."""
+    begins = b''
+    with open(os.path.join(ROOT, 'refused', 'cases.txt'), encoding='ascii') as file:
+        for number, line in enumerate(file.read().splitlines(), 1):
+            if line.startswith('== '):
+                name = line[len('== '):].split(':')[0]
+                begins = b'' if name == 'nothing' else content('refused/' + name, '.geo')
+            elif line and not line.startswith('#'):
+                said, script = line.split(' ', 1) if line.startswith('ok ') else (' '.join(line.split(' ', 2)[:2]), line.split(' ', 2)[2])
+                text = begins + script.replace('|', '\n').replace('\\t', '\t').replace('\\r', '\r').encode()
+                if said == 'ok':
+                    said = '%d %d' % (text.count(b'\n') + 1, UNKNOWN_WORD)
+                    text += b'foo\n'
+                yield 'refused/%d' % number, text, ('bad script line %s rule %s\n' % tuple(said.split())).encode()
+
+
+def sections():
+    """All that the program is given, in order: a name, a script, and what is to be answered."""
+    for name in names():
+        yield name, content(name, '.geo'), content(name, '.report')
+    yield from refusals()
+
+
+def joined(part):
+    return b''.join(HEADING + section[0].encode() + b'\n' + section[part] for section in sections())
 
 
 def parts(text):
@@ -54,9 +83,9 @@ def parts(text):
 def compare(path):
     with open(path, 'rb') as file:
         answers = parts(file.read())
-    wrong = 0
-    for name in names():
-        wanted, given = content(name, '.report'), answers.get(name)
+    wrong, all_of_them = 0, list(sections())
+    for name, _, wanted in all_of_them:
+        given = answers.get(name)
         if given == wanted:
             continue
         wrong += 1
@@ -68,12 +97,12 @@ def compare(path):
             if left != right:
                 print('  line %d\n    wanted %s\n    given  %s' % (at + 1, left, right))
                 break
-    print('%d scripts, %d with another report' % (len(list(names())), wrong))
+    print('%d scripts, %d with another report' % (len(all_of_them), wrong))
     return wrong
 
 
 def main():
-    files = {'stdin': joined('.geo'), 'stdout': joined('.report')}
+    files = {'stdin': joined(1), 'stdout': joined(2)}
     if sys.argv[1:] == ['write']:
         for name, text in files.items():
             with open(os.path.join(CRATE, name), 'wb') as file:

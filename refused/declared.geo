@@ -1,0 +1,5 @@
+geo 1
+cluster a
+cluster b
+topic t
+client p t a
