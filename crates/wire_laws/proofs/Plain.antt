@@ -64,7 +64,7 @@ place_told : (names : List (List ℕ)) (p : Place) → AreDistinct names → IsC
 place_told names (place.Known x) d lt = place_at 0 names x lt d ∙ ap place.Known (omega arith)
 place_told names (place.Stranger n) d lt = absurd lt
 
-source_told : (names : List (List ℕ)) (o : Option Place) → AreDistinct names → IfSome o (IsCluster names) → o ≡ option_map (place_of names) (option_map (place_name names) o)
+pub source_told : (names : List (List ℕ)) (o : Option Place) → AreDistinct names → IfSome o (IsCluster names) → o ≡ option_map (place_of names) (option_map (place_name names) o)
 source_told names None d h = refl
 source_told names (Some p) d h = ap (λ (q : Place). Some q) (sym (place_told names p d h))
 

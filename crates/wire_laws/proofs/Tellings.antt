@@ -14,7 +14,7 @@ use Rattle.wire_frames.specs.Texts.{is_readable, unread_bytes}
 use Rattle.wire_frames.proofs.Entries.{no_rest}
 use Rattle.world_laws.specs.Frames.{SendsPlain, SendsSmall}
 use Rattle.world_laws.specs.Plain.{IsPlain}
-use Rattle.world_laws.proofs.Carrying.{fits_always, plain_always}
+use Rattle.world_laws.proofs.PlainRuns.{fits_always, plain_always}
 use Rattle.wire_laws.specs.Telling.{AllTold, AllWritable, LawTold, LawWritten}
 use Rattle.wire_laws.proofs.Plain.{entry_told, told}
 

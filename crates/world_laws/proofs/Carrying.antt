@@ -1,9 +1,9 @@
--- At every moment of every run of a script what was sent on any link, and what is stored, is plain, and in short runs small.
-use Rattle.std.proofs.Common.{◌≡◌, ℕ, ◌+◌, ◌*◌, ◌<◌, ◌≤◌, Bool, true, false, List, [], ◌∷◌, ◌++◌, length, map, refl, sym, subst, ◌∙◌, arith}
+-- What is in a frame on any link, and what is stored, has each fact that plain entries have and those of the start.
+use Rattle.std.proofs.Common.{◌≡◌, ℕ, ◌*◌, ◌<◌, ◌≤◌, Bool, true, false, List, [], ◌∷◌, ◌++◌, length, map, refl, sym, subst, ◌∙◌, arith}
 use Rattle.std.specs.Prelude.{Option, Some, None, nat_lt, slice_get, slice_index_or, take}
 use Rattle.std.proofs.lemmas.Bool.{ltb-true}
 use Rattle.std.proofs.lemmas.Bool.Decides.{nat_tests}
-use Rattle.std.proofs.lemmas.List.{get_or-replicate, length-set}
+use Rattle.std.proofs.lemmas.List.{get_or-replicate}
 use Rattle.std.proofs.lemmas.Option.{none-some}
 use Rattle.world_laws.proofs.Types.{Entry, Event, Frame, Out, Packet, Peer, Write}
 use Rattle.world_laws.proofs.Types.event
@@ -11,7 +11,7 @@ use Rattle.world_laws.proofs.Types.frame
 use Rattle.world_laws.proofs.Types.write
 use Rattle.geo_base.specs.Broker.{Broker, new_broker, no_broker}
 use Rattle.geo_base.specs.Client.{Acted}
-use Rattle.geo_base.specs.FrameSizes.{frame_size, most_frame_size}
+use Rattle.geo_base.specs.Entry.{with_origin}
 use Rattle.geo_base.specs.Happening.{broker_does, broker_halts, client_does, does_planned, halts_planned, happens, stops}
 use Rattle.geo_base.specs.Laws.{IsShort}
 use Rattle.geo_base.specs.Link.{Link, discarded, no_link, sent_on, took}
@@ -23,35 +23,34 @@ use Rattle.geo_base.specs.Scripted.{IsScripted}
 use Rattle.geo_base.specs.Seeking.{restart}
 use Rattle.geo_base.specs.Setup.{Setup}
 use Rattle.geo_base.specs.World.{Back, Forward, LinkName, Links, ToBroker, ToClient, World, client_at, delivered, from_broker, from_client, link_at, node, opening_world, packet_at, site, stamped, taken_from, topic_at, with_link}
-use Rattle.world_laws.specs.Frames.{AllEntries, AllFrames, LawFits, LawPlain, SendsPlain, SendsSmall}
-use Rattle.world_laws.specs.Plain.{IsPlain, IsPlainEntry}
+use Rattle.world_laws.specs.Frames.{AllEntries, AllFrames, IsCarrying}
+use Rattle.world_laws.specs.Plain.{IsPlainEntry}
 use Rattle.world_laws.proofs.Added.{after_is, appended}
 use Rattle.world_laws.proofs.Appends.{all_changed_entries, written_entries}
 use Rattle.world_laws.proofs.Bounds.{link_set, table_has}
 use Rattle.world_laws.proofs.ClientSends.{gets_with, goes_with, reconnects_with}
 use Rattle.world_laws.proofs.Effects.{Each, each_both, each_take}
 use Rattle.world_laws.proofs.EventWalk.{HasShape, planned_shape}
-use Rattle.world_laws.proofs.FittingRuns.{AllFit, Fitting, fits_written, fitting_kept, short_brief}
+use Rattle.world_laws.proofs.FittingRuns.{Fitting, short_brief}
 use Rattle.world_laws.proofs.Frames.{at_map}
-use Rattle.world_laws.proofs.Layers.{Everywhere, one_node}
+use Rattle.world_laws.proofs.Layers.{Both, Everywhere, both_kept, one_node}
 use Rattle.world_laws.proofs.NewEntries.{Brief, Carries, IsFit, NewEntry, NewWrite, TakenEntry, all_appended, shape_new}
 use Rattle.world_laws.proofs.OwnPlain.{own_plain}
 use Rattle.world_laws.proofs.OwnSizes.{names_short}
 use Rattle.world_laws.proofs.PairRoles.{shape_within}
 use Rattle.world_laws.proofs.Pairs.{past_node}
-use Rattle.world_laws.proofs.Runs.{IsKeptByEvents, always_by_events, event_done, plan_halted}
+use Rattle.world_laws.proofs.Runs.{IsKept, IsKeptByEvents, IsKeptOn, event_done, plan_halted}
 use Rattle.world_laws.proofs.Sending.{Sent, SentOut, Stock, shape_sends}
 use Rattle.world_laws.proofs.Shapes.{Shape}
-use Rattle.world_laws.proofs.Short.{WasShort, client_short, does_short, halts_short, stops_short}
-use Rattle.world_laws.proofs.Sizes.{IsThere, node_lt, node_there, stopped_at}
-use Rattle.world_laws.proofs.Sizing.{fits}
+use Rattle.world_laws.proofs.Sizes.{IsThere, Sized, node_lt, node_there, sized_kept, stopped_at}
 use Rattle.world_laws.proofs.SubFrames.{each_at_place}
 use Rattle.world_laws.proofs.Walk.{on_if, on_test}
+use Rattle.world_laws.proofs.Widths.{AllWide, wide_kept}
 
 -- LINKS
 
 -- a fact of each packet that was ever sent, on any link
-abbrev AllSent : (Packet → Type 0) → Links → Type 0
+abbrev pub AllSent : (Packet → Type 0) → Links → Type 0
 AllSent F ls = (k : LinkName) → Each F (link_at ls k).sent
 
 all_delivered : (F : Frame → Type 0) (to : Peer → LinkName) (stamp : ℕ) (os : List Out) (ls : Links) → Each (λ (o : Out). F o.frame) os → AllSent (λ p. F p.frame) ls
@@ -88,37 +87,51 @@ all_opening P s (ToClient c x) = table_has (λ (l : Link). Each P l.sent) (lengt
 
 -- WORLDS
 
-abbrev PlainAt : Setup → ℕ → Broker → Type 0
-PlainAt s x b = Each (IsPlainEntry s.clusters None) b.entries
+-- a fact of entries that plain ones have, and that does not look at who stored an entry first
+pub record Suits (names : List (List ℕ)) (E : Entry → Type 0) : Type 0 where
+  pub plain : (e : Entry) → IsPlainEntry names None e → E e
+  pub moved : (z : ℕ) (e : Entry) → E e → E (with_origin z e)
+
+pub plain_suits : (names : List (List ℕ)) → Suits names (IsPlainEntry names None)
+plain_suits names = record {
+  plain = λ e h. h;
+  moved = λ z e h. record { listed = h.listed; some = h.some; from = tt; content = h.content; rest = h.rest };
+}
+
+-- of an entry that is stored
+abbrev pub Stored : (Entry → Type 0) → List (List ℕ) → Entry → Type 0
+Stored E names e = E e × (e.ident.origin < length names)
+
+abbrev StoredAt : (Entry → Type 0) → Setup → ℕ → Broker → Type 0
+StoredAt E s x b = Each (Stored E s.clusters) b.entries
 
 -- every frame, and every entry; frames are small where B holds
-pub record Carrying (B : Type 0) (s : Setup) (w : World) : Type 0 where
-  pub links : AllSent (λ p. Sent B s.clusters p.frame) w.links
-  pub entries : Everywhere s (PlainAt s) w
+pub record Carrying (B : Type 0) (E : Entry → Type 0) (s : Setup) (w : World) : Type 0 where
+  pub links : AllSent (λ p. Sent B E s.clusters p.frame) w.links
+  pub entries : Everywhere s (StoredAt E s) w
 
--- what is known besides, of a run that is short where B holds
+-- what is known besides, and more of it where B holds: of a run that is short
 pub record Beneath (B : Type 0) (s : Setup) (w : World) : Type 0 where
-  fitting : Fitting s w
-  short : B → IsShort w
+  pub sized : Sized s w
+  pub wide : AllWide s w
+  pub short : B → IsShort w
+  pub fitting : B → Fitting s w
 
--- what a SEND carries is plain
-carried_plain : (B : Type 0) (names : List (List ℕ)) (f : Frame) (e : Entry) → Sent B names f → Carries f e → IsPlainEntry names None e
-carried_plain B names f e sent (id, seq, source, is) =
-    let h : Sent B names (frame.Send id seq source e) = subst (Sent B names) is sent in
-    record { listed = h.plain.listed; some = h.plain.some; from = tt; content = h.plain.content; rest = h.plain.rest }
+-- what a SEND carries has E
+carried_has : (B : Type 0) (E : Entry → Type 0) (names : List (List ℕ)) (f : Frame) (e : Entry) → Sent B E names f → Carries f e → E e
+carried_has B E names f e sent (id, seq, source, is) = let h : Sent B E names (frame.Send id seq source e) = subst (Sent B E names) is sent in h.carried.1
 
-taken_plain : (B : Type 0) (s : Setup) (w : World) (o : Option LinkName) (q : Packet) (e : Entry) → AllSent (λ p. Sent B s.clusters p.frame) w.links → packet_at w.links o ≡ Some q
-    → Carries q.frame e → IsPlainEntry s.clusters None e
-taken_plain B s w None q e all at c = absurd (none-some q at)
-taken_plain B s w (Some k) q e all at c =
-    carried_plain B s.clusters q.frame e (each_at_place (λ (p : Packet). Sent B s.clusters p.frame) (link_at w.links k).sent (link_at w.links k).taken q (all k) at) c
+taken_has : (B : Type 0) (E : Entry → Type 0) (s : Setup) (w : World) (o : Option LinkName) (q : Packet) (e : Entry) → AllSent (λ p. Sent B E s.clusters p.frame) w.links → packet_at w.links o ≡ Some q
+    → Carries q.frame e → E e
+taken_has B E s w None q e all at c = absurd (none-some q at)
+taken_has B E s w (Some k) q e all at c =
+    carried_has B E s.clusters q.frame e (each_at_place (λ (p : Packet). Sent B E s.clusters p.frame) (link_at w.links k).sent (link_at w.links k).taken q (all k) at) c
 
--- so is what an event appends
-new_plain : (B : Type 0) (s : Setup) (w : World) (p : Planned) → AllSent (λ q. Sent B s.clusters q.frame) w.links → p.cluster < length s.clusters → (e : Entry)
-    → NewEntry B (site s p.topic p.cluster) (TakenEntry w p) e → IsPlainEntry s.clusters None e
-new_plain B s w p all lt e (NewEntry.Carried a z (q, at, c) fit) =
-    let h = taken_plain B s w p.takes q a all at c in record { listed = h.listed; some = h.some; from = tt; content = h.content; rest = h.rest }
-new_plain B s w p all lt e (NewEntry.Own b m to names own) = own_plain B (site s p.topic p.cluster) b m to names lt own
+-- so does what an event appends
+new_has : (B : Type 0) (E : Entry → Type 0) (s : Setup) (w : World) (p : Planned) → Suits s.clusters E → AllSent (λ q. Sent B E s.clusters q.frame) w.links → p.cluster < length s.clusters → (e : Entry)
+    → NewEntry B (site s p.topic p.cluster) (TakenEntry w p) e → Stored E s.clusters e
+new_has B E s w p suits all lt e (NewEntry.Carried a z within (q, at, c) fit) = (suits.moved z a (taken_has B E s w p.takes q a all at c), within)
+new_has B E s w p suits all lt e (NewEntry.Own b m to names own) = (suits.plain e (own_plain B (site s p.topic p.cluster) b m to names lt own), lt)
 
 -- an entry stands only in a topic that is there
 entry_there : (s : Setup) (w : World) (t x i : ℕ) (e : Entry) → length w.brokers ≡ length s.topics * length s.clusters → x < length s.clusters → IsEntry (topic_at s w t x) i e → IsThere s t x
@@ -131,46 +144,48 @@ entry_there s w t x i e size small at = by (nat_lt t (length s.topics)) refl
         let P : Broker → Type 0 = λ b. slice_get b.entries i ≡ Some e in
         absurd (none-some e (subst P (past_node s w.brokers t x size le) at))
 
-all_entries : (s : Setup) (w : World) (E : Entry → Type 0) → length w.brokers ≡ length s.topics * length s.clusters → Everywhere s (λ x b. Each E b.entries) w → AllEntries s E w
-all_entries s w E size all t x i e small at = each_at_place E (topic_at s w t x).entries i e (all t x (entry_there s w t x i e size small at)) at
-
-pub size_of : (s : Setup) (w : World) → Fitting s w → length w.brokers ≡ length s.topics * length s.clusters
-size_of s w h = h.0.0.0.0.0.0.0.sized.brokers
+pub all_entries : (s : Setup) (w : World) (E F : Entry → Type 0) → ((e : Entry) → E e → F e) → length w.brokers ≡ length s.topics * length s.clusters → Everywhere s (λ x b. Each E b.entries) w
+    → AllEntries s F w
+all_entries s w E F f size all t x i e small at = f e (each_at_place E (topic_at s w t x).entries i e (all t x (entry_there s w t x i e size small at)) at)
 
 -- what the two walks ask of a broker
-stock_at : (B : Type 0) (s : Setup) → IsScripted s → (w : World) (t x : ℕ) → Beneath B s w → Carrying B s w → x < length s.clusters → Stock B (site s t x) (topic_at s w t x)
-stock_at B s scripted w t x g c small = record {
-  plain = λ i e at. each_at_place (IsPlainEntry s.clusters None) (topic_at s w t x).entries i e (c.entries t x (there i e at)) at;
-  fit = λ b i e at. each_at_place (IsFit s.clusters) (topic_at s w t x).entries i e (g.fitting.1 (g.short b) t x (there i e at)) at;
-  origins = λ i e at. (g.fitting.0.0.0.0.0.1 t x (there i e at)).origins i e at;
+stock_at : (B : Type 0) (E : Entry → Type 0) (s : Setup) → IsScripted s → (w : World) (t x : ℕ) → Beneath B s w → Carrying B E s w → x < length s.clusters → Stock B E (site s t x) (topic_at s w t x)
+stock_at B E s scripted w t x g c small = record {
+  has = λ i e at. (stored i e at).0;
+  fit = λ b i e at. each_at_place (IsFit s.clusters) (topic_at s w t x).entries i e ((g.fitting b).1 (g.short b) t x (there i e at)) at;
+  origins = λ i e at. (stored i e at).1;
   names = names_short s.clusters scripted.cluster_names.0;
   topic = names_short s.topics scripted.topic_names.0 t;
   own = small;
 }
   where
     there : (i : ℕ) (e : Entry) → IsEntry (topic_at s w t x) i e → IsThere s t x
-    there i e at = entry_there s w t x i e (size_of s w g.fitting) small at
+    there i e at = entry_there s w t x i e g.sized.brokers small at
+
+    stored : (i : ℕ) (e : Entry) → IsEntry (topic_at s w t x) i e → Stored E s.clusters e
+    stored i e at = each_at_place (Stored E s.clusters) (topic_at s w t x).entries i e (c.entries t x (there i e at)) at
 
 brief_at : (B : Type 0) (s : Setup) → IsScripted s → (w : World) (t x : ℕ) → Beneath B s w → IsThere s t x → Brief B (site s t x) (topic_at s w t x)
 brief_at B s scripted w t x g there = record {
+  own = there.1;
   names = names_short s.clusters scripted.cluster_names.0;
-  wide = g.fitting.0.1 t x there;
+  wide = g.wide t x there;
   next = λ b. (short b).next tt;
   made = λ b. (short b).made tt;
   asked = λ b. (short b).asked tt;
 }
   where
     short : B → Brief (Unit {0}) (site s t x) (topic_at s w t x)
-    short b = short_brief s scripted w t x (g.short b) g.fitting.0 there
+    short b = short_brief s scripted w t x (g.short b) (g.fitting b).0 there
 
 -- the entries that an event appends, or a beginning of them
-written_plain : (B : Type 0) (s : Setup) (w : World) (p : Planned) (ws : List Write) → Carrying B s w → IsThere s p.topic p.cluster
-    → Each (NewWrite B (site s p.topic p.cluster) (TakenEntry w p)) ws → PlainAt s p.cluster (all_written s.per_ledger (topic_at s w p.topic p.cluster) ws)
-written_plain B s w p ws c there new =
-    let b = topic_at s w p.topic p.cluster in let P = IsPlainEntry s.clusters None in
+written_has : (B : Type 0) (E : Entry → Type 0) (s : Setup) (w : World) (p : Planned) (ws : List Write) → Suits s.clusters E → Carrying B E s w → IsThere s p.topic p.cluster
+    → Each (NewWrite B (site s p.topic p.cluster) (TakenEntry w p)) ws → StoredAt E s p.cluster (all_written s.per_ledger (topic_at s w p.topic p.cluster) ws)
+written_has B E s w p ws suits c there new =
+    let b = topic_at s w p.topic p.cluster in let P = Stored E s.clusters in
     subst (λ (es : List Entry). Each P es) (sym (written_entries s.per_ledger b ws ∙ after_is b.entries ws))
     (each_both P b.entries (appended ws) (c.entries p.topic p.cluster there)
-    (all_appended B (site s p.topic p.cluster) (TakenEntry w p) P (new_plain B s w p c.links there.1) ws new))
+    (all_appended B (site s p.topic p.cluster) (TakenEntry w p) P (new_has B E s w p suits c.links there.1) ws new))
 
 -- of an event at a topic that is there, what it appends; where its topic is not there, it changes nothing
 appends_at : (B : Type 0) (s : Setup) → IsScripted s → (w : World) (p : Planned) → Shape s w p → Beneath B s w → IsThere s p.topic p.cluster
@@ -178,155 +193,138 @@ appends_at : (B : Type 0) (s : Setup) → IsScripted s → (w : World) (p : Plan
 appends_at B s scripted w p shape g there = shape_new B s w p shape (brief_at B s scripted w p.topic p.cluster g there)
 
 -- what it sends; where the topic is not there it is idle, or has nothing to send
-sends_at : (B : Type 0) (s : Setup) → IsScripted s → (w : World) (p : Planned) → Shape s w p → Beneath B s w → Carrying B s w → Each (SentOut B s.clusters) p.plan.sent
-sends_at B s scripted w p shape g c = shape_sends B s w p shape (stock_at B s scripted w p.topic p.cluster g c (shape_within s w p shape))
+sends_at : (B : Type 0) (E : Entry → Type 0) (s : Setup) → IsScripted s → (w : World) (p : Planned) → Shape s w p → Beneath B s w → Carrying B E s w → Each (SentOut B E s.clusters) p.plan.sent
+sends_at B E s scripted w p shape g c = shape_sends B E s w p shape (stock_at B E s scripted w p.topic p.cluster g c (shape_within s w p shape))
 
-carried_does : (B : Type 0) (s : Setup) → IsScripted s → (w : World) (p : Planned) → Shape s w p → Beneath B s w → Carrying B s w → Carrying B s (broker_does s w p)
+carried_does : (B : Type 0) (E : Entry → Type 0) (s : Setup) → IsScripted s → Suits s.clusters E → (w : World) (p : Planned) → Shape s w p → Beneath B s w → Carrying B E s w
+    → Carrying B E s (broker_does s w p)
 unfolding broker_does
-carried_does B s scripted w p shape g c =
-    let b = topic_at s w p.topic p.cluster in let F = Sent B s.clusters in
-    on_if (Carrying B s) p.plan.idle _ _ (record { links = c.links; entries = c.entries }) (record {
-      links = all_taken (λ q. F q.frame) p.takes _ (all_delivered F (from_broker s p.topic p.cluster) _ p.plan.sent w.links (sends_at B s scripted w p shape g c) c.links);
-      entries = one_node s (PlainAt s) w p.topic p.cluster (done s.per_ledger b p.plan) (shape_within s w p shape)
-          (λ here. subst (λ (es : List Entry). Each (IsPlainEntry s.clusters None) es) (sym (all_changed_entries (all_written s.per_ledger b p.plan.writes) p.plan.changes))
-          (written_plain B s w p p.plan.writes c here (appends_at B s scripted w p shape g here))) c.entries;
+carried_does B E s scripted suits w p shape g c =
+    let b = topic_at s w p.topic p.cluster in let F = Sent B E s.clusters in
+    on_if (Carrying B E s) p.plan.idle _ _ (record { links = c.links; entries = c.entries }) (record {
+      links = all_taken (λ q. F q.frame) p.takes _ (all_delivered F (from_broker s p.topic p.cluster) _ p.plan.sent w.links (sends_at B E s scripted w p shape g c) c.links);
+      entries = one_node s (StoredAt E s) w p.topic p.cluster (done s.per_ledger b p.plan) (shape_within s w p shape)
+          (λ here. subst (λ (es : List Entry). Each (Stored E s.clusters) es) (sym (all_changed_entries (all_written s.per_ledger b p.plan.writes) p.plan.changes))
+          (written_has B E s w p p.plan.writes suits c here (appends_at B s scripted w p shape g here))) c.entries;
     })
 
-carried_halts : (B : Type 0) (s : Setup) → IsScripted s → (w : World) (k : ℕ) (p : Planned) → Shape s w p → Beneath B s w → Carrying B s w → Carrying B s (broker_halts s w k p)
+carried_halts : (B : Type 0) (E : Entry → Type 0) (s : Setup) → IsScripted s → Suits s.clusters E → (w : World) (k : ℕ) (p : Planned) → Shape s w p → Beneath B s w → Carrying B E s w
+    → Carrying B E s (broker_halts s w k p)
 unfolding broker_halts
-carried_halts B s scripted w k p shape g c =
+carried_halts B E s scripted suits w k p shape g c =
     let b = topic_at s w p.topic p.cluster in let N = NewWrite B (site s p.topic p.cluster) (TakenEntry w p) in
     record {
-      links = all_taken (λ q. Sent B s.clusters q.frame) p.takes w.links c.links;
-      entries = one_node s (PlainAt s) w p.topic p.cluster (halted s.per_ledger b k p.plan) (shape_within s w p shape)
-          (λ here. written_plain B s w p (take k p.plan.writes ++ write.Ledger ∷ []) c here
+      links = all_taken (λ q. Sent B E s.clusters q.frame) p.takes w.links c.links;
+      entries = one_node s (StoredAt E s) w p.topic p.cluster (halted s.per_ledger b k p.plan) (shape_within s w p shape)
+          (λ here. written_has B E s w p (take k p.plan.writes ++ write.Ledger ∷ []) suits c here
           (each_both N (take k p.plan.writes) (write.Ledger ∷ []) (each_take N k p.plan.writes (appends_at B s scripted w p shape g here)) (tt, tt))) c.entries;
     }
 
-carried_written : (B : Type 0) (s : Setup) → IsScripted s → (w : World) (k : ℕ) (p : Planned) → Shape s w p → Beneath B s w → Carrying B s w
-    → Carrying B s (partly_written s w k (Some p))
-carried_written B s scripted w k p shape g c =
+pub carried_written : (B : Type 0) (E : Entry → Type 0) (s : Setup) → IsScripted s → Suits s.clusters E → (w : World) (k : ℕ) (p : Planned) → Shape s w p → Beneath B s w → Carrying B E s w
+    → Carrying B E s (partly_written s w k (Some p))
+carried_written B E s scripted suits w k p shape g c =
     let b = topic_at s w p.topic p.cluster in let N = NewWrite B (site s p.topic p.cluster) (TakenEntry w p) in
     record {
       links = c.links;
-      entries = one_node s (PlainAt s) w p.topic p.cluster (all_written s.per_ledger b (take k p.plan.writes)) (shape_within s w p shape)
-          (λ here. written_plain B s w p (take k p.plan.writes) c here (each_take N k p.plan.writes (appends_at B s scripted w p shape g here))) c.entries;
+      entries = one_node s (StoredAt E s) w p.topic p.cluster (all_written s.per_ledger b (take k p.plan.writes)) (shape_within s w p shape)
+          (λ here. written_has B E s w p (take k p.plan.writes) suits c here (each_take N k p.plan.writes (appends_at B s scripted w p shape g here))) c.entries;
     }
 
-carried_client : (B : Type 0) (s : Setup) (w : World) (c : ℕ) (k : Option LinkName) (a : Acted) → Each (SentOut B s.clusters) a.sent → Carrying B s w
-    → Carrying B s (client_does s w c k a)
+carried_client : (B : Type 0) (E : Entry → Type 0) (s : Setup) (w : World) (c : ℕ) (k : Option LinkName) (a : Acted) → Each (SentOut B E s.clusters) a.sent → Carrying B E s w
+    → Carrying B E s (client_does s w c k a)
 unfolding client_does
-carried_client B s w c k a sends h =
-    let F = Sent B s.clusters in
-    on_if (Carrying B s) a.idle _ _ (record { links = h.links; entries = h.entries }) (record {
+carried_client B E s w c k a sends h =
+    let F = Sent B E s.clusters in
+    on_if (Carrying B E s) a.idle _ _ (record { links = h.links; entries = h.entries }) (record {
       links = all_delivered F (from_client c) _ a.sent (taken_from k w.links) sends (all_taken (λ q. F q.frame) k w.links h.links);
       entries = h.entries;
     })
 
-carried_planned : (B : Type 0) (s : Setup) → IsScripted s → (w : World) (o : Option Planned) → HasShape s w o → Beneath B s w → Carrying B s w → Carrying B s (does_planned s w o)
-carried_planned B s scripted w None shape g c = record { links = c.links; entries = c.entries }
-carried_planned B s scripted w (Some p) shape g c = carried_does B s scripted w p shape g c
+carried_planned : (B : Type 0) (E : Entry → Type 0) (s : Setup) → IsScripted s → Suits s.clusters E → (w : World) (o : Option Planned) → HasShape s w o → Beneath B s w → Carrying B E s w
+    → Carrying B E s (does_planned s w o)
+carried_planned B E s scripted suits w None shape g c = record { links = c.links; entries = c.entries }
+carried_planned B E s scripted suits w (Some p) shape g c = carried_does B E s scripted suits w p shape g c
 
-halted_planned : (B : Type 0) (s : Setup) → IsScripted s → (w : World) (k : ℕ) (o : Option Planned) → HasShape s w o → Beneath B s w → Carrying B s w → Carrying B s (halts_planned s w k o)
-halted_planned B s scripted w k None shape g c = record { links = c.links; entries = c.entries }
-halted_planned B s scripted w k (Some p) shape g c = carried_halts B s scripted w k p shape g c
+pub halted_planned : (B : Type 0) (E : Entry → Type 0) (s : Setup) → IsScripted s → Suits s.clusters E → (w : World) (k : ℕ) (o : Option Planned) → HasShape s w o → Beneath B s w → Carrying B E s w
+    → Carrying B E s (halts_planned s w k o)
+halted_planned B E s scripted suits w k None shape g c = record { links = c.links; entries = c.entries }
+halted_planned B E s scripted suits w k (Some p) shape g c = carried_halts B E s scripted suits w k p shape g c
 
-carried_event : (B : Type 0) (s : Setup) → IsScripted s → (w : World) (e : Event) → Beneath B s w → Carrying B s w → Carrying B s (happens s w e)
+pub carried_event : (B : Type 0) (E : Entry → Type 0) (s : Setup) → IsScripted s → Suits s.clusters E → (w : World) (e : Event) → Beneath B s w → Carrying B E s w → Carrying B E s (happens s w e)
 unfolding happens
-carried_event B s scripted w (event.Go c) g h =
-    on_test (Carrying B s) (has_client s c) _ _ (λ has. carried_client B s w c None _ (goes_with B s scripted c has (client_at s w c) None) h) (λ none. record { links = h.links; entries = h.entries })
-carried_event B s scripted w (event.Reconnect c) g h =
-    on_test (Carrying B s) (has_client s c) _ _ (λ has. carried_client B s w c None _ (reconnects_with B s scripted c has (client_at s w c) None) h) (λ none. record { links = h.links; entries = h.entries })
-carried_event B s scripted w (event.Get c) g h =
-    on_test (Carrying B s) (has_client s c) _ _ (λ has. carried_client B s w c (Some (ToClient c (client_at s w c).cluster)) _ (gets_with B s c (client_at s w c) _) h)
+carried_event B E s scripted suits w (event.Go c) g h =
+    on_test (Carrying B E s) (has_client s c) _ _ (λ has. carried_client B E s w c None _ (goes_with B E s scripted suits.plain c has (client_at s w c) None) h)
     (λ none. record { links = h.links; entries = h.entries })
-carried_event B s scripted w e g h = carried_planned B s scripted w (planned s w e) (planned_shape s w e) g h
+carried_event B E s scripted suits w (event.Reconnect c) g h =
+    on_test (Carrying B E s) (has_client s c) _ _ (λ has. carried_client B E s w c None _ (reconnects_with B E s scripted suits.plain c has (client_at s w c) None) h)
+    (λ none. record { links = h.links; entries = h.entries })
+carried_event B E s scripted suits w (event.Get c) g h =
+    on_test (Carrying B E s) (has_client s c) _ _ (λ has. carried_client B E s w c (Some (ToClient c (client_at s w c).cluster)) _ (gets_with B E s c (client_at s w c) _) h)
+    (λ none. record { links = h.links; entries = h.entries })
+carried_event B E s scripted suits w e g h = carried_planned B E s scripted suits w (planned s w e) (planned_shape s w e) g h
 
-carried_stops : (B : Type 0) (s : Setup) (w : World) → Beneath B s w → Carrying B s w → Carrying B s (stops s w)
+pub carried_stops : (B : Type 0) (E : Entry → Type 0) (s : Setup) (w : World) → Sized s w → Carrying B E s w → Carrying B E s (stops s w)
 unfolding stops restart
-carried_stops B s w g c = record { links = all_stopped (λ q. Sent B s.clusters q.frame) s w c.links; entries = stopped_entries }
+carried_stops B E s w z c = record { links = all_stopped (λ q. Sent B E s.clusters q.frame) s w c.links; entries = stopped_entries }
   where
-    stopped_entries : Everywhere s (PlainAt s) (stops s w)
+    stopped_entries : Everywhere s (StoredAt E s) (stops s w)
     stopped_entries t x there =
-        subst (PlainAt s x) (sym (stopped_at w.brokers (λ b. done s.per_ledger b restart) (node s t x) (node_there s w t x g.fitting.0.0.0.0.0.0.0.sized there))) (c.entries t x there)
+        subst (StoredAt E s x) (sym (stopped_at w.brokers (λ b. done s.per_ledger b restart) (node s t x) (node_there s w t x z there))) (c.entries t x there)
 
-carried_opening : (B : Type 0) (s : Setup) → Carrying B s (opening_world s)
-carried_opening B s = record {
-  links = all_opening (λ q. Sent B s.clusters q.frame) s;
+pub carried_opening : (B : Type 0) (E : Entry → Type 0) (s : Setup) → Carrying B E s (opening_world s)
+carried_opening B E s = record {
+  links = all_opening (λ q. Sent B E s.clusters q.frame) s;
   entries = λ t x there. let n = length s.clusters in
-      subst (PlainAt s x) (sym (get_or-replicate (length s.topics * n) (node s t x) (new_broker n (length s.clients)) no_broker (node_lt s t x there))) tt;
+      subst (StoredAt E s x) (sym (get_or-replicate (length s.topics * n) (node s t x) (new_broker n (length s.clients)) no_broker (node_lt s t x there))) tt;
 }
 
--- all of it, in every world that is short where B holds
-abbrev pub Bearing : Type 0 → Setup → World → Type 0
-Bearing B s w = Fitting s w × ((B → IsShort w) → Carrying B s w)
+-- where no link was ever used, it is enough that each entry has E
+pub carried_unused : (E : Entry → Type 0) (s : Setup) (w : World) → w.links ≡ (opening_world s).links → Everywhere s (StoredAt E s) w → Carrying ⊥ E s w
+carried_unused E s w unused entries = record { links = subst (λ (ls : Links). AllSent (λ p. Sent ⊥ E s.clusters p.frame) ls) (sym unused) (all_opening (λ p. Sent ⊥ E s.clusters p.frame) s); entries = entries }
 
-event_short : (s : Setup) (w : World) (e : Event) → IsShort (happens s w e) → IsShort w
-unfolding happens
-event_short s w (event.Go c) = on_if (WasShort w) (has_client s c) _ _ (client_short s w c None _) (λ short. short)
-event_short s w (event.Reconnect c) = on_if (WasShort w) (has_client s c) _ _ (client_short s w c None _) (λ short. short)
-event_short s w (event.Get c) = on_if (WasShort w) (has_client s c) _ _ (client_short s w c _ _) (λ short. short)
-event_short s w e = go (planned s w e)
-  where
-    go : (o : Option Planned) → WasShort w (does_planned s w o)
-    go None = λ short. short
-    go (Some p) = does_short s w p
+-- IN EVERY RUN
 
-halt_short : (s : Setup) (w : World) (k : ℕ) (o : Option Planned) → IsShort (halts_planned s w k o) → IsShort w
-halt_short s w k None short = short
-halt_short s w k (Some p) short = halts_short s w k p short
+abbrev pub Carried : (Entry → Type 0) → Setup → World → Type 0
+Carried E s w = (Sized s w × AllWide s w) × Carrying ⊥ E s w
 
-pub bearing_kept : (B : Type 0) (s : Setup) → IsScripted s → IsKeptByEvents s (Bearing B s)
-bearing_kept B s scripted =
-    let k = fitting_kept s scripted in
+pub beneath : (s : Setup) (w : World) → Sized s w × AllWide s w → Beneath ⊥ s w
+beneath s w h = record { sized = h.0; wide = h.1; short = λ b. absurd b; fitting = λ b. absurd b }
+
+abbrev Formed : Setup → World → Type 0
+Formed s = Both (Sized s) (AllWide s)
+
+formed_kept : (s : Setup) → IsKept s (Formed s)
+formed_kept s = both_kept s (Sized s) (AllWide s) (sized_kept s) (wide_kept s)
+
+pub carried_on : (E : Entry → Type 0) (s : Setup) → IsScripted s → Suits s.clusters E → IsKeptOn s (Carried E s)
+carried_on E s scripted suits =
+    let k = formed_kept s in
     record {
-      opening = (k.opening, λ short. carried_opening B s);
-      idle = λ w n h. (k.idle w n h.0, λ short. let c = h.1 short in record { links = c.links; entries = c.entries });
-      round = λ w n h. (k.round w n h.0, λ short. let c = h.1 short in record { links = c.links; entries = c.entries });
-      event = λ w e h. (
-        event_done s (Fitting s) k w e h.0,
-        λ short.
-            let was : B → IsShort w = λ b. event_short s w e (short b) in carried_event B s scripted w e (record { fitting = h.0; short = was }) (h.1 was),
-      );
+      idle = λ w n h. (k.idle w n h.0, record { links = h.1.links; entries = h.1.entries });
+      round = λ w n h. (k.round w n h.0, record { links = h.1.links; entries = h.1.entries });
+      event = λ w e h. (event_done s (Formed s) k w e h.0, carried_event ⊥ E s scripted suits w e (beneath s w h.0) h.1);
       halts = λ w n e h. (
-        plan_halted s (Fitting s) k w n (planned s w e) (planned_shape s w e) h.0,
-        λ short.
-            let was : B → IsShort w = λ b. halt_short s w n (planned s w e) (short b) in
-            halted_planned B s scripted w n (planned s w e) (planned_shape s w e) (record { fitting = h.0; short = was }) (h.1 was),
+        plan_halted s (Formed s) k w n (planned s w e) (planned_shape s w e) h.0,
+        halted_planned ⊥ E s scripted suits w n (planned s w e) (planned_shape s w e) (beneath s w h.0) h.1,
       );
-      stop = λ w h. (k.stop w h.0, λ short. let was : B → IsShort w = λ b. stops_short s w (short b) in carried_stops B s w (record { fitting = h.0; short = was }) (h.1 was));
+      stop = λ w h. (k.stop w h.0, carried_stops ⊥ E s w h.0.0 h.1);
     }
 
--- what the next event of a broker sends there is from what is plain
-pub next_sends : (s : Setup) → IsScripted s → (w : World) → Bearing ⊥ s w → (p : Planned) → Shape s w p → Each (SentOut ⊥ s.clusters) p.plan.sent
-next_sends s scripted w h p shape = sends_at ⊥ s scripted w p shape (record { fitting = h.0; short = λ b. absurd b }) (h.1 (λ b. absurd b))
+pub carried_kept : (E : Entry → Type 0) (s : Setup) → IsScripted s → Suits s.clusters E → IsKeptByEvents s (Carried E s)
+carried_kept E s scripted suits =
+    let k = carried_on E s scripted suits in
+    record { opening = ((formed_kept s).opening, carried_opening ⊥ E s); idle = k.idle; round = k.round; event = k.event; halts = k.halts; stop = k.stop }
 
--- LAWS
+-- what the next event of a broker sends there
+pub next_sends : (E : Entry → Type 0) (s : Setup) → IsScripted s → (w : World) → Carried E s w → (p : Planned) → Shape s w p → Each (SentOut ⊥ E s.clusters) p.plan.sent
+next_sends E s scripted w h p shape = sends_at ⊥ E s scripted w p shape (beneath s w h.0) h.1
 
-all_frames : (F : Frame → Type 0) (B : Type 0) (names : List (List ℕ)) (w : World) → ((f : Frame) → Sent B names f → F f) → AllSent (λ p. Sent B names p.frame) w.links → AllFrames F w
-all_frames F B names w f all k i p at = f p.frame (each_at_place (λ (q : Packet). Sent B names q.frame) (link_at w.links k).sent i p (all k) at)
+pub all_frames : (F : Frame → Type 0) (B : Type 0) (E : Entry → Type 0) (names : List (List ℕ)) (w : World) → ((f : Frame) → Sent B E names f → F f) → AllSent (λ p. Sent B E names p.frame) w.links
+    → AllFrames F w
+all_frames F B E names w f all k i p at = f p.frame (each_at_place (λ (q : Packet). Sent B E names q.frame) (link_at w.links k).sent i p (all k) at)
 
--- what is plain, where all was sent from what is plain
-pub sends_plain : (B : Type 0) (s : Setup) (w : World) → length w.brokers ≡ length s.topics * length s.clusters → Carrying B s w → SendsPlain s w
-sends_plain B s w size c = (all_frames (IsPlain s.clusters) B s.clusters w (λ f h. h.plain) c.links, all_entries s w (IsPlainEntry s.clusters None) size c.entries)
+pub frames_carry : (E : Entry → Type 0) (s : Setup) (w : World) → Carried E s w → AllFrames (IsCarrying E s.clusters) w
+frames_carry E s w h = all_frames (IsCarrying E s.clusters) ⊥ E s.clusters w (λ f g. g.carried) h.1.links
 
-pub plain_always : LawPlain
-plain_always s scripted =
-    let P : World → Type 0 = Bearing ⊥ s in
-    always_by_events s P (SendsPlain s) (bearing_kept ⊥ s scripted) (λ w h. sends_plain ⊥ s w (size_of s w h.0) (h.1 (λ b. absurd b)))
-    (λ w k p shape h. sends_plain ⊥ s (partly_written s w k (Some p)) (length-set w.brokers (node s p.topic p.cluster) _ ∙ size_of s w h.0)
-    (carried_written ⊥ s scripted w k p shape (record { fitting = h.0; short = λ b. absurd b }) (h.1 (λ b. absurd b))))
-
-abbrev FitsShort : Setup → World → Type 0
-FitsShort s w = IsShort w → SendsSmall s w
-
-pub sends_small : (s : Setup) (w : World) → length w.brokers ≡ length s.topics * length s.clusters → Carrying (Unit {0}) s w → AllFit s w → SendsSmall s w
-sends_small s w size c fit =
-    (all_frames (λ f. frame_size s.clusters f ≤ 4 + most_frame_size) (Unit {0}) s.clusters w (λ f h. fits s.clusters f (h.small tt)) c.links, all_entries s w (IsFit s.clusters) size fit)
-
-pub fits_always : LawFits
-fits_always s scripted =
-    let P : World → Type 0 = Bearing (Unit {0}) s in
-    always_by_events s P (FitsShort s) (bearing_kept (Unit {0}) s scripted) (λ w h short. sends_small s w (size_of s w h.0) (h.1 (λ b. short)) (h.0.1 short))
-    (λ w k p shape h short. sends_small s (partly_written s w k (Some p)) (length-set w.brokers (node s p.topic p.cluster) _ ∙ size_of s w h.0)
-    (carried_written (Unit {0}) s scripted w k p shape (record { fitting = h.0; short = λ b. short }) (h.1 (λ b. short))) (fits_written s scripted w k p shape short h.0.0 (h.0.1 short)))
+pub entries_have : (E F : Entry → Type 0) (s : Setup) (w : World) → ((e : Entry) → Stored E s.clusters e → F e) → Carried E s w → AllEntries s F w
+entries_have E F s w f h = all_entries s w (Stored E s.clusters) F f h.0.0.brokers h.1.entries

@@ -28,7 +28,7 @@ use Rattle.world_laws.proofs.Counts.{next_small}
 use Rattle.world_laws.proofs.Effects.{Each, each_both, each_take}
 use Rattle.world_laws.proofs.Fitting.{Fits}
 use Rattle.world_laws.proofs.Ids.{id_short, second_short}
-use Rattle.world_laws.proofs.Layers.{Both, Everywhere, Grounds, both_kept, kept_over, one_node}
+use Rattle.world_laws.proofs.Layers.{Both, Everywhere, both_kept, kept_over, one_node}
 use Rattle.world_laws.proofs.Members.{Stands}
 use Rattle.world_laws.proofs.NewEntries.{Brief, IsFit, NewEntry, NewWrite, TakenEntry, all_appended, shape_new}
 use Rattle.world_laws.proofs.Order.{of_source}
@@ -38,7 +38,7 @@ use Rattle.world_laws.proofs.Runs.{IsKept}
 use Rattle.world_laws.proofs.SecondRound.{Knows, knows_now, small_at}
 use Rattle.world_laws.proofs.Shapes.{Shape}
 use Rattle.world_laws.proofs.Short.{KeptShort, WhileShort, short_kept}
-use Rattle.world_laws.proofs.Sizes.{IsThere, node_lt, node_there, stopped_at}
+use Rattle.world_laws.proofs.Sizes.{IsThere, Sized, node_lt, node_there, stopped_at}
 use Rattle.world_laws.proofs.SnapshotFacts.{Form}
 use Rattle.world_laws.proofs.SubFrames.{each_at_place}
 use Rattle.world_laws.proofs.Walk.{on_if}
@@ -91,6 +91,7 @@ Ground s = Both (Knowing s) (AllWide s)
 
 pub short_brief : (s : Setup) → IsScripted s → (w : World) (t x : ℕ) → IsShort w → Ground s w → IsThere s t x → Brief (Unit {0}) (site s t x) (topic_at s w t x)
 short_brief s scripted w t x short g there = record {
+  own = there.1;
   names = names;
   wide = g.1 t x there;
   next = λ now. next_small s.per_ledger w.events (topic_at s w t x) short (g.0.0.0.1 t x there) (k.answers t x there).numbered;
@@ -109,7 +110,7 @@ short_brief s scripted w t x short g there = record {
 
 -- so what an event appends fits
 new_fits : (B : Type 0) (h : Site) (C : Entry → Type 0) → B → length h.clusters ≤ 8 → AreShort h.clusters → (e : Entry) → NewEntry B h C e → IsFit h.clusters e
-new_fits B h C holds few short e (NewEntry.Carried a z c fit) = fit
+new_fits B h C holds few short e (NewEntry.Carried a z lt c fit) = fit
 new_fits B h C holds few short e (NewEntry.Own b m to names own) = own_size B h b m to names holds few short own
 
 abbrev NewFor : Setup → World → Planned → Write → Type 0
@@ -181,7 +182,7 @@ Fitting s = Both (Ground s) (WhileShort (AllFit s))
 
 pub ground_kept : (s : Setup) → IsScripted s → IsKept s (Ground s)
 ground_kept s scripted =
-    both_kept s (Knowing s) (AllWide s) (knowing_kept s (named s scripted)) (kept_over s (Knowing s) (Grounds s) (AllWide s) (λ w h. h.0.0.0.0) (wide_kept s))
+    both_kept s (Knowing s) (AllWide s) (knowing_kept s (named s scripted)) (kept_over s (Knowing s) (Sized s) (AllWide s) (λ w h. h.0.0.0.0.0.sized) (wide_kept s))
 
 pub fitting_kept : (s : Setup) → IsScripted s → IsKept s (Fitting s)
 fitting_kept s scripted = both_kept s (Ground s) (WhileShort (AllFit s)) (ground_kept s scripted) (short_kept s (Ground s) (AllFit s) (fits_kept s scripted))

@@ -118,6 +118,7 @@ pub mod Sizing
 pub mod Sending
 pub mod ClientSends
 pub mod Carrying
+pub mod PlainRuns
 pub mod Passing
 pub mod Told
 pub mod OnlyTold
@@ -133,4 +134,15 @@ pub mod Slow
 pub mod Rising
 pub mod OwnNumbers
 pub mod MarkerRuns
+pub mod KeptIndexes
+pub mod IndexRuns
+pub mod Starting
+pub mod TurnRuns
 pub mod Reaching
+pub mod KeptStarts
+pub mod AlikeLinks
+pub mod AlikeWorlds
+pub mod AlikeRuns
+pub mod Loaded
+pub mod ResumedRuns
+pub mod SavedRuns

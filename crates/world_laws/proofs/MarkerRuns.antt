@@ -1,6 +1,6 @@
 -- In every run of a script the number of a cluster's next own marker is at most the number of entries there.
-use Rattle.std.proofs.Common.{◌≡◌, ℕ, ◌*◌, Bool, true, List, [], ◌∷◌, ◌++◌, length, map, refl, sym, subst, ◌∙◌, arith}
-use Rattle.std.specs.Prelude.{Option, Some, None, nat_lt, slice_get, slice_index_or, take, is_some, ◌==◌, ◌&&◌}
+use Rattle.std.proofs.Common.{◌≡◌, ℕ, ◌+◌, ◌*◌, ◌≤◌, Bool, true, List, [], ◌∷◌, length, map, refl, sym, ap, subst, ◌∙◌, arith}
+use Rattle.std.specs.Prelude.{Option, Some, None, nat_lt, slice_get, slice_index_or, is_some, ◌==◌, ◌&&◌}
 use Rattle.std.specs.List.{list_all}
 use Rattle.std.proofs.lemmas.Bool.{ltb-true}
 use Rattle.std.proofs.lemmas.List.{get_or-replicate}
@@ -8,7 +8,6 @@ use Rattle.world_laws.proofs.Types.{Event, Held, Ident, Line, Out, Packet, Peer,
 use Rattle.world_laws.proofs.Types.event
 use Rattle.world_laws.proofs.Types.line
 use Rattle.world_laws.proofs.Types.peer
-use Rattle.world_laws.proofs.Types.write
 use Rattle.geo_base.specs.Broker.{Broker, new_broker, no_broker}
 use Rattle.geo_base.specs.Client.{Acted, Client, command, command_at, commands_at, connected_to, connects, reconnect}
 use Rattle.geo_base.specs.Getting.{get}
@@ -23,21 +22,23 @@ use Rattle.geo_base.specs.Scripted.{IsScripted, is_declared, is_line, stays_or_i
 use Rattle.geo_base.specs.Seeking.{restart}
 use Rattle.geo_base.specs.Setup.{Declared, Setup, declared_at, nobody}
 use Rattle.geo_base.specs.World.{Back, Forward, LinkName, Links, ToBroker, ToClient, World, cell, client_at, delivered, from_broker, from_client, link_at, node, opening_world, stamped, taken_from, topic_at, with_link}
+use Rattle.geo_base.specs.Topic.{next_marker}
+use Rattle.world_laws.specs.Starts.{most_at_start}
 use Rattle.world_laws.specs.Within.{LawMarkers, MarkersRise}
 use Rattle.world_laws.proofs.Appends.{done_entries, halted_entries}
 use Rattle.world_laws.proofs.Bounds.{table_has}
 use Rattle.world_laws.proofs.ClientRoams.{all_index}
-use Rattle.world_laws.proofs.Counts.{FewAt, few_kept}
+use Rattle.world_laws.proofs.Counts.{shape_few}
 use Rattle.world_laws.proofs.Effects.{Each, each_both}
 use Rattle.world_laws.proofs.EventWalk.{HasShape, planned_shape}
 use Rattle.world_laws.proofs.Frames.{at_map, cell_set}
-use Rattle.world_laws.proofs.Layers.{Both, Everywhere, Grounds, both_kept, grounds_kept, one_node}
-use Rattle.world_laws.proofs.NoSelf.{NoSelf}
-use Rattle.world_laws.proofs.OwnNumbers.{FewMarkers, NamedFrame, marks_few, marks_halt, shape_marks}
+use Rattle.world_laws.proofs.Layers.{Both, Everywhere, both_kept, kept_with, one_node}
+use Rattle.world_laws.proofs.NoSelf.{NoSelf, no_self_kept}
+use Rattle.world_laws.proofs.OwnNumbers.{NamedFrame, marks_few, marks_halt, shape_marks}
 use Rattle.world_laws.proofs.PairRoles.{shape_within}
-use Rattle.world_laws.proofs.Runs.{IsKept, IsKeptByEvents, between_by_events, event_done, plan_halted}
+use Rattle.world_laws.proofs.Runs.{IsKept, IsKeptByEvents, IsKeptOn, between_by_events, event_done, plan_halted}
 use Rattle.world_laws.proofs.Shapes.{Shape}
-use Rattle.world_laws.proofs.Sizes.{IsThere, Sized, node_lt, node_there, stopped_at}
+use Rattle.world_laws.proofs.Sizes.{IsThere, Sized, node_lt, node_there, sized_kept, stopped_at}
 use Rattle.world_laws.proofs.Walk.{on_if, on_test}
 
 -- WHAT CLIENTS SEND
@@ -123,10 +124,10 @@ client_name s scripted c has =
 
 -- LINKS
 
-abbrev AllNamed : Link → Type 0
+abbrev pub AllNamed : Link → Type 0
 AllNamed l = Each (λ (p : Packet). NamedFrame p.frame) l.sent
 
-abbrev NamedLinks : Links → Type 0
+abbrev pub NamedLinks : Links → Type 0
 NamedLinks ls = (c x : ℕ) → AllNamed (cell ls.to_broker c x)
 
 broker_one : (s : Setup) (t x : ℕ) (to : Peer) (l : Link) (ls : Links) → (with_link ls (from_broker s t x to) l).to_broker ≡ ls.to_broker
@@ -167,19 +168,24 @@ discarded_named m i j h =
 
 -- WORLDS
 
-abbrev Known : Setup → World → Type 0
-Known s = Both (Grounds s) (FewAt s)
+abbrev pub Known : Setup → World → Type 0
+Known s = Both (Sized s) (NoSelf s)
 
 known_kept : (s : Setup) → IsKept s (Known s)
-known_kept s = both_kept s (Grounds s) (FewAt s) (grounds_kept s) (few_kept s)
+known_kept s = both_kept s (Sized s) (NoSelf s) (sized_kept s) (kept_with s (Sized s) (NoSelf s) (no_self_kept s))
 
-abbrev FewHere : ℕ → Broker → Type 0
-FewHere x b = FewMarkers x b.entries
+-- a broker's next own marker has a number below a bound
+abbrev pub MarksTo : ℕ → ℕ → Broker → Type 0
+MarksTo n x b = next_marker x b.entries ≤ n
 
-pub record Marked (s : Setup) (w : World) : Type 0 where
-  known : Known s w
-  links : NamedLinks w.links
-  few : Everywhere s FewHere w
+-- an event writes three times at most, so it adds three at most to the number at the start
+abbrev pub FewHere : ℕ → Setup → World → Type 0
+FewHere m s w = Everywhere s (MarksTo (m + 3 * w.events)) w
+
+pub record Marked (m : ℕ) (s : Setup) (w : World) : Type 0 where
+  pub known : Known s w
+  pub links : NamedLinks w.links
+  pub few : FewHere m s w
 
 does_links : (s : Setup) (w : World) (p : Planned) → NamedLinks w.links → NamedLinks (broker_does s w p).links
 unfolding broker_does
@@ -187,22 +193,33 @@ does_links s w p h =
     on_if (λ (w' : World). NamedLinks w'.links) p.plan.idle _ _ h
     (named_taken p.takes _ (λ c x. subst (λ (m : List (List Link)). AllNamed (cell m c x)) (sym (broker_sends s p.topic p.cluster _ p.plan.sent w.links)) (h c x)))
 
-does_few : (s : Setup) (w : World) (p : Planned) → Shape s w p → NoSelf s w → NamedLinks w.links → Everywhere s FewHere w → Everywhere s FewHere (broker_does s w p)
-unfolding broker_does
-does_few s w p shape none links few =
-    let b = topic_at s w p.topic p.cluster in
-    on_if (λ (w' : World). Everywhere s FewHere w') p.plan.idle _ _ few
-    (one_node s FewHere w p.topic p.cluster (done s.per_ledger b p.plan) (shape_within s w p shape)
-    (λ here. subst (FewMarkers p.cluster) (sym (done_entries s.per_ledger b p.plan))
-    (marks_few p.cluster b.entries p.plan.writes (shape_marks s w p shape none links) (few p.topic p.cluster here))) few)
+more_few : (m : ℕ) (s : Setup) (w : World) → FewHere m s w → (t x : ℕ) → IsThere s t x → MarksTo (m + 3 * (w.events + 1)) x (topic_at s w t x)
+more_few m s w few t x there = let h = few t x there in omega (arith, h)
 
-halts_few : (s : Setup) (w : World) (k : ℕ) (p : Planned) → Shape s w p → NoSelf s w → NamedLinks w.links → Everywhere s FewHere w → Everywhere s FewHere (broker_halts s w k p)
-unfolding broker_halts
-halts_few s w k p shape none links few =
+does_few : (m : ℕ) (s : Setup) (w : World) (p : Planned) → Shape s w p → NoSelf s w → NamedLinks w.links → FewHere m s w → FewHere m s (broker_does s w p)
+unfolding broker_does
+does_few m s w p shape none links few =
     let b = topic_at s w p.topic p.cluster in
-    one_node s FewHere w p.topic p.cluster (halted s.per_ledger b k p.plan) (shape_within s w p shape)
-    (λ here. subst (FewMarkers p.cluster) (sym (halted_entries s.per_ledger b k p.plan))
-    (marks_few p.cluster b.entries (take k p.plan.writes ++ write.Ledger ∷ []) (marks_halt p.cluster b.entries k p.plan.writes (shape_marks s w p shape none links)) (few p.topic p.cluster here))) few
+    on_if (FewHere m s) p.plan.idle _ _ few
+    (one_node s (MarksTo (m + 3 * (w.events + 1))) w p.topic p.cluster (done s.per_ledger b p.plan) (shape_within s w p shape)
+    (λ here.
+    let same = ap (next_marker p.cluster) (done_entries s.per_ledger b p.plan) in
+    let more = marks_few p.cluster b.entries p.plan.writes (shape_marks s w p shape none links) in
+    let writes = shape_few s w p shape in let h = few p.topic p.cluster here in
+    omega (arith, same, more, writes, h))
+    (more_few m s w few))
+
+halts_few : (m : ℕ) (s : Setup) (w : World) (k : ℕ) (p : Planned) → Shape s w p → NoSelf s w → NamedLinks w.links → FewHere m s w → FewHere m s (broker_halts s w k p)
+unfolding broker_halts
+halts_few m s w k p shape none links few =
+    let b = topic_at s w p.topic p.cluster in
+    one_node s (MarksTo (m + 3 * (w.events + 1))) w p.topic p.cluster (halted s.per_ledger b k p.plan) (shape_within s w p shape)
+    (λ here.
+    let same = ap (next_marker p.cluster) (halted_entries s.per_ledger b k p.plan) in
+    let more = marks_halt p.cluster b.entries k p.plan.writes (shape_marks s w p shape none links) in
+    let writes = shape_few s w p shape in let h = few p.topic p.cluster here in
+    omega (arith, same, more, writes, h))
+    (more_few m s w few)
 
 halts_links : (s : Setup) (w : World) (k : ℕ) (p : Planned) → NamedLinks w.links → NamedLinks (broker_halts s w k p).links
 unfolding broker_halts
@@ -212,9 +229,9 @@ client_links : (s : Setup) (w : World) (c : ℕ) (k : Option LinkName) (a : Acte
 unfolding client_does
 client_links s w c k a sends h = on_if (λ (w' : World). NamedLinks w'.links) a.idle _ _ h (client_sends c _ a.sent (taken_from k w.links) sends (named_taken k w.links h))
 
-client_few : (s : Setup) (w : World) (c : ℕ) (k : Option LinkName) (a : Acted) → Everywhere s FewHere w → Everywhere s FewHere (client_does s w c k a)
+client_few : (m : ℕ) (s : Setup) (w : World) (c : ℕ) (k : Option LinkName) (a : Acted) → FewHere m s w → FewHere m s (client_does s w c k a)
 unfolding client_does
-client_few s w c k a few = on_if (λ (w' : World). Everywhere s FewHere w') a.idle _ _ few few
+client_few m s w c k a few = on_if (FewHere m s) a.idle _ _ few (more_few m s w few)
 
 event_links : (s : Setup) → IsScripted s → (w : World) (e : Event) → NamedLinks w.links → NamedLinks (happens s w e).links
 unfolding happens
@@ -230,65 +247,71 @@ event_links s scripted w e h = go (planned s w e)
     go None = h
     go (Some p) = does_links s w p h
 
-event_few : (s : Setup) (w : World) (e : Event) → NoSelf s w → NamedLinks w.links → Everywhere s FewHere w → Everywhere s FewHere (happens s w e)
+event_few : (m : ℕ) (s : Setup) (w : World) (e : Event) → NoSelf s w → NamedLinks w.links → FewHere m s w → FewHere m s (happens s w e)
 unfolding happens
-event_few s w (event.Go c) none links few = on_if (λ (w' : World). Everywhere s FewHere w') (has_client s c) _ _ (client_few s w c _ _ few) few
-event_few s w (event.Reconnect c) none links few = on_if (λ (w' : World). Everywhere s FewHere w') (has_client s c) _ _ (client_few s w c _ _ few) few
-event_few s w (event.Get c) none links few = on_if (λ (w' : World). Everywhere s FewHere w') (has_client s c) _ _ (client_few s w c _ _ few) few
-event_few s w e none links few = go (planned s w e) (planned_shape s w e)
+event_few m s w (event.Go c) none links few = on_if (FewHere m s) (has_client s c) _ _ (client_few m s w c _ _ few) few
+event_few m s w (event.Reconnect c) none links few = on_if (FewHere m s) (has_client s c) _ _ (client_few m s w c _ _ few) few
+event_few m s w (event.Get c) none links few = on_if (FewHere m s) (has_client s c) _ _ (client_few m s w c _ _ few) few
+event_few m s w e none links few = go (planned s w e) (planned_shape s w e)
   where
-    go : (o : Option Planned) → HasShape s w o → Everywhere s FewHere (does_planned s w o)
+    go : (o : Option Planned) → HasShape s w o → FewHere m s (does_planned s w o)
     go None shape = few
-    go (Some p) shape = does_few s w p shape none links few
+    go (Some p) shape = does_few m s w p shape none links few
 
 halted_links : (s : Setup) (w : World) (k : ℕ) (o : Option Planned) → NamedLinks w.links → NamedLinks (halts_planned s w k o).links
 halted_links s w k None h = h
 halted_links s w k (Some p) h = halts_links s w k p h
 
-halted_few : (s : Setup) (w : World) (k : ℕ) (o : Option Planned) → HasShape s w o → NoSelf s w → NamedLinks w.links → Everywhere s FewHere w
-    → Everywhere s FewHere (halts_planned s w k o)
-halted_few s w k None shape none links few = few
-halted_few s w k (Some p) shape none links few = halts_few s w k p shape none links few
+halted_few : (m : ℕ) (s : Setup) (w : World) (k : ℕ) (o : Option Planned) → HasShape s w o → NoSelf s w → NamedLinks w.links → FewHere m s w → FewHere m s (halts_planned s w k o)
+halted_few m s w k None shape none links few = few
+halted_few m s w k (Some p) shape none links few = halts_few m s w k p shape none links few
 
 stop_links : (s : Setup) (w : World) → NamedLinks w.links → NamedLinks (stops s w).links
 unfolding stops
 stop_links s w h = λ c x. discarded_named w.links.to_broker c x (h c x)
 
-stop_few : (s : Setup) (w : World) → Sized s w → Everywhere s FewHere w → Everywhere s FewHere (stops s w)
+stop_few : (m : ℕ) (s : Setup) (w : World) → Sized s w → FewHere m s w → FewHere m s (stops s w)
 unfolding stops restart
-stop_few s w z few t x there = subst (FewHere x) (sym (stopped_at w.brokers (λ b. done s.per_ledger b restart) (node s t x) (node_there s w t x z there))) (few t x there)
+stop_few m s w z few t x there =
+    subst (MarksTo (m + 3 * (w.events + 1)) x) (sym (stopped_at w.brokers (λ b. done s.per_ledger b restart) (node s t x) (node_there s w t x z there))) (more_few m s w few t x there)
 
-opening_marked : (s : Setup) → Marked s (opening_world s)
+pub opening_named : (s : Setup) → NamedLinks (opening_world s).links
+opening_named s c x = table_has AllNamed (length s.clients) (length s.clusters) c x tt
+
+opening_marked : (s : Setup) → Marked 0 s (opening_world s)
 opening_marked s = record {
   known = (known_kept s).opening;
-  links = λ c x. table_has AllNamed (length s.clients) (length s.clusters) c x tt;
+  links = opening_named s;
   few = λ t x there. let n = length s.clusters in
-      subst (FewHere x) (sym (get_or-replicate (length s.topics * n) (node s t x) (new_broker n (length s.clients)) no_broker (node_lt s t x there))) (omega arith);
+      subst (MarksTo 0 x) (sym (get_or-replicate (length s.topics * n) (node s t x) (new_broker n (length s.clients)) no_broker (node_lt s t x there))) (omega arith);
 }
 
-pub marked_kept : (s : Setup) → IsScripted s → IsKeptByEvents s (Marked s)
-marked_kept s scripted = let k = known_kept s in record {
-  opening = opening_marked s;
+pub marked_on : (m : ℕ) (s : Setup) → IsScripted s → IsKeptOn s (Marked m s)
+marked_on m s scripted = let k = known_kept s in record {
   idle = λ w n h. record { known = k.idle w n h.known; links = h.links; few = h.few };
   round = λ w n h. record { known = k.round w n h.known; links = h.links; few = h.few };
   event = λ w e h. record {
     known = event_done s (Known s) k w e h.known;
     links = event_links s scripted w e h.links;
-    few = event_few s w e h.known.0.1 h.links h.few;
+    few = event_few m s w e h.known.1 h.links h.few;
   };
   halts = λ w n e h. record {
     known = plan_halted s (Known s) k w n (planned s w e) (planned_shape s w e) h.known;
     links = halted_links s w n (planned s w e) h.links;
-    few = halted_few s w n (planned s w e) (planned_shape s w e) h.known.0.1 h.links h.few;
+    few = halted_few m s w n (planned s w e) (planned_shape s w e) h.known.1 h.links h.few;
   };
-  stop = λ w h. record { known = k.stop w h.known; links = stop_links s w h.links; few = stop_few s w h.known.0.0.sized h.few };
+  stop = λ w h. record { known = k.stop w h.known; links = stop_links s w h.links; few = stop_few m s w h.known.0 h.few };
 }
 
-pub told : (s : Setup) (w : World) → Marked s w → IsShort w → MarkersRise s w
-told s w h short t x topic cluster =
+marked_kept : (s : Setup) → IsScripted s → IsKeptByEvents s (Marked 0 s)
+marked_kept s scripted =
+    let k = marked_on 0 s scripted in record { opening = opening_marked s; idle = k.idle; round = k.round; event = k.event; halts = k.halts; stop = k.stop }
+
+pub told : (m : ℕ) (s : Setup) (w : World) → m ≤ most_at_start → Marked m s w → IsShort w → MarkersRise s w
+told m s w low h short t x topic cluster =
     let there : IsThere s t x = (topic, cluster) in
-    let few = h.few t x there in let entries = (h.known.1 t x there).entries in
-    omega (arith, few, entries, short)
+    let few = h.few t x there in
+    omega (arith, few, low, short)
 
 pub markers_between : LawMarkers
-markers_between s scripted = between_by_events s (Marked s) (λ w. IsShort w → MarkersRise s w) (marked_kept s scripted) (told s)
+markers_between s scripted = between_by_events s (Marked 0 s) (λ w. IsShort w → MarkersRise s w) (marked_kept s scripted) (λ w h. told 0 s w (omega arith) h)

@@ -30,7 +30,7 @@ use Rattle.world_laws.proofs.Added.{appended}
 use Rattle.world_laws.proofs.Asked.{named}
 use Rattle.world_laws.proofs.Caches.{Cached, cached_all}
 use Rattle.world_laws.proofs.Effects.{Each, each_both, each_map}
-use Rattle.world_laws.proofs.EventWalk.{of_target}
+use Rattle.world_laws.proofs.EventWalk.{of_node, of_pair, of_target}
 use Rattle.world_laws.proofs.Ids.{IsSmall, id_short, second_short}
 use Rattle.world_laws.proofs.OwnSizes.{AreShort, IsOwn}
 use Rattle.world_laws.proofs.Shapes.{Answered, Fated, Hears, Offers, Reads, Seeks, Served, Shape, Snaps, Taken, Updates, may_store}
@@ -44,7 +44,7 @@ IsFit names e = entry_size names e ≤ most_entry_size
 
 -- where C is what the packet carries, and ids are short where B holds
 pub data NewEntry (B : Type 0) (h : Site) (C : Entry → Type 0) : Entry → Type 0 where
-  Carried : (e : Entry) (z : ℕ) → C e → IsFit h.clusters e → NewEntry B h C (with_origin z e)
+  Carried : (e : Entry) (z : ℕ) → z < length h.clusters → C e → IsFit h.clusters e → NewEntry B h C (with_origin z e)
   Own : (b : Broker) (m : Marker) (to : Targets) (names : List (List ℕ)) → IsOwn B h m to names → NewEntry B h C (own_marker h b m to names)
 
 abbrev pub NewWrite : Type 0 → Site → (Entry → Type 0) → Write → Type 0
@@ -57,6 +57,7 @@ Carries f e = (id : ℕ) × (seq : ℕ) × (source : Option Place) × (f ≡ fra
 
 -- what a broker makes its markers of: names of subscriptions, cuts that have a place for each cluster, and, where B holds, short ids
 pub record Brief (B : Type 0) (h : Site) (b : Broker) : Type 0 where
+  pub own : h.own < length h.clusters
   pub names : AreShort h.clusters
   pub wide : WideAt (length h.clusters) b
   pub next : B → IsSmall (next_position h.per_ledger b.ledgers)
@@ -88,7 +89,7 @@ served_new B h b c p q f Served.Disconnects = tt
 served_new B h b c p q f (Served.Connects s is new) = tt
 served_new B h b c p q f (Served.Answers s g at) = tt
 served_new B h b c p q f (Served.ChangesProducers s ps g at) = tt
-served_new B h b c p q f (Served.Stores s id seq source e at sound new) = (NewEntry.Carried e h.own (id, seq, source, sound.0) (sound_fits h sound.1.0 seq source e sound.1.2), tt)
+served_new B h b c p q f (Served.Stores s id seq source e at sound new) = (NewEntry.Carried e h.own f.own (id, seq, source, sound.0) (sound_fits h sound.1.0 seq source e sound.1.2), tt)
 served_new B h b c p q f (Served.Repeats s id seq source e at sound old) = tt
 served_new B h b c p q f (Served.Creates s topic n kind id request consumer earliest replicated at is may named) = (tt, tt)
 served_new B h b c p q f (Served.Joins s topic n kind id request consumer earliest replicated v at is may named free same) = tt
@@ -99,13 +100,13 @@ served_new B h b c p q f (Served.Acknowledges s id kind ps v i is ws at sent by 
 served_new B h b c p q f (Served.Unsubscribes s id request v at is by last) = (tt, tt)
 served_new B h b c p q f (Served.ClosesConsumer s id request v at is by) = tt
 
-taken_new : (B : Type 0) (h : Site) (b : Broker) (x : ℕ) (p : Packet) (q : Plan) → Taken h b x p q → Each (NewWrite B h (Carries p.frame)) q.writes
-taken_new B h b x p q (Taken.Stores id seq source e is at may new) = (NewEntry.Carried e x (id, seq, source, is) (stored_fits h x id seq source e p.frame is may), tt)
-taken_new B h b x p q (Taken.Unreadable is) = tt
-taken_new B h b x p q (Taken.Opens topic id request name is opening) = tt
-taken_new B h b x p q (Taken.Discards other shut) = tt
-taken_new B h b x p q (Taken.Refuses other at may) = tt
-taken_new B h b x p q (Taken.Repeats id seq source e is at may old) = tt
+taken_new : (B : Type 0) (h : Site) (b : Broker) (x : ℕ) (p : Packet) (q : Plan) → x < length h.clusters → Taken h b x p q → Each (NewWrite B h (Carries p.frame)) q.writes
+taken_new B h b x p q lt (Taken.Stores id seq source e is at may new) = (NewEntry.Carried e x lt (id, seq, source, is) (stored_fits h x id seq source e p.frame is may), tt)
+taken_new B h b x p q lt (Taken.Unreadable is) = tt
+taken_new B h b x p q lt (Taken.Opens topic id request name is opening) = tt
+taken_new B h b x p q lt (Taken.Discards other shut) = tt
+taken_new B h b x p q lt (Taken.Refuses other at may) = tt
+taken_new B h b x p q lt (Taken.Repeats id seq source e is at may old) = tt
 
 answered_new : (F : Write → Type 0) → ((z i : ℕ) → F (write.SenderAck z i)) → (b : Broker) (y : ℕ) (p : Packet) (q : Plan) → Answered b y p q → Each F q.writes
 answered_new F acks b y p q (Answered.Stale other) = tt
@@ -181,7 +182,7 @@ TakenEntry w p e = (q : Packet) × (packet_at w.links p.takes ≡ Some q) × Car
 
 -- it carries what the packet that was found carries
 new_more : (B : Type 0) (h : Site) (C D : Entry → Type 0) → ((e : Entry) → C e → D e) → (e : Entry) → NewEntry B h C e → NewEntry B h D e
-new_more B h C D f e (NewEntry.Carried a z c fit) = NewEntry.Carried a z (f a c) fit
+new_more B h C D f e (NewEntry.Carried a z lt c fit) = NewEntry.Carried a z lt (f a c) fit
 new_more B h C D f e (NewEntry.Own b m to names own) = NewEntry.Own b m to names own
 
 write_more : (B : Type 0) (h : Site) (C D : Entry → Type 0) → ((e : Entry) → C e → D e) → (w : Write) → NewWrite B h C w → NewWrite B h D w
@@ -207,7 +208,7 @@ shape_new B s w p (Shape.Read t x y plan within reads) f = reads_new B (site s t
 shape_new B s w p (Shape.Take t x y q plan within next taken) f =
     let h = site s t y in
     taken_more B h w (record { topic = t; cluster = y; takes = Some (Forward (node s t x) y); plan = plan }) q plan.writes next
-    (fated_new (NewWrite B h (Carries q.frame)) s.per_ledger _ _ (closes x) plan (λ c r k. taken_new B h c x q r k) tt taken)
+    (fated_new (NewWrite B h (Carries q.frame)) s.per_ledger _ _ (closes x) plan (λ c r k. taken_new B h c x q r (ltb-true _ _ (of_node s t x (of_pair s t x y within))) k) tt taken)
 shape_new B s w p (Shape.Receipt t x y q plan within next answered) f =
     let F = NewWrite B (site s t x) (TakenEntry w (record { topic = t; cluster = x; takes = Some (Back (node s t x) y); plan = plan })) in
     fated_new F s.per_ledger _ _ (quiet_plan []) plan (λ c r k. answered_new F (λ z i. tt) c y q r k) tt answered

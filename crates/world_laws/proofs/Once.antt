@@ -41,7 +41,7 @@ accepts_newer (e ∷ es) i h zero a g s =
 accepts_newer (e ∷ es) i h (suc k) a g s =
     accepts_newer es i (grind (arith, nat_tests)) k a g s
 
-once_push : (es : List Entry) (e : Entry) → OnceIn es → accepts es e.ident ≡ true → OnceIn (es ++ e ∷ [])
+pub once_push : (es : List Entry) (e : Entry) → OnceIn es → accepts es e.ident ≡ true → OnceIn (es ++ e ∷ [])
 once_push es e once ok i j a b lt ga gb same =
     elim (get_push es e i a ga) [
       | inl p ↦ elim (get_push es e j b gb) [

@@ -1,9 +1,10 @@
 -- An own marker gets the number after those of all own markers, and nothing else that a topic stores has the name of their producer:
 -- a client's name has no full stop in it, and what another cluster sent is of another origin.
-use Rattle.std.proofs.Common.{◌≡◌, ℕ, zero, suc, ◌+◌, ◌≤◌, ◌==◌, Bool, true, false, List, [], ◌∷◌, ◌++◌, length, max, refl, sym, subst, ◌∙◌, arith}
+use Rattle.std.proofs.Common.{◌≡◌, ℕ, zero, suc, ◌+◌, ◌≤◌, ◌==◌, Bool, true, false, List, [], ◌∷◌, ◌++◌, length, max, refl, sym, ap, subst, ◌∙◌, arith}
 use Rattle.std.specs.Prelude.{Option, if◌then◌else◌, take}
 use Rattle.std.specs.Str.{bytes_eq}
 use Rattle.std.proofs.lemmas.Bool.{eqb-true, false≢true, ltb-true}
+use Rattle.std.proofs.lemmas.List.{length-take}
 use Rattle.std.proofs.lemmas.Slice.Eq.{bytes_eq-Decides}
 use Rattle.world_laws.proofs.Types.{Entry, Frame, Packet, Position, Write}
 use Rattle.world_laws.proofs.Types.frame
@@ -23,7 +24,7 @@ use Rattle.geo_base.specs.Subscription.{Subscription}
 use Rattle.geo_base.specs.Topic.{next_marker, next_position}
 use Rattle.geo_base.specs.World.{ToBroker, World, link_at, site, topic_at}
 use Rattle.world_laws.proofs.Added.{came_other}
-use Rattle.world_laws.proofs.Appends.{after_writes, done_entries}
+use Rattle.world_laws.proofs.Appends.{after_halt, after_writes, done_entries}
 use Rattle.world_laws.proofs.Effects.{Each}
 use Rattle.world_laws.proofs.EventWalk.{of_target}
 use Rattle.world_laws.proofs.NoSelf.{NoSelf}
@@ -33,9 +34,9 @@ use Rattle.world_laws.proofs.Walk.{by_test, left, right}
 
 -- NUMBERS
 
--- an entry at the end of others that has the name of an own marker has their next number at most
-abbrev Numbered : ℕ → List Entry → Entry → Type 0
-Numbered own es e = is_own_marker own e ≡ true → e.ident.seq ≤ next_marker own es
+-- an entry at the end of others that has the name of an own marker has their next number
+abbrev pub Numbered : ℕ → List Entry → Entry → Type 0
+Numbered own es e = is_own_marker own e ≡ true → e.ident.seq ≡ next_marker own es
 
 abbrev pub Marks : ℕ → List Entry → List Write → Type 0
 Marks own es [] = Unit {0}
@@ -61,39 +62,44 @@ length_push : (es : List Entry) (e : Entry) → length (es ++ e ∷ []) ≡ leng
 length_push [] e = refl
 length_push (f ∷ es) e = let l = length_push es e in omega (arith, l)
 
-one_few : (own : ℕ) (es : List Entry) (e : Entry) → Numbered own es e → FewMarkers own es → FewMarkers own (es ++ e ∷ [])
-one_few own es e numbered few =
-    by (is_own_marker own e) refl
+-- one more entry raises the number by one at most
+pub one_marker : (own : ℕ) (es : List Entry) (e : Entry) → Numbered own es e → next_marker own (es ++ e ∷ []) ≤ next_marker own es + 1
+one_marker own es e numbered = by (is_own_marker own e) refl
   where
-    l : length (es ++ e ∷ []) ≡ length es + 1
-    l = length_push es e
-
-    by : (b : Bool) → is_own_marker own e ≡ b → next_marker own (es ++ e ∷ []) ≤ length (es ++ e ∷ [])
+    by : (b : Bool) → is_own_marker own e ≡ b → next_marker own (es ++ e ∷ []) ≤ next_marker own es + 1
     by true is =
         let p = subst (λ (b : Bool). next_marker own (es ++ e ∷ []) ≤ (if b then max (e.ident.seq + 1) (next_marker own es) else next_marker own es)) is (push_marker own es e) in
-        let n = numbered is in grind (arith, p, n, few, l)
+        let n = numbered is in grind (arith, p, n)
     by false is =
         let p = subst (λ (b : Bool). next_marker own (es ++ e ∷ []) ≤ (if b then max (e.ident.seq + 1) (next_marker own es) else next_marker own es)) is (push_marker own es e) in
-        omega (arith, p, few, l)
+        omega (arith, p)
 
-pub marks_few : (own : ℕ) (es : List Entry) (ws : List Write) → Marks own es ws → FewMarkers own es → FewMarkers own (after_writes es ws)
-marks_few own es [] m few = few
-marks_few own es (write.Append e ∷ ws) m few = marks_few own (es ++ e ∷ []) ws m.1 (one_few own es e m.0 few)
-marks_few own es (w ∷ ws) m few = marks_few own es ws m few
+pub one_few : (own : ℕ) (es : List Entry) (e : Entry) → Numbered own es e → FewMarkers own es → FewMarkers own (es ++ e ∷ [])
+one_few own es e numbered few = let l = length_push es e in let one = one_marker own es e numbered in omega (arith, l, one, few)
+
+-- so many writes raise it by so many at most
+pub marks_few : (own : ℕ) (es : List Entry) (ws : List Write) → Marks own es ws → next_marker own (after_writes es ws) ≤ next_marker own es + length ws
+marks_few own es [] m = omega arith
+marks_few own es (write.Append e ∷ ws) m = let rest = marks_few own (es ++ e ∷ []) ws m.1 in let one = one_marker own es e m.0 in omega (arith, rest, one)
+marks_few own es (w ∷ ws) m = let rest = marks_few own es ws m in omega (arith, rest)
 
 marks_both : (own : ℕ) (es : List Entry) (ws vs : List Write) → Marks own es ws → Marks own (after_writes es ws) vs → Marks own es (ws ++ vs)
 marks_both own es [] vs h k = k
 marks_both own es (write.Append e ∷ ws) vs h k = (h.0, marks_both own (es ++ e ∷ []) ws vs h.1 k)
 marks_both own es (w ∷ ws) vs h k = marks_both own es ws vs h k
 
-marks_take : (own : ℕ) (es : List Entry) (k : ℕ) (ws : List Write) → Marks own es ws → Marks own es (take k ws)
+pub marks_take : (own : ℕ) (es : List Entry) (k : ℕ) (ws : List Write) → Marks own es ws → Marks own es (take k ws)
 marks_take own es zero ws h = tt
 marks_take own es (suc k) [] h = tt
 marks_take own es (suc k) (write.Append e ∷ ws) h = (h.0, marks_take own (es ++ e ∷ []) k ws h.1)
 marks_take own es (suc k) (w ∷ ws) h = marks_take own es k ws h
 
-pub marks_halt : (own : ℕ) (es : List Entry) (k : ℕ) (ws : List Write) → Marks own es ws → Marks own es (take k ws ++ write.Ledger ∷ [])
-marks_halt own es k ws h = marks_both own es (take k ws) (write.Ledger ∷ []) (marks_take own es k ws h) tt
+-- behind a beginning of them, and a new ledger
+pub marks_halt : (own : ℕ) (es : List Entry) (k : ℕ) (ws : List Write) → Marks own es ws → next_marker own (after_writes es (take k ws ++ write.Ledger ∷ [])) ≤ next_marker own es + length ws
+marks_halt own es k ws m =
+    let same = ap (next_marker own) (after_halt es (take k ws)) in
+    let some = marks_few own es (take k ws) (marks_take own es k ws m) in
+    let fewer = length-take k ws in grind (arith, same, some, fewer)
 
 -- ENTRIES
 
@@ -120,7 +126,7 @@ foreign_numbered : (own x : ℕ) (es : List Entry) (e : Entry) → (x ≡ own �
 foreign_numbered own x es e other is = absurd (other (eqb-true x own (left (x == own) (bytes_eq e.ident.producer marker_producer) is)))
 
 own_numbered : (own : ℕ) (es : List Entry) (e : Entry) → e.ident.seq ≡ next_marker own es → Numbered own es e
-own_numbered own es e is of = omega (arith, is)
+own_numbered own es e is of = is
 
 -- SHAPES
 

@@ -6,7 +6,7 @@ use Rattle.world_laws.proofs.Types.event
 use Rattle.world_laws.proofs.Types.step
 use Rattle.geo_base.specs.Client.{Acted}
 use Rattle.geo_base.specs.Happening.{broker_does, broker_halts, client_does, does_planned, happens, halts_planned, stops}
-use Rattle.geo_base.specs.Laws.{Always, AlwaysIn, BetweenEvents}
+use Rattle.geo_base.specs.Laws.{Always, AlwaysIn, BetweenEvents, begun}
 use Rattle.geo_base.specs.Planned.{Planned, has_client, planned}
 use Rattle.geo_base.specs.Run.{Limits, Ran, all_settle, budget, counting_round, ends_or, goes_on, no_limits, pairs, resets_of, round_of, rounds_of, run, run_from, run_under, settled_world, settles, steps}
 use Rattle.geo_base.specs.Settled.{SettledSoFar}
@@ -37,6 +37,17 @@ pub record IsKeptByEvents (s : Setup) (P : World → Type 0) : Type 0 where
   pub halts : (w : World) (k : ℕ) (e : Event) → P w → P (halts_planned s w k (planned s w e))
   pub stop : (w : World) → P w → P (stops s w)
 
+-- the same of a fact that need not hold of the opening world
+pub record IsKeptOn (s : Setup) (P : World → Type 0) : Type 0 where
+  pub idle : (w : World) (n : ℕ) → P w → P (record w { idle = n })
+  pub round : (w : World) (n : ℕ) → P w → P (record w { rounds = n })
+  pub event : (w : World) (e : Event) → P w → P (happens s w e)
+  pub halts : (w : World) (k : ℕ) (e : Event) → P w → P (halts_planned s w k (planned s w e))
+  pub stop : (w : World) → P w → P (stops s w)
+
+pub kept_on : (s : Setup) (P : World → Type 0) → IsKeptByEvents s P → IsKeptOn s P
+kept_on s P k = record { idle = k.idle; round = k.round; event = k.event; halts = k.halts; stop = k.stop }
+
 abbrev Holds : (World → Type 0) → Ran → Type 0
 Holds P r = P r.world
 
@@ -62,12 +73,12 @@ ended l P r w (Some n) p q = p
 gone_on : (l : Limits) (P : World → Type 0) (r : Ran) (w : World) → P r.world → P w → Holds P (goes_on l r w)
 gone_on l P r w p q = on_if (Holds P) (is_some r.ended) _ _ p (ended l P r w (l w) p q)
 
-each_settled : (l : Limits) (s : Setup) (P : World → Type 0) (k : IsKeptByEvents s P) (r : Ran) (es : List Event) → P r.world → Holds P (all_settle l s r es)
+each_settled : (l : Limits) (s : Setup) (P : World → Type 0) (k : IsKeptOn s P) (r : Ran) (es : List Event) → P r.world → Holds P (all_settle l s r es)
 each_settled l s P k r [] p = p
 each_settled l s P k r (e ∷ es) p =
     each_settled l s P k (settles l s r e) es (gone_on l P r _ p (k.idle (happens s r.world e) r.world.idle (k.event r.world e p)))
 
-rounds_done : (n : ℕ) (l : Limits) (s : Setup) (P : World → Type 0) (k : IsKeptByEvents s P) (r : Ran) → P r.world → Holds P (rounds_of n l s r)
+rounds_done : (n : ℕ) (l : Limits) (s : Setup) (P : World → Type 0) (k : IsKeptOn s P) (r : Ran) → P r.world → Holds P (rounds_of n l s r)
 rounds_done zero l s P k r p = p
 rounds_done (suc n) l s P k r p =
     let r' : Ran = all_settle l s r (round_of (pairs s)) in
@@ -75,7 +86,7 @@ rounds_done (suc n) l s P k r p =
     on_elim (Holds P) (is_some r'.ended || (r'.world.events == r.world.events)) r' (rounds_of n l s (counting_round r')) p'
     (rounds_done n l s P k (counting_round r') (k.round r'.world (r'.world.rounds + 1) p'))
 
-step_done : (l : Limits) (s : Setup) (P : World → Type 0) (k : IsKeptByEvents s P) (r : Ran) (e : Step) → P r.world → Holds P (steps l s r e)
+step_done : (l : Limits) (s : Setup) (P : World → Type 0) (k : IsKeptOn s P) (r : Ran) (e : Step) → P r.world → Holds P (steps l s r e)
 unfolding steps settled_world
 step_done l s P k r (step.Plain e) p = gone_on l P r _ p (k.event r.world e p)
 step_done l s P k r (step.Halt n e) p = gone_on l P r _ p (k.halts r.world n e p)
@@ -83,7 +94,7 @@ step_done l s P k r step.Settle p =
     rounds_done (budget s r.world + 1) l s P k (all_settle l s r (resets_of (pairs s))) (each_settled l s P k r (resets_of (pairs s)) p)
 step_done l s P k r step.Stop p = gone_on l P r _ p (k.stop r.world p)
 
-steps_done : (l : Limits) (s : Setup) (P : World → Type 0) (k : IsKeptByEvents s P) (r : Ran) (es : List Step) → P r.world → Holds P (run_from l s r es)
+steps_done : (l : Limits) (s : Setup) (P : World → Type 0) (k : IsKeptOn s P) (r : Ran) (es : List Step) → P r.world → Holds P (run_from l s r es)
 steps_done l s P k r [] p = p
 steps_done l s P k r (e ∷ es) p = steps_done l s P k (steps l s r e) es (step_done l s P k r e p)
 
@@ -100,9 +111,9 @@ by_events s P k = record {
 
 -- so it holds at the end of every run, under whatever limits
 run_done : (l : Limits) (s : Setup) (P : World → Type 0) → IsKeptByEvents s P → (es : List Step) → P (run_under l s es).world
-run_done l s P k es = steps_done l s P k (record { world = opening_world s; ended = None }) es k.opening
+run_done l s P k es = steps_done l s P (kept_on s P k) (record { world = opening_world s; ended = None }) es k.opening
 
-settling_done : (l : Limits) (s : Setup) (P : World → Type 0) (k : IsKeptByEvents s P) (r : Ran) (at : Settling) → P r.world → Holds P (settling_so_far l s r at)
+settling_done : (l : Limits) (s : Setup) (P : World → Type 0) (k : IsKeptOn s P) (r : Ran) (at : Settling) → P r.world → Holds P (settling_so_far l s r at)
 settling_done l s P k r NotBegun p = p
 settling_done l s P k r (Resetting n) p = each_settled l s P k r (take n (resets_of (pairs s))) p
 settling_done l s P k r (InRound m n) p =
@@ -111,7 +122,14 @@ settling_done l s P k r (InRound m n) p =
 
 -- and between any two events of it
 done_between : (l : Limits) (s : Setup) (P : World → Type 0) → IsKeptByEvents s P → (es : List Step) (at : Settling) → P (world_between l s es at)
-done_between l s P k es at = settling_done l s P k (run_under l s es) at (run_done l s P k es)
+done_between l s P k es at = settling_done l s P (kept_on s P k) (run_under l s es) at (run_done l s P k es)
+
+-- the same of runs that start elsewhere
+pub run_on : (l : Limits) (s : Setup) (P : World → Type 0) → IsKeptOn s P → (v : World) → P v → (es : List Step) → P (run_from l s (begun v) es).world
+run_on l s P k v p es = steps_done l s P k (begun v) es p
+
+pub between_on : (l : Limits) (s : Setup) (P : World → Type 0) → IsKeptOn s P → (v : World) → P v → (es : List Step) (at : Settling) → P (settling_so_far l s (run_from l s (begun v) es) at).world
+between_on l s P k v p es at = settling_done l s P k (run_from l s (begun v) es) at (run_on l s P k v p es)
 
 -- what then holds of a world in the midst of the writes of any event holds at every moment
 moment_done : (l : Limits) (s : Setup) (P Q : World → Type 0) → IsKeptByEvents s P → ((w : World) → P w → Q w)
@@ -140,7 +158,7 @@ always_by_events s P Q k weaker written = record {
 
 -- the same of what the parts keep
 pub all_settled : (l : Limits) (s : Setup) (P : World → Type 0) (k : IsKept s P) (r : Ran) (es : List Event) → P r.world → Holds P (all_settle l s r es)
-all_settled l s P k r es p = each_settled l s P (by_events s P k) r es p
+all_settled l s P k r es p = each_settled l s P (kept_on s P (by_events s P k)) r es p
 
 pub in_run : (l : Limits) (s : Setup) (P : World → Type 0) → IsKept s P → (es : List Step) → P (run_under l s es).world
 in_run l s P k es = run_done l s P (by_events s P k) es

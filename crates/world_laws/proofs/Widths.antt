@@ -28,7 +28,7 @@ use Rattle.geo_base.specs.World.{LinkName, ToClient, World, node, opening_world,
 use Rattle.world_laws.proofs.Building.{all_written_builder, builder_then, done_builder}
 use Rattle.world_laws.proofs.Caches.{AllCached, AllIn, Brings, Cached, all_changed_cached, all_written_cached}
 use Rattle.world_laws.proofs.Effects.{Each, each_both, each_map, each_take}
-use Rattle.world_laws.proofs.Layers.{Everywhere, Grounds, KeptWith, one_node}
+use Rattle.world_laws.proofs.Layers.{Everywhere, KeptWith, one_node}
 use Rattle.world_laws.proofs.OwnSizes.{middle}
 use Rattle.world_laws.proofs.PairRoles.{shape_within}
 use Rattle.world_laws.proofs.PeerWalk.{each_filter}
@@ -334,7 +334,7 @@ wide_opening s t x there =
     subst (WideAt n) (sym (get_or-replicate (length s.topics * n) (node s t x) (new_broker n (length s.clients)) no_broker (node_lt s t x there)))
     (record { names = tt; caches = λ k v at. absurd (none-some v at); builder = λ u is. absurd (none-some u is) })
 
-pub wide_kept : (s : Setup) → KeptWith s (Grounds s) (AllWide s)
+pub wide_kept : (s : Setup) → KeptWith s (Sized s) (AllWide s)
 wide_kept s = record {
   opening = wide_opening s;
   idle = λ w n g all. all;
@@ -343,5 +343,5 @@ wide_kept s = record {
   halts = λ w k p shape g g' all. wide_halts s w k p shape all;
   goes = λ w c a g g' all. wide_client s w c None a all;
   gets = λ w c x a g g' all. wide_client s w c (Some (ToClient c x)) a all;
-  stop = λ w g g' all. wide_stops s w g.0.sized all;
+  stop = λ w z z' all. wide_stops s w z all;
 }

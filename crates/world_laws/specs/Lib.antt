@@ -4,4 +4,7 @@ pub mod ByteHistories
 pub mod Plain
 pub mod Small
 pub mod Frames
+pub mod Indexes
+pub mod Starts
 pub mod Reached
+pub mod AlikeWorlds

@@ -19,10 +19,15 @@ pub fn law_markers()
     ensures between { LawMarkers }
 {}
 
+/// A run starts in the opening world, or where a run was kept behind a stop: with brokers that have nothing in memory, clients that
+/// are not connected, counts within the limits, and links that were never used; the opening world is such a start (`opening`).
 /// Between any two events of a run, also inside settling, the world is one that is reached by events, stops inside an event and
-/// stops of everything from the opening world (`comes`); and in each world that is reached so there are as many nodes, clients and
-/// places as the setup says, its numbers have room, what was sent and is stored is plain and within the limits, and what the next
-/// event sends is plain (`ground`).
+/// stops of everything from where it started (`comes` from the opening world, `goes_on` from any). In each world that is reached
+/// from a start, for every setup that a script can declare, there are as many nodes, clients and places as the setup says, its
+/// numbers have room, and what the next event sends can be read (`ground`); each entry that is stored or was sent is plain or one
+/// of the start's, and no message stands twice (`carried`); and, for every setup, each index in a cursor is that of a stored entry
+/// (`indexes`). What is kept of such a world behind a stop is a start again, where its counts and the lengths of its topics are such
+/// as a start may have (`kept`), as they are behind the steps of every script's run that no limit ends (`saved`).
 pub fn law_reached()
     ensures { LawReached }
 {}
