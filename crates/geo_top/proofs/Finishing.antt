@@ -14,7 +14,8 @@ use Rattle.script_text.specs.Script.{Script}
 use Rattle.world_kept.specs.Kept.{Kept, opening_kept}
 use Rattle.world_kept.specs.Standing.{Stands}
 use Rattle.world_kept.proofs.Keeping.{opening}
-use Rattle.world_laws.specs.Reached.{Opening, Reached}
+use Rattle.world_kept.proofs.Reaching.{opening_reached}
+use Rattle.world_kept.specs.Reached.{Reached}
 use Rattle.geo_top.specs.declared.top.answer.Answer.{Answer}
 use Rattle.geo_top.specs.declared.top.status.Status.TheVariants as status
 use Rattle.geo_top.specs.Finished.{IsFinished}
@@ -30,7 +31,7 @@ from_opening : (n : Script) (old new : WorldBook) (es : List Step) (r : Result (
 from_opening n old new es r opens is comes =
     let s = n.setup in
     subst (λ (es : List Step). Comes s new (run_from all_limits s (at_world (opening_world s)) es) r) is
-    (comes (opening_world s) Opening (subst (λ (k : Kept). Stands s k (opening_world s)) (sym opens) (opening s)))
+    (comes (opening_world s) (opening_reached s) (subst (λ (k : Kept). Stands s k (opening_world s)) (sym opens) (opening s)))
 
 ok_of : (X : Type 0) (r : Result (Unit {0}) RunFault) (u : Unit {0}) → r ≡ Ok u → OnOk r X → X
 ok_of X r u is h = subst (λ (r : Result (Unit {0}) RunFault). OnOk r X) is h

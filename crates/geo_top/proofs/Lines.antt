@@ -13,7 +13,7 @@ use Rattle.node_report.proofs.Parts.{lines_added, with_line_feeds-append}
 use Rattle.report_lines.proofs.Added.{line_added}
 use Rattle.topic_node.specs.Node.{NodeBook}
 use Rattle.world_laws.specs.Reached.{IsGround}
-use Rattle.world_laws.proofs.Reaching.{ground}
+use Rattle.world_kept.proofs.Reaching.{ground}
 use Rattle.world_laws.proofs.Sizes.{node_lt}
 use Rattle.geo_top.specs.Shown.{shown_world}
 use Rattle.geo_top.specs.Summary.{big_line, stored_line, stored_lines, summary, summary_lines}

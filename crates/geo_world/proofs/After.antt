@@ -10,7 +10,8 @@ use Rattle.geo_base.specs.Setup.{Setup}
 use Rattle.geo_base.specs.World.{World}
 use Rattle.world_kept.proofs.Keeping.{counts}
 use Rattle.world_kept.specs.Standing.{Stands, limit_of}
-use Rattle.world_laws.specs.Reached.{AfterEvent, AfterHalt, Reached}
+use Rattle.world_kept.proofs.Reaching.{event_reached, halt_reached}
+use Rattle.world_kept.specs.Reached.{Reached}
 use Rattle.geo_world.specs.Steps.{Leads}
 use Rattle.geo_world.specs.World.{AreNodes, IsAt, IsWithin, SameWorld, WorldBook, kept_of}
 use Rattle.geo_world.proofs.Leading.{Answer}
@@ -45,11 +46,11 @@ after s old new next (Ok unit) h leads reaches nodes same =
 
 pub after_event : (s : Setup) (old new : WorldBook) (e : Event) (r : Answer) → IsAt s old
     → ((w : World) → Reached s w → Stands s (kept_of old) w → Leads s old new (happens s w e) r) → AreNodes s new.nodes → OnErr r (SameWorld old new) → IsAt s new
-after_event s old new e r h leads nodes same = after s old new (λ w. happens s w e) r h leads (λ w reached. AfterEvent w e reached) nodes same
+after_event s old new e r h leads nodes same = after s old new (λ w. happens s w e) r h leads (λ w reached. event_reached s w e reached) nodes same
 
 pub after_halt : (s : Setup) (old new : WorldBook) (k : ℕ) (e : Event) (r : Answer) → IsAt s old
     → ((w : World) → Reached s w → Stands s (kept_of old) w → Leads s old new (halts_planned s w k (planned s w e)) r) → AreNodes s new.nodes → OnErr r (SameWorld old new) → IsAt s new
-after_halt s old new k e r h leads nodes same = after s old new (λ w. halts_planned s w k (planned s w e)) r h leads (λ w reached. AfterHalt w k e reached) nodes same
+after_halt s old new k e r h leads nodes same = after s old new (λ w. halts_planned s w k (planned s w e)) r h leads (λ w reached. halt_reached s w k e reached) nodes same
 
 pub err_same : (old new : WorldBook) (r : Answer) → OnErr r (new ≡ old) → OnErr r (SameWorld old new)
 err_same old new (Ok unit) is = tt

@@ -34,15 +34,16 @@ use Rattle.world_kept.specs.Kept.{Kept, client_acted, idled, stamp_at}
 use Rattle.world_kept.specs.Standing.{Stands, limit_of}
 use Rattle.world_laws.proofs.Bounds.{packet_within}
 use Rattle.world_laws.proofs.ClientRoams.{all_index}
-use Rattle.world_laws.proofs.Reaching.{ground}
-use Rattle.world_laws.specs.Reached.{Reached}
+use Rattle.world_kept.proofs.Reaching.{ground}
+use Rattle.world_kept.specs.Reached.{Reached}
+use Rattle.world_laws.specs.Starts.{most_at_start}
 use Rattle.world_laws.specs.Within.{ClientWithin}
 use Rattle.geo_world.specs.ClientSteps.{IsSent, client_in, client_outs, no_client}
 use Rattle.geo_world.specs.declared.fault.RunFault.TheVariants as fault
 use Rattle.geo_world.specs.Steps.{Leads}
 use Rattle.geo_world.specs.World.{AreNodes, IsAt, WorldBook, kept_of}
 use Rattle.geo_world.proofs.Leading.{Answer, leads_by, on_ok}
-use Rattle.geo_world.proofs.Places.{below, few, ground_of}
+use Rattle.geo_world.proofs.Places.{below, few, ground_of, most_number}
 
 -- ---- what a client knows
 
@@ -76,7 +77,7 @@ client_is s b w c h lt stands =
     same_default b.clients c no_client (new_client (declared_at s c)) (client_below s b c h lt)
     ∙ ap (λ (ms : List Client). slice_index_or ms c (new_client (declared_at s c))) stands.clients
 
-counts_of : (n : ℕ) (k : Client) → n ≤ 2000000 → ClientWithin n k → CanCount k
+counts_of : (n : ℕ) (k : Client) → n ≤ most_number → ClientWithin n k → CanCount k
 counts_of n k most h = record {
   connection = omega (arith, most, h.connection);
   receipts = omega (arith, most, h.receipts);
@@ -86,14 +87,15 @@ counts_of n k most h = record {
 
 pub can_count : (s : Setup) (b : WorldBook) (c : ℕ) → IsAt s b → c < length s.clients → CanCount (client_in b.clients c)
 can_count s b c h lt =
-    subst CanCount (sym (client_is s b h.world c h lt h.stands)) (counts_of h.world.events (client_at s h.world c) (few s b h) ((ground_of s b h).numbers.clients c))
+    let most = few s b h in
+    subst CanCount (sym (client_is s b h.world c h lt h.stands)) (counts_of (most_at_start + h.world.events) (client_at s h.world c) (omega (arith, most)) ((ground_of s b h).numbers.clients c))
 
 pub stamp_within : (s : Setup) (b : WorldBook) (c : ℕ) (takes : Option LinkName) → IsAt s b → stamp_at b.client_clocks c b.links takes < 2 ^ 64
 stamp_within s b c takes h =
-    let g = ground_of s b h in let w = h.world in let most = few s b h in
-    let clock : slice_index b.client_clocks c ≤ w.events = subst (λ (cs : List ℕ). slice_index cs c ≤ w.events) (sym h.stands.client_clocks) (g.numbers.client_clocks c) in
-    let packet : stamp_of (packet_on b.links takes) ≤ w.events =
-    subst (λ (m : ℕ). m ≤ w.events) (sym (stamp_is s.clusters takes b.links w.links h.stands.links)) (packet_within w.events w.links (taken_name (length s.clusters) takes) g.numbers.stamps) in
+    let g = ground_of s b h in let w = h.world in let most = few s b h in let m : ℕ = most_at_start + w.events in
+    let clock : slice_index b.client_clocks c ≤ m = subst (λ (cs : List ℕ). slice_index cs c ≤ m) (sym h.stands.client_clocks) (g.numbers.client_clocks c) in
+    let packet : stamp_of (packet_on b.links takes) ≤ m =
+    subst (λ (k : ℕ). k ≤ m) (sym (stamp_is s.clusters takes b.links w.links h.stands.links)) (packet_within m w.links (taken_name (length s.clusters) takes) g.numbers.stamps) in
     omega (arith, most, clock, packet)
 
 pub stamp_fits : (s : Setup) (b : WorldBook) (c : ℕ) → IsAt s b → stamp_at b.client_clocks c b.links None < 2 ^ 64

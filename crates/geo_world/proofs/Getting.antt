@@ -23,8 +23,8 @@ use Rattle.wire_links.specs.Queues.{packet_on}
 use Rattle.world_kept.proofs.Keeping.{client_gets, client_waits, counts, input}
 use Rattle.world_kept.specs.Kept.{Kept, client_acted, idled, stamp_at}
 use Rattle.world_kept.specs.Standing.{IsInput, Stands, limit_of}
-use Rattle.world_laws.proofs.Reaching.{ground}
-use Rattle.world_laws.specs.Reached.{Reached}
+use Rattle.world_kept.proofs.Reaching.{told_frames}
+use Rattle.world_kept.specs.Reached.{Reached}
 use Rattle.geo_world.specs.ClientSteps.{IsGot, after_got, client_in, no_client}
 use Rattle.geo_world.specs.declared.fault.RunFault.{RunFault}
 use Rattle.geo_world.specs.declared.fault.RunFault.TheVariants as fault
@@ -185,7 +185,7 @@ leads_get s old mid new w c site link took unit h lt reached stands setup declar
     let v = taken_by w c (client_at s w c).cluster in
     let taken : Both (IsInput s.clusters) (packet_on old.links (Some link)) v =
     subst (λ (l : LinkName). Both (IsInput s.clusters) (packet_on old.links (Some l)) v) (sym link_is)
-    (input s (kept_of old) w (Some (name.ToClient c (client_at s w c).cluster)) h.setup (ground s h.setup w reached) stands) in
+    (input s (kept_of old) w (Some (name.ToClient c (client_at s w c).cluster)) (told_frames s w h.setup reached) stands) in
     let there : IsGot s.clusters (declared_at s c) c link old mid took =
     subst (λ (d : Declared). IsGot s.clusters d c link old mid took) declared (subst (λ (u : Setup). IsGot u.clusters site.declared c link old mid took) setup got_it) in
     let a = get (declared_at s c) (client_in old.clients c) v in

@@ -22,7 +22,7 @@ use Rattle.world_kept.proofs.Keeping.{broker_halted, counts}
 use Rattle.world_kept.specs.Events.{IsBrokers, node_of, plan_in, taken_in, takes_of}
 use Rattle.world_kept.specs.Kept.{Kept, broker_stopped}
 use Rattle.world_kept.specs.Standing.{Stands, limit_of}
-use Rattle.world_laws.specs.Reached.{Reached}
+use Rattle.world_kept.specs.Reached.{Reached}
 use Rattle.geo_world.specs.declared.fault.RunFault.{RunFault}
 use Rattle.geo_world.specs.declared.fault.RunFault.TheVariants as fault
 use Rattle.geo_world.specs.declared.place.Place.{Place}

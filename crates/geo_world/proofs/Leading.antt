@@ -23,8 +23,8 @@ use Rattle.world_kept.proofs.Keeping.{broker_done, broker_idle, counts, input}
 use Rattle.world_kept.specs.Events.{IsBrokers, cluster_of, node_of, plan_in, sender_of, taken_in, takes_of, topic_of}
 use Rattle.world_kept.specs.Kept.{Kept, broker_acted, idled}
 use Rattle.world_kept.specs.Standing.{IsInput, Stands, limit_of}
-use Rattle.world_laws.proofs.Reaching.{ground}
-use Rattle.world_laws.specs.Reached.{Reached}
+use Rattle.world_kept.proofs.Reaching.{ground, told_frames}
+use Rattle.world_kept.specs.Reached.{Reached}
 use Rattle.geo_world.specs.declared.fault.RunFault.{RunFault}
 use Rattle.geo_world.specs.declared.fault.RunFault.TheVariants as fault
 use Rattle.geo_world.specs.declared.place.Place.{Place}
@@ -71,7 +71,7 @@ pub takes_stands : (s : Setup) (b : WorldBook) (w : World) (e : Event) → IsAt 
     → Both (IsInput (node_at b.nodes (node_of s e)).site.clusters) (packet_on b.links (takes_of e)) (taken_in s w e)
 takes_stands s b w e h brokers here reached stands =
     subst (λ (g : Site). Both (IsInput g.clusters) (packet_on b.links (takes_of e)) (taken_in s w e)) (sym (node_is s b e h brokers here).site)
-    (input s (kept_of b) w (takes_of e) h.setup (ground s h.setup w reached) stands)
+    (input s (kept_of b) w (takes_of e) (told_frames s w h.setup reached) stands)
 
 prepared_plan : (s : Setup) (b : WorldBook) (w : World) (e : Event) (p : PreparedBook) → IsAt s b → IsBrokers e → IsEvent s e → Reached s w → Stands s (kept_of b) w
     → PreparesAt b (node_of s e) (takes_of e) e p

@@ -10,7 +10,8 @@ use Rattle.geo_base.specs.Run.{Ran, all_limits, all_settle, budget, counting_rou
 use Rattle.geo_base.specs.Setup.{Setup}
 use Rattle.geo_base.specs.World.{World}
 use Rattle.world_laws.proofs.Walk.{on_elim, on_if}
-use Rattle.world_laws.specs.Reached.{Reached}
+use Rattle.world_kept.proofs.Reaching.{event_reached, halt_reached, idle_reached, round_reached, stop_reached}
+use Rattle.world_kept.specs.Reached.{Reached}
 
 -- ---- a run that has ended
 
@@ -57,7 +58,7 @@ goes s r w p q = on_if (λ (r : Ran). Reached s r.world) (is_some r.ended) _ _ p
 settling : (s : Setup) (r : Ran) (es : List Event) → Reached s r.world → Reached s (all_settle all_limits s r es).world
 settling s r [] p = p
 settling s r (e ∷ es) p =
-    settling s (settles all_limits s r e) es (goes s r _ p (Reached.Idling (happens s r.world e) r.world.idle (Reached.AfterEvent r.world e p)))
+    settling s (settles all_limits s r e) es (goes s r _ p (idle_reached s (happens s r.world e) r.world.idle (event_reached s r.world e p)))
 
 rounds : (m : ℕ) (s : Setup) (r : Ran) → Reached s r.world → Reached s (rounds_of m all_limits s r).world
 rounds zero s r p = p
@@ -65,11 +66,11 @@ rounds (suc m) s r p =
     let r' : Ran = all_settle all_limits s r (round_of (pairs s)) in
     let p' : Reached s r'.world = settling s r (round_of (pairs s)) p in
     on_elim (λ (r : Ran). Reached s r.world) (is_some r'.ended || (r'.world.events == r.world.events)) r' (rounds_of m all_limits s (counting_round r')) p'
-    (rounds m s (counting_round r') (Reached.AfterRound r'.world (r'.world.rounds + 1) p'))
+    (rounds m s (counting_round r') (round_reached s r'.world (r'.world.rounds + 1) p'))
 
 pub reaches : (s : Setup) (r : Ran) (e : Step) → Reached s r.world → Reached s (steps all_limits s r e).world
 unfolding steps settled_world
-reaches s r (step.Plain e) p = goes s r _ p (Reached.AfterEvent r.world e p)
-reaches s r (step.Halt k e) p = goes s r _ p (Reached.AfterHalt r.world k e p)
+reaches s r (step.Plain e) p = goes s r _ p (event_reached s r.world e p)
+reaches s r (step.Halt k e) p = goes s r _ p (halt_reached s r.world k e p)
 reaches s r step.Settle p = rounds (budget s r.world + 1) s (all_settle all_limits s r (resets_of (pairs s))) (settling s r (resets_of (pairs s)) p)
-reaches s r step.Stop p = goes s r _ p (Reached.AfterStop r.world p)
+reaches s r step.Stop p = goes s r _ p (stop_reached s r.world p)

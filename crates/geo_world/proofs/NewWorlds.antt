@@ -15,7 +15,7 @@ use Rattle.world_kept.proofs.Keeping.{opening}
 use Rattle.world_kept.specs.Kept.{Kept, opening_kept}
 use Rattle.world_kept.specs.Standing.{Stands}
 use Rattle.world_laws.proofs.Sizes.{node_lt}
-use Rattle.world_laws.specs.Reached.{Reached}
+use Rattle.world_kept.proofs.Reaching.{opening_reached}
 use Rattle.geo_world.specs.Opening.{AreNew}
 use Rattle.geo_world.specs.World.{AreNodes, IsAt, WorldBook, kept_of, no_node}
 
@@ -105,7 +105,7 @@ new_at s b scripted nodes kept =
       setup = scripted;
       nodes = new_nodes s b.nodes nodes;
       world = opening_world s;
-      reached = Reached.Opening;
+      reached = opening_reached s;
       stands = subst (λ (k : Kept). Stands s k (opening_world s)) (sym kept) (opening s);
       within = record { few = omega (arith, counts); short = omega (arith, bytes) };
     }

@@ -9,6 +9,7 @@ use Rattle.geo_base.specs.declared.event.Event.{Event}
 use Rattle.geo_base.specs.declared.event.Event.TheVariants as event
 use Rattle.geo_base.specs.Broker.{Broker, Site, no_broker, sub_named}
 use Rattle.geo_base.specs.Planned.{in_range}
+use Rattle.geo_base.specs.Run.{most_events}
 use Rattle.geo_base.specs.Scripted.{IsScripted, is_declared}
 use Rattle.geo_base.specs.Setup.{Setup, declared_at, nobody}
 use Rattle.geo_base.specs.Subscription.{Subscription}
@@ -26,10 +27,11 @@ use Rattle.world_kept.specs.Kept.{Kept, stamp_at}
 use Rattle.world_kept.specs.Standing.{Stands}
 use Rattle.world_laws.proofs.Bounds.{packet_within}
 use Rattle.world_laws.proofs.ClientRoams.{all_index}
-use Rattle.world_laws.proofs.Reaching.{ground}
+use Rattle.world_kept.proofs.Reaching.{ground}
 use Rattle.world_laws.proofs.Sizes.{node_lt}
 use Rattle.world_laws.proofs.Walk.{on_if}
 use Rattle.world_laws.specs.Reached.{IsGround}
+use Rattle.world_laws.specs.Starts.{most_at_start}
 use Rattle.world_laws.specs.Within.{BrokerWithin}
 use Rattle.geo_world.specs.World.{IsAt, IsWithin, SameWorld, WorldBook, brokers_of, kept_of, no_node, node_at}
 
@@ -174,16 +176,20 @@ of_node s b e h brokers here =
 
 -- ---- numbers that rise
 
+-- what a start may have, and one more for each event
+abbrev pub most_number : ℕ
+most_number = most_at_start + most_events
+
 pub few : (s : Setup) (b : WorldBook) (h : IsAt s b) → h.world.events ≤ 2000000
 few s b h = let same : b.events ≡ h.world.events = h.stands.events in let most : b.events + b.idle ≤ 2000000 = h.within.few in omega (arith, same, most)
 
-seeks_in : (n : ℕ) (vs : List Subscription) (name : List ℕ) → n ≤ 2000000 → AllByRecursion (λ (v : Subscription). v.seeks ≤ n) vs
+seeks_in : (n : ℕ) (vs : List Subscription) (name : List ℕ) → n ≤ most_number → AllByRecursion (λ (v : Subscription). v.seeks ≤ n) vs
     → IfSome (sub_named vs name) (λ v. v.seeks + 1 < 2 ^ 64)
 seeks_in n [] name most h = tt
 seeks_in n (v ∷ vs) name most h =
     on_if (λ (o : Option Subscription). IfSome o (λ u. u.seeks + 1 < 2 ^ 64)) (bytes_eq v.name name) _ _ (omega (arith, most, h.0)) (seeks_in n vs name most h.1)
 
-sessions_rise : (n : ℕ) (b : Broker) (e : Event) → n ≤ 2000000 → BrokerWithin n b → SessionRises b e
+sessions_rise : (n : ℕ) (b : Broker) (e : Event) → n ≤ most_number → BrokerWithin n b → SessionRises b e
 sessions_rise n b (event.Reset t x y) most h = omega (arith, most, (h.senders y).session)
 sessions_rise n b (event.Serve x c) most h = tt
 sessions_rise n b (event.Drop x c) most h = tt
@@ -198,7 +204,7 @@ sessions_rise n b (event.Go c) most h = tt
 sessions_rise n b (event.Get c) most h = tt
 sessions_rise n b (event.Reconnect c) most h = tt
 
-seeks_rise : (n : ℕ) (names : List (List ℕ)) (b : Broker) (e : Event) → n ≤ 2000000 → BrokerWithin n b → SeekRises names b e
+seeks_rise : (n : ℕ) (names : List (List ℕ)) (b : Broker) (e : Event) → n ≤ most_number → BrokerWithin n b → SeekRises names b e
 seeks_rise n names b (event.Seek t x k to) most h = seeks_in n b.subs (name_at names k) most h.seeks
 seeks_rise n names b (event.Reset t x y) most h = tt
 seeks_rise n names b (event.Serve x c) most h = tt
@@ -213,7 +219,7 @@ seeks_rise n names b (event.Go c) most h = tt
 seeks_rise n names b (event.Get c) most h = tt
 seeks_rise n names b (event.Reconnect c) most h = tt
 
-rises : (s : Setup) (n : ℕ) (v : NodeBook) (c : Broker) (t x : ℕ) (e : Event) → IsNodeOf s t x v → v.broker ≡ c → n ≤ 2000000 → BrokerWithin n c → next_marker x c.entries < 2 ^ 64
+rises : (s : Setup) (n : ℕ) (v : NodeBook) (c : Broker) (t x : ℕ) (e : Event) → IsNodeOf s t x v → v.broker ≡ c → n ≤ most_number → BrokerWithin n c → next_marker x c.entries < 2 ^ 64
     → NumbersRise v e
 rises s n v c t x e is same most h marker = record {
   session = subst (λ (b : Broker). SessionRises b e) (sym same) (sessions_rise n c e most h);
@@ -226,17 +232,17 @@ rises s n v c t x e is same most h marker = record {
 pub numbers_rise : (s : Setup) (b : WorldBook) (e : Event) → IsAt s b → IsBrokers e → IsEvent s e → NumbersRise (node_at b.nodes (node_of s e)) e
 numbers_rise s b e h brokers here =
     let g = ground_of s b h in let w = h.world in let most = few s b h in
-    let short : w.events < 2 ^ 62 = omega (arith, most) in
-    rises s w.events (node_at b.nodes (node_of s e)) (broker_at w (node_of s e)) (topic_of s e) (cluster_of e) e (node_is s b e h brokers here)
-    (stands_at s b w (node_of s e) h.stands (node_below s b e h brokers here)) most (g.numbers.brokers (node_of s e))
+    let short : w.events < 2 ^ 62 = omega (arith, most) in let low : most_at_start + w.events ≤ most_number = omega (arith, most) in
+    rises s (most_at_start + w.events) (node_at b.nodes (node_of s e)) (broker_at w (node_of s e)) (topic_of s e) (cluster_of e) e (node_is s b e h brokers here)
+    (stands_at s b w (node_of s e) h.stands (node_below s b e h brokers here)) low (g.numbers.brokers (node_of s e))
     (g.markers short (topic_of s e) (cluster_of e) (topic_in s e h.setup brokers here) (cluster_in s e brokers here))
 
 pub stamp_fits : (s : Setup) (b : WorldBook) (n : ℕ) (takes : Option LinkName) → IsAt s b → stamp_at b.broker_clocks n b.links takes < 2 ^ 64
 stamp_fits s b n takes h =
-    let g = ground_of s b h in let w = h.world in let most = few s b h in
-    let clock : slice_index b.broker_clocks n ≤ w.events = subst (λ (cs : List ℕ). slice_index cs n ≤ w.events) (sym h.stands.broker_clocks) (g.numbers.broker_clocks n) in
-    let packet : stamp_of (packet_on b.links takes) ≤ w.events =
-    subst (λ (m : ℕ). m ≤ w.events) (sym (stamp_is s.clusters takes b.links w.links h.stands.links)) (packet_within w.events w.links (taken_name (length s.clusters) takes) g.numbers.stamps) in
+    let g = ground_of s b h in let w = h.world in let most = few s b h in let m : ℕ = most_at_start + w.events in
+    let clock : slice_index b.broker_clocks n ≤ m = subst (λ (cs : List ℕ). slice_index cs n ≤ m) (sym h.stands.broker_clocks) (g.numbers.broker_clocks n) in
+    let packet : stamp_of (packet_on b.links takes) ≤ m =
+    subst (λ (k : ℕ). k ≤ m) (sym (stamp_is s.clusters takes b.links w.links h.stands.links)) (packet_within m w.links (taken_name (length s.clusters) takes) g.numbers.stamps) in
     omega (arith, most, clock, packet)
 
 -- ---- the same where brokers have other room

@@ -16,7 +16,8 @@ use Rattle.world_kept.proofs.Keeping.{opening}
 use Rattle.world_kept.specs.Events.{IsBrokers}
 use Rattle.world_kept.specs.Kept.{Kept, opening_kept}
 use Rattle.world_kept.specs.Standing.{Stands}
-use Rattle.world_laws.specs.Reached.{Reached}
+use Rattle.world_kept.proofs.Reaching.{opening_reached}
+use Rattle.world_kept.specs.Reached.{Reached}
 use Rattle.geo_world.specs.declared.fault.RunFault.{RunFault}
 use Rattle.geo_world.specs.declared.fault.RunFault.TheVariants as fault
 use Rattle.geo_world.specs.Runs.{Comes, at_world}
@@ -166,4 +167,4 @@ ends_there s old now new all left k f w goes step reached stands =
 pub from_nothing : (s : Setup) (old new : WorldBook) (es : List Step) (r : Answer) → kept_of old ≡ opening_kept s
     → ((w : World) → Reached s w → Stands s (kept_of old) w → Comes s new (run_from all_limits s (at_world w) es) r) → Comes s new (run_under all_limits s es) r
 from_nothing s old new es r kept comes =
-    comes (opening_world s) Reached.Opening (subst (λ (k : Kept). Stands s k (opening_world s)) (sym kept) (opening s))
+    comes (opening_world s) (opening_reached s) (subst (λ (k : Kept). Stands s k (opening_world s)) (sym kept) (opening s))

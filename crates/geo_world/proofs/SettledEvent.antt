@@ -13,7 +13,7 @@ use Rattle.world_kept.proofs.Keeping.{counts}
 use Rattle.world_kept.specs.Events.{IsBrokers, node_of, sender_of, takes_of}
 use Rattle.world_kept.specs.Kept.{Kept, broker_acted, idled}
 use Rattle.world_kept.specs.Standing.{Stands, limit_of}
-use Rattle.world_laws.specs.Reached.{Reached}
+use Rattle.world_kept.specs.Reached.{Reached}
 use Rattle.geo_world.specs.declared.fault.RunFault.TheVariants as fault
 use Rattle.geo_world.specs.declared.place.Place.{Place}
 use Rattle.geo_world.specs.Settling.{IsLater, settled_by}

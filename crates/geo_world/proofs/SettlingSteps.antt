@@ -10,7 +10,8 @@ use Rattle.geo_base.specs.Setup.{Setup}
 use Rattle.geo_base.specs.World.{World}
 use Rattle.world_kept.specs.Kept.{Kept}
 use Rattle.world_kept.specs.Standing.{Stands}
-use Rattle.world_laws.specs.Reached.{AfterEvent, AfterRound, Idling, Reached}
+use Rattle.world_kept.proofs.Reaching.{event_reached, idle_reached, round_reached}
+use Rattle.world_kept.specs.Reached.{Reached}
 use Rattle.geo_world.specs.declared.fault.RunFault.{RunFault}
 use Rattle.geo_world.specs.declared.fault.RunFault.TheVariants as fault
 use Rattle.geo_world.specs.Runs.{Comes, at_world}
@@ -85,7 +86,7 @@ each_next s now new es i d r a u lt is h leads =
     let w = h.world in let e = get_or es i d in let led = by_ok _ a u is (leads w h.reached h.stands).done in
     record {
       world = settled_by s w e;
-      reached = Idling (happens s w e) w.idle (AfterEvent w e h.reached);
+      reached = idle_reached s (happens s w e) w.idle (event_reached s w e h.reached);
       stands = led.0;
       comes = sym (goes_on s w e (drop (i + 1) es) led.1) ∙ sym (ap (all_settle all_limits s (at_world w)) (drop_more es i d lt)) ∙ h.comes;
     }
@@ -157,7 +158,7 @@ counted_at s mid new h is =
       setup = h.setup;
       nodes = h.nodes;
       world = counted v;
-      reached = AfterRound v (v.rounds + 1) h.reached;
+      reached = round_reached s v (v.rounds + 1) h.reached;
       stands = counted_stands s mid (record mid { rounds = mid.rounds + 1 }) v refl h.stands;
       within = record { few = h.within.few; short = h.within.short };
     } in
@@ -184,7 +185,7 @@ round_counted s old mid new es r a u is ok comes later busy counts h = record {
         record {
           world = counted v;
           most = more;
-          reached = AfterRound v (v.rounds + 1) d.reached;
+          reached = round_reached s v (v.rounds + 1) d.reached;
           stands = counted_stands s mid new v counts d.stands;
           ends = ends_next s more w v ends d.comes differ rounds;
           comes = sym (round_more all_limits s more w v d.comes differ) ∙ same;

@@ -26,7 +26,8 @@ use Rattle.world_kept.proofs.Keeping.{stop}
 use Rattle.world_kept.specs.Kept.{Kept, all_stopped}
 use Rattle.world_kept.specs.Standing.{Stands, limit_of}
 use Rattle.world_laws.proofs.Sizes.{node_lt}
-use Rattle.world_laws.specs.Reached.{Reached}
+use Rattle.world_kept.proofs.Reaching.{stop_reached}
+use Rattle.world_kept.specs.Reached.{Reached}
 use Rattle.geo_world.specs.declared.fault.RunFault.{RunFault}
 use Rattle.geo_world.specs.declared.fault.RunFault.TheVariants as fault
 use Rattle.geo_world.specs.Restarts.{CanRestart, IsRestarted, IsSame}
@@ -194,4 +195,4 @@ leads_past s old new w f stands large = leads_by s old new (stopped s old) (stop
 
 pub after_stop : (s : Setup) (old new : WorldBook) (r : Answer) → IsAt s old → ((w : World) → Reached s w → Stands s (kept_of old) w → Leads s old new (stops s w) r)
     → AreNodes s new.nodes → OnErr r (SameWorld old new) → IsAt s new
-after_stop s old new r h leads nodes same = after s old new (λ w. stops s w) r h leads (λ w reached. Reached.AfterStop w reached) nodes same
+after_stop s old new r h leads nodes same = after s old new (λ w. stops s w) r h leads (λ w reached. stop_reached s w reached) nodes same

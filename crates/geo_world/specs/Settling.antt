@@ -8,7 +8,7 @@ use Rattle.geo_base.specs.World.{World}
 use Rattle.script_text.specs.Scenario.{IsEvent}
 use Rattle.world_kept.specs.Events.{IsBrokers}
 use Rattle.world_kept.specs.Standing.{Stands}
-use Rattle.world_laws.specs.Reached.{Reached}
+use Rattle.world_kept.specs.Reached.{Reached}
 use Rattle.geo_world.specs.declared.fault.RunFault.{RunFault}
 use Rattle.geo_world.specs.declared.fault.RunFault.TheVariants as fault
 use Rattle.geo_world.specs.declared.settling_events.SettlingEvents.{SettlingEvents}

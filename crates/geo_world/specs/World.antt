@@ -11,7 +11,7 @@ use Rattle.topic_node.specs.Node.{NodeBook}
 use Rattle.wire_links.specs.Queues.{WireLinks}
 use Rattle.world_kept.specs.Kept.{Kept}
 use Rattle.world_kept.specs.Standing.{Stands}
-use Rattle.world_laws.specs.Reached.{Reached}
+use Rattle.world_kept.specs.Reached.{Reached}
 
 -- brokers by topic and then by cluster, clients by number; a clock is a node's last stamp
 pub record WorldBook : Type 0 where

@@ -14,7 +14,7 @@ ghost use Rattle.geo_world.specs.World.{AreNodes, IsAt, IsWithin, kept_of};
 ghost use Rattle.wire_links.specs.Queues.{bytes_of};
 ghost use Rattle.world_kept.specs.Kept.{stamp_at};
 ghost use Rattle.world_kept.specs.Standing.{Stands, limit_of};
-ghost use Rattle.world_laws.specs.Reached.{Reached};
+ghost use Rattle.world_kept.specs.Reached.{Reached};
 
 use crate::fault::RunFault;
 use crate::world::World;

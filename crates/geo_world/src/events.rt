@@ -8,7 +8,7 @@ ghost use Rattle.geo_world.specs.World.{AreNodes, IsAt, SameWorld, kept_of};
 ghost use Rattle.script_text.specs.Scenario.{IsEvent};
 ghost use Rattle.world_kept.specs.Events.{IsBrokers};
 ghost use Rattle.world_kept.specs.Standing.{Stands};
-ghost use Rattle.world_laws.specs.Reached.{Reached};
+ghost use Rattle.world_kept.specs.Reached.{Reached};
 
 use crate::fault::RunFault;
 use crate::world::World;

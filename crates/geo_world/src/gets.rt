@@ -9,7 +9,7 @@ ghost use Rattle.geo_world.specs.Steps.{Leads};
 ghost use Rattle.geo_world.specs.World.{AreNodes, IsAt, kept_of};
 ghost use Rattle.world_kept.specs.Kept.{stamp_at};
 ghost use Rattle.world_kept.specs.Standing.{Stands};
-ghost use Rattle.world_laws.specs.Reached.{Reached};
+ghost use Rattle.world_kept.specs.Reached.{Reached};
 
 use crate::clients::site_of;
 use crate::fault::RunFault;

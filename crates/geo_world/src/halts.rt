@@ -10,7 +10,7 @@ ghost use Rattle.script_text.specs.Scenario.{IsEvent};
 ghost use Rattle.topic_node.specs.Events.{IsOfNode, NumbersRise};
 ghost use Rattle.world_kept.specs.Events.{IsBrokers};
 ghost use Rattle.world_kept.specs.Standing.{Stands, limit_of};
-ghost use Rattle.world_laws.specs.Reached.{Reached};
+ghost use Rattle.world_kept.specs.Reached.{Reached};
 
 use crate::brokers::EVENT_LIMIT;
 use crate::fault::RunFault;

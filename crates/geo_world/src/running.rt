@@ -6,7 +6,7 @@ ghost use Rattle.geo_world.specs.Runs.{Comes, at_world};
 ghost use Rattle.geo_world.specs.World.{IsAt, kept_of};
 ghost use Rattle.script_text.specs.Scenario.{IsStep};
 ghost use Rattle.world_kept.specs.Standing.{Stands};
-ghost use Rattle.world_laws.specs.Reached.{Reached};
+ghost use Rattle.world_kept.specs.Reached.{Reached};
 
 use crate::fault::RunFault;
 use crate::world::World;

@@ -7,7 +7,7 @@ ghost use Rattle.geo_world.specs.Settling.{IsLater, IsRounding, IsSettling, IsSe
 ghost use Rattle.geo_world.specs.Steps.{Leads};
 ghost use Rattle.geo_world.specs.World.{IsAt, SameWorld, kept_of};
 ghost use Rattle.world_kept.specs.Standing.{Stands};
-ghost use Rattle.world_laws.specs.Reached.{Reached};
+ghost use Rattle.world_kept.specs.Reached.{Reached};
 
 use crate::fault::RunFault;
 use crate::place::place_of;

@@ -15,7 +15,7 @@ ghost use Rattle.geo_world.specs.World.{AreNodes, IsAt, SameWorld, kept_of};
 ghost use Rattle.topic_node.specs.Node.{IsReady};
 ghost use Rattle.wire_links.specs.Each.{Each};
 ghost use Rattle.world_kept.specs.Standing.{Stands};
-ghost use Rattle.world_laws.specs.Reached.{Reached};
+ghost use Rattle.world_kept.specs.Reached.{Reached};
 
 use crate::fault::RunFault;
 use crate::world::World;

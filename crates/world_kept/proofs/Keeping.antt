@@ -17,7 +17,6 @@ use Rattle.geo_base.specs.Link.{next_packet}
 use Rattle.geo_base.specs.Plan.{Plan, done, halted}
 use Rattle.geo_base.specs.Planned.{Planned, has_client, in_range, planned, planned_in}
 use Rattle.geo_base.specs.Run.{all_limits, or_else}
-use Rattle.geo_base.specs.Scripted.{IsScripted}
 use Rattle.geo_base.specs.Seeking.{restart}
 use Rattle.geo_base.specs.Setup.{Declared, Setup, declared_at}
 use Rattle.geo_base.specs.World.{LinkName as MachineLink, Links, ToClient, World, client_at, delivered as machine_delivered, from_broker, from_client, link_at, node, opening_world, packet_at, taken_from as machine_taken}
@@ -26,7 +25,6 @@ use Rattle.std.proofs.lemmas.Option.{none-some}
 use Rattle.wire_frames.proofs.One.{written_stands}
 use Rattle.wire_frames.specs.Told.{IsTold}
 use Rattle.wire_frames.specs.Texts.{is_readable}
-use Rattle.wire_laws.proofs.Plain.{told}
 use Rattle.wire_links.proofs.Simulated.{broker_stands, bytes_stand, client_stands, got_stands, opening_stands, packet_stands, stamp_is, stopped_stands, taken_stands}
 use Rattle.wire_links.specs.declared.name.LinkName.{LinkName}
 use Rattle.wire_links.specs.declared.name.LinkName.TheVariants as name
@@ -40,8 +38,8 @@ use Rattle.wire_links.specs.Standing.{IsReadableOut, LinksStand, OutsStand, Pack
 use Rattle.world_kept.specs.Events.{IsBrokers, cluster_of, node_of, plan_in, sender_of, takes_of, topic_of}
 use Rattle.world_kept.specs.Kept.{Kept, all_stopped, broker_acted, broker_stopped, client_acted, idled, opening_kept, stamp_at}
 use Rattle.world_kept.specs.Standing.{IsInput, Stands, limit_of}
-use Rattle.world_laws.specs.Plain.{IsPlain}
-use Rattle.world_laws.specs.Reached.{ArePlain, IsGround}
+use Rattle.world_laws.specs.Frames.{AllFrames, IsReadable}
+use Rattle.world_laws.specs.Reached.{AreReadable, IsGround}
 
 -- THE OPENING WORLD, AND COUNTS
 
@@ -80,18 +78,18 @@ idled_stands s k w h = record {
 
 -- PACKETS
 
-readable : (names : List (List ℕ)) (f : Frame) → IsPlain names f → is_readable f ≡ true
-readable names frame.Unreadable h = absurd h
-readable names f h = refl
+readable : (f : Frame) → IsReadable f → is_readable f ≡ true
+readable frame.Unreadable h = absurd h
+readable f h = refl
 
-readable_outs : (names : List (List ℕ)) (vs : List Out) → ArePlain names vs → AllByRecursion IsReadableOut vs
-readable_outs names [] h = tt
-readable_outs names (v ∷ vs) h = (readable names v.frame h.0, readable_outs names vs h.1)
+readable_outs : (vs : List Out) → AreReadable vs → AllByRecursion IsReadableOut vs
+readable_outs [] h = tt
+readable_outs (v ∷ vs) h = (readable v.frame h.0, readable_outs vs h.1)
 
 -- an event sends as many bytes as the machine counts
-sent_is : (names : List (List ℕ)) (os : List WireOut) (vs : List Out) (n m : ℕ) → OutsStand names os vs → ArePlain names vs → n ≡ m
+sent_is : (names : List (List ℕ)) (os : List WireOut) (vs : List Out) (n m : ℕ) → OutsStand names os vs → AreReadable vs → n ≡ m
     → n + bytes_of os ≡ m + sent_bytes names vs
-sent_is names os vs n m sent plain is = rw (is, bytes_stand names os vs sent (readable_outs names vs plain)) refl
+sent_is names os vs n m sent read is = rw (is, bytes_stand names os vs sent (readable_outs vs read)) refl
 
 -- its stamp is the machine's
 stamp_stands : (names : List (List ℕ)) (takes : Option LinkName) (k : Kept) (ms : Links) (clocks machine : List ℕ) (n : ℕ) → LinksStand names k.links ms → clocks ≡ machine
@@ -99,9 +97,9 @@ stamp_stands : (names : List (List ℕ)) (takes : Option LinkName) (k : Kept) (m
 stamp_stands names takes k ms clocks machine n links is = rw (is, stamp_is names takes k.links ms links) refl
 
 -- what a packet that stands on a link says, its text tells
-told_at : (s : Setup) (w : World) → IsScripted s → IsGround s w → (o : Option MachineLink) (v : Packet) → packet_at w.links o ≡ Some v → IsTold s.clusters v.frame
-told_at s w scripted g None v at = absurd (none-some v at)
-told_at s w scripted g (Some j) v at = told s.clusters v.frame scripted.cluster_names.1 (g.plain.0 j (link_at w.links j).taken v at)
+told_at : (s : Setup) (w : World) → AllFrames (IsTold s.clusters) w → (o : Option MachineLink) (v : Packet) → packet_at w.links o ≡ Some v → IsTold s.clusters v.frame
+told_at s w told None v at = absurd (none-some v at)
+told_at s w told (Some j) v at = told j (link_at w.links j).taken v at
 
 both_with : {A B : Type 0} (R S : A → B → Type 0) (T : B → Type 0) (x : Option A) (y : Option B) → ((b : B) → y ≡ Some b → T b) → ((a : A) (b : B) → R a b → T b → S a b)
     → Both R x y → Both S x y
@@ -111,12 +109,12 @@ both_with R S T (Some a) (Some b) has f (both r) = both (f a b r (has b refl))
 input_stands : (names : List (List ℕ)) (p : WirePacket) (v : Packet) → PacketStands names p v → IsTold names v.frame → IsInput names p v
 input_stands names p v h is = record { session = sym h.session; stamp = sym h.stamp; frame = written_stands names v.frame p.frame h.frame is }
 
-pub input : (s : Setup) (k : Kept) (w : World) (takes : Option LinkName) → IsScripted s → IsGround s w → Stands s k w
+pub input : (s : Setup) (k : Kept) (w : World) (takes : Option LinkName) → AllFrames (IsTold s.clusters) w → Stands s k w
     → Both (IsInput s.clusters) (packet_on k.links takes) (packet_at w.links (taken_name (length s.clusters) takes))
-input s k w takes scripted g h =
+input s k w takes told h =
     let names = s.clusters in let o = taken_name (length names) takes in
     both_with (PacketStands names) (IsInput names) (λ (v : Packet). IsTold names v.frame) (packet_on k.links takes) (packet_at w.links o)
-    (λ v at. told_at s w scripted g o v at) (input_stands names) (packet_stands names takes k.links w.links h.links)
+    (λ v at. told_at s w told o v at) (input_stands names) (packet_stands names takes k.links w.links h.links)
 
 -- EVENTS OF BROKERS
 
@@ -129,11 +127,11 @@ when_true P true x y is p = p
 when_true P false x y is p = absurd (false≢true is)
 
 acts : (s : Setup) (k : Kept) (w : World) (t x : ℕ) (takes : Option LinkName) (p : Plan) (os : List WireOut) → Stands s k w → p.idle ≡ false
-    → OutsStand s.clusters os p.sent → ArePlain s.clusters p.sent
+    → OutsStand s.clusters os p.sent → AreReadable p.sent
     → Stands s (broker_acted k (node s t x) (wire_node.Broker t x) takes (done s.per_ledger (slice_index_or k.brokers (node s t x) no_broker) p) os)
     (broker_does s w (record { topic = t; cluster = x; takes = taken_name (length s.clusters) takes; plan = p }))
 unfolding broker_does
-acts s k w t x takes p os h busy sent plain =
+acts s k w t x takes p os h busy sent read =
     let names = s.clusters in let n : ℕ = node s t x in
     let stamp = next_stamp (slice_index w.broker_clocks n) (packet_at w.links (taken_name (length names) takes)) in
     let same : stamp_at k.broker_clocks n k.links takes ≡ stamp = stamp_stands names takes k w.links k.broker_clocks w.broker_clocks n h.links h.broker_clocks in
@@ -148,7 +146,7 @@ acts s k w t x takes p os h busy sent plain =
       events = ap (λ (m : ℕ). m + 1) h.events;
       idle = h.idle;
       rounds = h.rounds;
-      frame_bytes = sent_is names os p.sent k.frame_bytes w.frame_bytes sent plain h.frame_bytes;
+      frame_bytes = sent_is names os p.sent k.frame_bytes w.frame_bytes sent read h.frame_bytes;
     })
 
 rests : (s : Setup) (k : Kept) (w : World) (p : Planned) → Stands s k w → p.plan.idle ≡ true → Stands s (idled k) (broker_does s w p)
@@ -213,14 +211,14 @@ planned_is s w e b within = ap (λ (t : Bool). if t then planned_in s w e else N
 done_is : (s : Setup) (w : World) (e : Event) → IsBrokers e → in_range s e ≡ true → happens s w e ≡ broker_does s w (event_plan s w e)
 done_is s w e b within = happens_is s w e b ∙ ap (does_planned s w) (planned_is s w e b within)
 
-plain_plan : (s : Setup) (w : World) (e : Event) → IsBrokers e → in_range s e ≡ true → IsGround s w → ArePlain s.clusters (plan_in s w e).sent
-plain_plan s w e b within g = subst (λ (o : Option Planned). IfSome o (λ p. ArePlain s.clusters p.plan.sent)) (planned_is s w e b within) (g.sends e)
+read_plan : (s : Setup) (w : World) (e : Event) → IsBrokers e → in_range s e ≡ true → IsGround s w → AreReadable (plan_in s w e).sent
+read_plan s w e b within g = subst (λ (o : Option Planned). IfSome o (λ p. AreReadable p.plan.sent)) (planned_is s w e b within) (g.sends e)
 
 pub broker_done : (s : Setup) (k : Kept) (w : World) (e : Event) (os : List WireOut) → IsBrokers e → in_range s e ≡ true → IsGround s w → Stands s k w
     → (plan_in s w e).idle ≡ false → OutsStand s.clusters os (plan_in s w e).sent
     → Stands s (broker_acted k (node_of s e) (sender_of s e) (takes_of e) (done s.per_ledger (slice_index_or k.brokers (node_of s e) no_broker) (plan_in s w e)) os) (happens s w e)
 broker_done s k w e os b within g h busy sent =
-    subst (Stands s _) (sym (done_is s w e b within)) (acts s k w (topic_of s e) (cluster_of e) (takes_of e) (plan_in s w e) os h busy sent (plain_plan s w e b within g))
+    subst (Stands s _) (sym (done_is s w e b within)) (acts s k w (topic_of s e) (cluster_of e) (takes_of e) (plan_in s w e) os h busy sent (read_plan s w e b within g))
 
 pub broker_idle : (s : Setup) (k : Kept) (w : World) (e : Event) → IsBrokers e → in_range s e ≡ true → Stands s k w
     → (plan_in s w e).idle ≡ true → Stands s (idled k) (happens s w e)
@@ -233,10 +231,10 @@ broker_halted s k w n e b within h =
 
 -- EVENTS OF CLIENTS
 
-client_busy : (s : Setup) (k : Kept) (w : World) (c : ℕ) (a : Acted) (os : List WireOut) → Stands s k w → a.idle ≡ false → OutsStand s.clusters os a.sent → ArePlain s.clusters a.sent
+client_busy : (s : Setup) (k : Kept) (w : World) (c : ℕ) (a : Acted) (os : List WireOut) → Stands s k w → a.idle ≡ false → OutsStand s.clusters os a.sent → AreReadable a.sent
     → Stands s (client_acted k c (wire_node.Client c) None a.client os) (client_does s w c None a)
 unfolding client_does
-client_busy s k w c a os h busy sent plain =
+client_busy s k w c a os h busy sent read =
     let names = s.clusters in
     let stamp = next_stamp (slice_index w.client_clocks c) None in
     let same : stamp_at k.client_clocks c k.links None ≡ stamp = stamp_stands names None k w.links k.client_clocks w.client_clocks c h.links h.client_clocks in
@@ -250,7 +248,7 @@ client_busy s k w c a os h busy sent plain =
       events = ap (λ (m : ℕ). m + 1) h.events;
       idle = h.idle;
       rounds = h.rounds;
-      frame_bytes = sent_is names os a.sent k.frame_bytes w.frame_bytes sent plain h.frame_bytes;
+      frame_bytes = sent_is names os a.sent k.frame_bytes w.frame_bytes sent read h.frame_bytes;
     })
 
 client_took : (s : Setup) (k : Kept) (w : World) (c x : ℕ) (a : Acted) → Stands s k w → a.idle ≡ false → a.sent ≡ []
@@ -261,7 +259,7 @@ client_took s k w c x a h busy silent =
     let stamp = next_stamp (slice_index w.client_clocks c) (packet_at w.links (Some (ToClient c x))) in
     let same : stamp_at k.client_clocks c k.links takes ≡ stamp = stamp_stands names takes k w.links k.client_clocks w.client_clocks c h.links h.client_clocks in
     let sent : OutsStand names [] a.sent = subst (OutsStand names []) (sym silent) none_sent in
-    let plain : ArePlain names a.sent = subst (ArePlain names) (sym silent) tt in
+    let read : AreReadable a.sent = subst AreReadable (sym silent) tt in
     when_false (Stands s _) a.idle _ _ busy (record {
       brokers = h.brokers;
       clients = ap (λ (ms : List Client). slice_set ms c a.client) h.clients;
@@ -273,7 +271,7 @@ client_took s k w c x a h busy silent =
       events = ap (λ (m : ℕ). m + 1) h.events;
       idle = h.idle;
       rounds = h.rounds;
-      frame_bytes = sent_is names [] a.sent k.frame_bytes w.frame_bytes sent plain h.frame_bytes;
+      frame_bytes = sent_is names [] a.sent k.frame_bytes w.frame_bytes sent read h.frame_bytes;
     })
 
 client_rests : (s : Setup) (k : Kept) (w : World) (c : ℕ) (o : Option MachineLink) (a : Acted) → Stands s k w → a.idle ≡ true → Stands s (idled k) (client_does s w c o a)

@@ -13,6 +13,7 @@ ghost use Rattle.geo_base.specs.Scripted.{IsScripted};
 ghost use Rattle.geo_base.specs.Seeking.{restart};
 ghost use Rattle.geo_base.specs.Setup.{Setup};
 ghost use Rattle.geo_base.specs.World.{ToClient, World, client_at, link_at, opening_world, packet_at};
+ghost use Rattle.wire_frames.specs.Told.{IsTold};
 ghost use Rattle.wire_laws.specs.BytePackets.{StandsForPacket};
 ghost use Rattle.wire_links.specs.declared.name.LinkName.{LinkName};
 ghost use Rattle.wire_links.specs.declared.name.LinkName.TheVariants as name;
@@ -25,18 +26,35 @@ ghost use Rattle.wire_links.specs.Queues.{packet_on};
 ghost use Rattle.wire_links.specs.Standing.{OutsStand};
 ghost use Rattle.world_kept.specs.Events.{IsBrokers, node_of, plan_in, sender_of, takes_of, taken_in};
 ghost use Rattle.world_kept.specs.Kept.{Kept, all_stopped, broker_acted, broker_stopped, client_acted, idled, opening_kept};
+ghost use Rattle.world_kept.specs.Reached.{Reached, started_kept};
 ghost use Rattle.world_kept.specs.Standing.{IsInput, Stands, limit_of};
+ghost use Rattle.world_laws.specs.Frames.{AllFrames};
 ghost use Rattle.world_laws.specs.Reached.{IsGround};
+ghost use Rattle.world_laws.specs.Starts.{IsStart};
 
-/// The opening world.
+/// The opening world, and every other start: as its brokers, clients and counts, with nothing on the links.
 pub fn law_opening()
-    ensures { (s : Setup) → Stands s (opening_kept s) (opening_world s) }
+    ensures opening { (s : Setup) → Stands s (opening_kept s) (opening_world s) }
+    ensures start { (s : Setup) (v : World) → IsStart s v → Stands s (started_kept s v) v }
+{}
+
+/// In a world that a run comes to from a start whose stored entries their texts tell, texts tell what is on the links, and there is what
+/// code needs that does the next event. Such are the opening world and all that events, stops and rounds lead to from one.
+pub fn law_reached()
+    ensures told { (s : Setup) (w : World) → IsScripted s → Reached s w → AllFrames (IsTold s.clusters) w }
+    ensures ground { (s : Setup) → IsScripted s → (w : World) → Reached s w → IsGround s w }
+    ensures opening { (s : Setup) → Reached s (opening_world s) }
+    ensures event { (s : Setup) (w : World) (e : Event) → Reached s w → Reached s (happens s w e) }
+    ensures halt { (s : Setup) (w : World) (n : ℕ) (e : Event) → Reached s w → Reached s (halts_planned s w n (planned s w e)) }
+    ensures stop { (s : Setup) (w : World) → Reached s w → Reached s (stops s w) }
+    ensures idle { (s : Setup) (w : World) (n : ℕ) → Reached s w → Reached s (record w { idle = n }) }
+    ensures round { (s : Setup) (w : World) (n : ℕ) → Reached s w → Reached s (record w { rounds = n }) }
 {}
 
 /// The packet that an event takes is there where the machine's is, and its bytes stand for it, but for which cluster stored an entry
-/// first, which no event looks at.
+/// first, which no event looks at. So it is where texts tell what is on the links.
 pub fn law_input()
-    ensures { (s : Setup) (k : Kept) (w : World) (takes : Option LinkName) → IsScripted s → IsGround s w → Stands s k w
+    ensures { (s : Setup) (k : Kept) (w : World) (takes : Option LinkName) → AllFrames (IsTold s.clusters) w → Stands s k w
         → Both (IsInput s.clusters) (packet_on k.links takes) (packet_at w.links (taken_name (length s.clusters) takes)) }
 {}
 

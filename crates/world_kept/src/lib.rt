@@ -6,4 +6,6 @@
 
 mod laws;
 
-pub use laws::{law_brokers, law_clients, law_counts, law_input, law_opening, law_stop};
+pub use laws::{
+    law_brokers, law_clients, law_counts, law_input, law_opening, law_reached, law_stop,
+};
