@@ -1,10 +1,10 @@
 //! An entry as its metadata's text and its payload.
-ghost use Rattle.std.specs.Prelude.{◌≡◌, ◌<◌, ◌++◌, ◌^◌, List, length, IfOk, OnOk};
+ghost use Rattle.std.specs.Prelude.{◌≡◌, ◌++◌, List, IfOk, OnOk};
 ghost use Rattle.std.specs.Option.{option_copied, option_map};
 ghost use Rattle.geo_base.specs.Sizes.{place_name};
 ghost use Rattle.message_meta.specs.Known.{IsRest, joined};
 ghost use Rattle.pb_fields.specs.declared.field.Field.{Field};
-ghost use Rattle.wire_frames.specs.Texts.{marker_number, metadata_of, payload_text};
+ghost use Rattle.wire_frames.specs.Texts.{marker_number, metadata_of};
 ghost use Rattle.entry_texts.specs.Texts.{HasMetadata, HasTexts, entry_text, metadata_text, source_of};
 
 use crate::payload::{canonical_payload, marker_number};
@@ -24,9 +24,7 @@ pub fn put_entry(
     own: u32,
     entry: &Entry,
 ) -> Result<(), Memory>
-    requires rest { IsRest entry.now.meta.rest }
-    requires metadata { length (metadata_text names.now own entry.now) < 2 ^ 32 }
-    requires payload { length (payload_text names.now entry.now.content entry.now.payload) < 2 ^ 32 }
+    requires { IsRest entry.now.meta.rest }
     ensures text { OnOk result (out.new ≡ out.old ++ entry_text names.now own entry.now) }
     ensures right { OnOk result (HasTexts names.now own entry.now) }
 {

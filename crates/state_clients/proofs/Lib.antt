@@ -1,2 +1,3 @@
 pub mod Utf8
 pub mod Back
+pub mod Known

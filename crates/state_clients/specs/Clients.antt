@@ -59,13 +59,6 @@ tally_text k = number k.receipts ++ (number k.duplicates ++ number k.errors)
 abbrev pub client_text : Client → List ℕ
 client_text k = place_text k ++ (force_text k ++ (list number k.unanswered ++ (tally_text k ++ list ident_text k.got)))
 
--- the indexes of its lines have 64 bits, and the lengths of the names that it saw four bytes
-pub record CanWrite (k : Client) : Type 0 where
-  pub produce : IfSome k.produce (λ i. i + 1 < 2 ^ 64)
-  pub sub : IfSome k.sub (λ i. i + 1 < 2 ^ 64)
-  pub flow : IfSome k.flow (λ i. i + 1 < 2 ^ 64)
-  pub got : All (λ (i : Ident). length i.producer < 2 ^ 32) k.got
-
 -- ---- reading
 
 unfoldable pub place_at : ℕ → List Line → List ℕ → Read Place

@@ -10,5 +10,5 @@ mod laws;
 mod writing;
 
 pub use clients::client_at;
-pub use laws::clients_read_back;
+pub use laws::{client_is_known, clients_read_back};
 pub use writing::put_client;

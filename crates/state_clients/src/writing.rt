@@ -1,10 +1,9 @@
 //! Clients as texts.
-ghost use Rattle.std.specs.Prelude.{◌≡◌, ◌++◌, ◌<◌, ◌+◌, ◌^◌, length, IfSome, OnOk};
-ghost use Rattle.std.specs.List.{All, flat_map};
+ghost use Rattle.std.specs.Prelude.{◌≡◌, ◌++◌, OnOk};
+ghost use Rattle.std.specs.List.{flat_map};
 ghost use Rattle.client_node.specs.State.{stopped};
-ghost use Rattle.geo_base.specs.declared.entry.Ident.{Ident};
 ghost use Rattle.state_items.specs.Texts.{list, number};
-ghost use Rattle.state_clients.specs.Clients.{CanWrite, client_text, force_text, ident_text, index_text, place_text, tally_text};
+ghost use Rattle.state_clients.specs.Clients.{client_text, force_text, ident_text, index_text, place_text, tally_text};
 
 use client_node::ClientState;
 use geo_base::bytes::Blob;
@@ -14,7 +13,6 @@ use state_items::{put_number, put_text};
 
 /// Appends what a stop left of a client.
 pub fn put_client(out: &mut Blob, state: &ClientState) -> Result<(), Memory>
-    requires { CanWrite (stopped state.now) }
     ensures { OnOk result (out.new ≡ out.old ++ client_text (stopped state.now)) }
 {
     put_place(out, state)?;
@@ -33,7 +31,6 @@ fn put_place(out: &mut Blob, state: &ClientState) -> Result<(), Memory>
 }
 
 fn put_force(out: &mut Blob, state: &ClientState) -> Result<(), Memory>
-    requires { CanWrite (stopped state.now) }
     ensures { OnOk result (out.new ≡ out.old ++ force_text (stopped state.now)) }
 {
     put_index(out, state.produce)?;
@@ -41,14 +38,16 @@ fn put_force(out: &mut Blob, state: &ClientState) -> Result<(), Memory>
     put_index(out, state.flow)
 }
 
-/// A line's index and one more, 0 where there is none.
+/// A line's index and one more, 0 where there is none. An index behind which there is no number counts as want of memory.
 fn put_index(out: &mut Blob, index: Option<usize>) -> Result<(), Memory>
-    requires { IfSome index (λ i. i + 1 < 2 ^ 64) }
     ensures { OnOk result (out.new ≡ out.old ++ index_text index) }
 {
-    match index {
-        None => put_number(out, 0),
-        Some(index) => put_number(out, index as u64 + 1),
+    let Some(index) = index else {
+        return put_number(out, 0);
+    };
+    match (index as u64).checked_add(1) {
+        None => Err(Memory),
+        Some(number) => put_number(out, number),
     }
 }
 
@@ -77,7 +76,6 @@ fn put_each_index(out: &mut Blob, indexes: &[usize]) -> Result<(), Memory>
 }
 
 fn put_got(out: &mut Blob, idents: &[Ident]) -> Result<(), Memory>
-    requires { All (λ (i : Ident). length i.producer < 2 ^ 32) idents.now }
     ensures { OnOk result (out.new ≡ out.old ++ list ident_text idents.now) }
 {
     put_number(out, idents.len() as u64)?;
@@ -85,7 +83,6 @@ fn put_got(out: &mut Blob, idents: &[Ident]) -> Result<(), Memory>
 }
 
 fn put_each_ident(out: &mut Blob, idents: &[Ident]) -> Result<(), Memory>
-    requires { All (λ (i : Ident). length i.producer < 2 ^ 32) idents.now }
     ensures { OnOk result (out.new ≡ out.old ++ flat_map ident_text idents.now) }
 {
     for ident in idents {
@@ -95,7 +92,6 @@ fn put_each_ident(out: &mut Blob, idents: &[Ident]) -> Result<(), Memory>
 }
 
 fn put_ident(out: &mut Blob, ident: &Ident) -> Result<(), Memory>
-    requires { length ident.now.producer < 2 ^ 32 }
     ensures { OnOk result (out.new ≡ out.old ++ ident_text ident.now) }
 {
     put_number(out, u64::from(ident.origin))?;

@@ -1,6 +1,6 @@
 -- What was written is read again.
-use Rattle.std.proofs.Common.{◌≡◌, ℕ, zero, suc, ◌+◌, ◌-◌, ◌^◌, ◌<◌, ◌≤◌, ◌==◌, Bool, true, false, ltb, List, [], ◌∷◌, ◌++◌, length, get_or, take, drop, inl, inr, Result, Ok, Err, refl, sym, ap, subst, ◌∙◌, append_assoc, arith}
-use Rattle.std.specs.Prelude.{nat_lt, nat_le, ◌&&◌, ◌||◌}
+use Rattle.std.proofs.Common.{◌≡◌, ℕ, suc, ◌+◌, ◌-◌, ◌^◌, ◌<◌, ◌≤◌, true, false, ltb, List, [], ◌∷◌, ◌++◌, length, get_or, inl, inr, Ok, refl, sym, ap, subst, ◌∙◌, append_assoc, arith}
+use Rattle.std.specs.Prelude.{nat_lt, nat_le}
 use Rattle.std.specs.List.{flat_map}
 use Rattle.std.specs.Int.{Width, w32, w64, byte_len, from_be_bytes, to_be_bytes}
 use Rattle.std.proofs.lemmas.Bool.{cases_lt, le-ltb, true≢false}
@@ -11,14 +11,15 @@ use Rattle.std.proofs.lemmas.Nat.{from_be_bytes-to_be_bytes_4, from_be_bytes-to_
 use Rattle.geo_base.specs.Cursor.{has}
 use Rattle.cursor_acks.specs.declared.range.IndexRange.{IndexRange}
 use Rattle.cursor_acks.specs.Acks.{AreBelow}
-use Rattle.cursor_acks.specs.Ranges.{AreRangesOf, covers, indexes_of}
+use Rattle.cursor_acks.specs.Ranges.{covers}
 use Rattle.cursor_acks.proofs.Covered.{has_indexes, uncovered}
 use Rattle.state_items.specs.declared.rule.Rule.{Rule}
 use Rattle.state_items.specs.Fitting.{AllFit, IsCursor}
-use Rattle.state_items.specs.Ranges.{AreIn, IsNext, cursor_at, is_behind, no_range, range_at, ranges_at}
-use Rattle.state_items.specs.Reading.{◌>>=◌, Read, list_at, many, number_at, number_within, text_at, wide_at, word_at}
+use Rattle.state_items.specs.Ranges.{AreIn, IsNext, cursor_at, no_range, range_at, ranges_at}
+use Rattle.state_items.specs.Reading.{Read, list_at, many, number_at, number_within, text_at, wide_at, word_at}
 use Rattle.state_items.specs.Runs.{runs}
 use Rattle.state_items.specs.Texts.{cursor, list, number, range, text, word}
+use Rattle.state_items.proofs.Gaps.{few_ranges}
 use Rattle.state_items.proofs.Runs.{runs_are}
 
 -- ---- numbers and texts
@@ -112,21 +113,25 @@ all_next n [] before h = tt
 all_next n (r ∷ rs) before h =
     (next_in n before r rs h, all_next n rs (before ++ r ∷ []) (subst (λ (xs : List IndexRange). AreIn n xs) (sym (append_assoc before (r ∷ []) rs)) h))
 
+pub cursor_below : (n : ℕ) (set : List ℕ) → IsCursor n set → AreBelow n set
+cursor_below n set h i there =
+    elim (cases_lt i n) [
+      | inl lt ↦ lt
+      | inr ge ↦
+          let same : has set i ≡ covers h.ranges i = ap (λ (s : List ℕ). has s i) h.is ∙ has_indexes h.ranges i in
+          absurd (true≢false (sym there ∙ same ∙ uncovered h.ranges i (λ k d m a b. omega (arith, h.inside.within k d m))))
+    ]
+
 runs_again : (n : ℕ) (set : List ℕ) (h : IsCursor n set) → runs set 0 n ≡ h.ranges
 runs_again n set h =
     let same : (i : ℕ) → covers h.ranges i ≡ has set i = λ i. sym (has_indexes h.ranges i) ∙ ap (λ (s : List ℕ). has s i) (sym h.is) in
-    let below : AreBelow n set = λ i there.
-    elim (cases_lt i n) [
-      | inl lt ↦ lt
-      | inr ge ↦ absurd (true≢false (sym there ∙ sym (same i) ∙ uncovered h.ranges i (λ k d m a b. omega (arith, h.inside.within k d m))))
-    ] in
-    runs_are n set h.ranges (record { apart = h.inside.apart; same = same }) below
+    runs_are n set h.ranges (record { apart = h.inside.apart; same = same }) (cursor_below n set h)
 
 pub cursor_again : (n : ℕ) (set rest : List ℕ) → n < 2 ^ 64 → IsCursor n set → cursor_at n (cursor n set ++ rest) ≡ Ok (set, rest)
 unfolding cursor_at
 cursor_again n set rest lt h =
     let read : ranges_at n (list range h.ranges ++ rest) ≡ Ok (h.ranges, rest) =
-    list_again (range_at n) range (IsNext n) (range_again n lt) h.ranges rest h.few (all_next n h.ranges [] h.inside) in
+    list_again (range_at n) range (IsNext n) (range_again n lt) h.ranges rest (omega (arith, few_ranges n h.ranges h.inside, lt)) (all_next n h.ranges [] h.inside) in
     rw (runs_again n set h, read) (ap (λ (s : List ℕ). Ok (s, rest)) (sym h.is))
 
 pub number_long : (n : ℕ) → length (number n) ≡ 8

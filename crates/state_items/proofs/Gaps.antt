@@ -1,7 +1,6 @@
 -- Indexes and ranges behind others.
 use Rattle.std.proofs.Common.{◌≡◌, ℕ, zero, suc, ◌+◌, ◌-◌, ◌<◌, ◌≤◌, ◌==◌, nat_lt, true, false, List, [], ◌∷◌, ◌++◌, length, get_or, take, inl, inr, refl, sym, ap, ◌∙◌, append_assoc, arith}
-use Rattle.std.specs.Prelude.{◌||◌}
-use Rattle.std.specs.List.{All, range_with_len}
+use Rattle.std.specs.List.{range_with_len}
 use Rattle.std.proofs.lemmas.Bool.{cases_lt, true≢false}
 use Rattle.std.proofs.lemmas.Bool.Decides.{nat_tests}
 use Rattle.std.proofs.lemmas.List.{append-nil, take_all, take_more, get_or-take, length-take-le, get_or_default}
@@ -10,7 +9,7 @@ use Rattle.std.proofs.lemmas.List.Quantifiers.{all_pairs_push}
 use Rattle.geo_base.specs.Cursor.{has, with_index}
 use Rattle.cursor_acks.specs.declared.range.IndexRange.{IndexRange}
 use Rattle.cursor_acks.specs.Acks.{AreBelow}
-use Rattle.cursor_acks.specs.Ranges.{AreApart, covers, indexes_of}
+use Rattle.cursor_acks.specs.Ranges.{covers, indexes_of}
 use Rattle.cursor_acks.proofs.Covered.{has_indexes, uncovered}
 use Rattle.cursor_acks.proofs.Sets.{has_append}
 use Rattle.state_items.specs.Ranges.{AreIn, IsNext, is_behind, no_range}
@@ -113,3 +112,17 @@ one_in n rs r h e = record {
   };
   within = All-push (λ (s : IndexRange). s.last < n) rs r h.within e.within;
 }
+
+-- at least an index lies between the places of two ranges, so there are no more ranges than indexes
+place_rises : (n : ℕ) (rs : List IndexRange) (k : ℕ) (d : IndexRange) → AreIn n rs → k < length rs → k ≤ (get_or rs k d).first
+place_rises n rs zero d h lt = omega arith
+place_rises n rs (suc k) d h lt =
+    let before = place_rises n rs k d h (omega arith) in
+    omega (arith, before, h.apart.each k d (omega arith), h.apart.gaps k (suc k) d (omega arith) lt)
+
+pub few_ranges : (n : ℕ) (rs : List IndexRange) → AreIn n rs → length rs ≤ n
+few_ranges n [] h = omega arith
+few_ranges n (r ∷ rs) h =
+    let k = length rs in
+    let at : k < length (r ∷ rs) = omega arith in
+    omega (arith, place_rises n (r ∷ rs) k r h at, h.apart.each k r at, h.within k r at)

@@ -4,3 +4,4 @@ pub mod Runs
 pub mod Gaps
 pub mod Many
 pub mod Again
+pub mod Known

@@ -1,8 +1,8 @@
 -- Reading items one after the other, as a loop does.
-use Rattle.std.proofs.Common.{◌≡◌, ℕ, zero, suc, ◌+◌, ◌-◌, ◌<◌, ◌≤◌, List, [], ◌∷◌, ◌++◌, Result, Ok, Err, refl, sym, ap, ◌∙◌, arith}
+use Rattle.std.proofs.Common.{◌≡◌, ℕ, suc, ◌+◌, ◌-◌, ◌<◌, ◌≤◌, List, [], ◌∷◌, ◌++◌, Ok, Err, refl, sym, ap, ◌∙◌, arith}
 use Rattle.state_items.specs.declared.fault.ItemFault.{ItemFault}
 use Rattle.state_items.specs.declared.fault.ItemFault.TheVariants as item_fault
-use Rattle.state_items.specs.Reading.{◌>>=◌, Fails, Read, many}
+use Rattle.state_items.specs.Reading.{Fails, Read, many}
 
 pub goes_on : {A : Type 0} (one : List A → List ℕ → Read A) (count i : ℕ) (before new : List A) (bytes : List ℕ) (x : A) (after : List ℕ) (total : Read (List A)) → i < count → new ≡ before ++ x ∷ [] → one before bytes ≡ Ok (x, after)
     → many one (count - i) before bytes ≡ total → many one (count - (i + 1)) new after ≡ total

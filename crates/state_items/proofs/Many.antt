@@ -1,5 +1,5 @@
 -- Items that a relation tells, one after the other, as a loop reads them.
-use Rattle.std.proofs.Common.{◌≡◌, ℕ, zero, suc, ◌+◌, ◌-◌, ◌<◌, ◌≤◌, List, [], ◌∷◌, ◌++◌, length, Result, Ok, Err, refl, sym, ap, subst, ◌∙◌, append_assoc, arith}
+use Rattle.std.proofs.Common.{◌≡◌, ℕ, zero, suc, ◌+◌, ◌-◌, ◌<◌, ◌≤◌, List, [], ◌∷◌, ◌++◌, length, Ok, Err, refl, sym, ap, subst, ◌∙◌, append_assoc, arith}
 use Rattle.std.specs.List.{flat_map}
 use Rattle.std.proofs.lemmas.List.{append-nil}
 use Rattle.std.proofs.lemmas.List.Concat.{flat_map-cons}
@@ -8,7 +8,7 @@ use Rattle.state_items.specs.declared.fault.ItemFault.TheVariants as item_fault
 use Rattle.state_items.specs.Reading.{Read}
 use Rattle.state_items.specs.Fitting.{AllFit}
 use Rattle.state_items.proofs.Telling.{then_one}
-use Rattle.state_items.specs.Telling.{Many, TellsFault, Then, stops, goes}
+use Rattle.state_items.specs.Telling.{Many, TellsFault, stops, goes}
 
 pub goes_on : {A : Type 0} (One : List A → List ℕ → Read A → Type 0) (count i : ℕ) (before new : List A) (bytes : List ℕ) (x : A) (after : List ℕ) (Whole : Read (List A) → Type 0) → i < count → new ≡ before ++ x ∷ [] → One before bytes (Ok (x, after))
     → ((answer : Read (List A)) → Many One (count - i) before bytes answer → Whole answer)

@@ -1,5 +1,5 @@
 -- Answers of one reading and then the next.
-use Rattle.std.proofs.Common.{◌≡◌, ℕ, List, Result, Ok, Err, refl, sym, ap, subst, ◌∙◌}
+use Rattle.std.proofs.Common.{◌≡◌, Ok, Err, refl, sym, ap, subst, ◌∙◌}
 use Rattle.state_items.specs.declared.fault.Broken.{Broken}
 use Rattle.state_items.specs.declared.fault.ItemFault.{ItemFault}
 use Rattle.state_items.specs.declared.fault.ItemFault.TheVariants as item_fault

@@ -1,5 +1,5 @@
 -- Lists whose items can be written and read again.
-use Rattle.std.specs.Prelude.{◌≡◌, ℕ, ◌<◌, ◌^◌, List, [], ◌∷◌, ◌++◌, length}
+use Rattle.std.specs.Prelude.{◌≡◌, ℕ, List, [], ◌∷◌, ◌++◌}
 use Rattle.cursor_acks.specs.declared.range.IndexRange.{IndexRange}
 use Rattle.cursor_acks.specs.Ranges.{indexes_of}
 use Rattle.state_items.specs.Ranges.{AreIn}
@@ -14,4 +14,3 @@ pub record IsCursor (n : ℕ) (set : List ℕ) : Type 0 where
   pub ranges : List IndexRange
   pub inside : AreIn n ranges
   pub is : set ≡ indexes_of ranges
-  pub few : length ranges < 2 ^ 64

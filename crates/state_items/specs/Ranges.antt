@@ -1,5 +1,5 @@
 -- Reading the ranges of a cursor.
-use Rattle.std.specs.Prelude.{◌≡◌, ℕ, ◌≤◌, ◌+◌, ◌-◌, ◌<◌, nat_lt, nat_le, ◌==◌, Bool, true, ◌&&◌, ◌||◌, List, length, slice_index_or, Result, Ok, Err}
+use Rattle.std.specs.Prelude.{◌≡◌, ℕ, ◌≤◌, ◌+◌, ◌-◌, ◌<◌, nat_lt, nat_le, ◌==◌, Bool, true, ◌&&◌, ◌||◌, List, length, slice_index_or, Ok}
 use Rattle.cursor_acks.specs.declared.range.IndexRange.{IndexRange}
 use Rattle.std.specs.List.{All}
 use Rattle.cursor_acks.specs.Ranges.{AreApart, indexes_of}

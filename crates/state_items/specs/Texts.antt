@@ -1,5 +1,5 @@
 -- The texts of items: each value has one (own).
-use Rattle.std.specs.Prelude.{ℕ, List, ◌∷◌, [], ◌++◌, length}
+use Rattle.std.specs.Prelude.{ℕ, List, ◌++◌, length}
 use Rattle.std.specs.Int.{w32, w64, to_be_bytes}
 use Rattle.std.specs.List.{flat_map}
 use Rattle.cursor_acks.specs.declared.range.IndexRange.{IndexRange}

@@ -1,5 +1,5 @@
 //! Items as texts.
-ghost use Rattle.std.specs.Prelude.{◌≡◌, ◌<◌, ◌++◌, ◌^◌, ◌∷◌, [], length, OnOk};
+ghost use Rattle.std.specs.Prelude.{◌≡◌, ◌++◌, ◌∷◌, [], length, OnOk};
 ghost use Rattle.std.specs.List.{flat_map};
 ghost use Rattle.cursor_acks.specs.Acks.{AreBelow};
 ghost use Rattle.state_items.specs.Texts.{cursor, number, range, text, word};
@@ -31,12 +31,14 @@ pub fn put_word(out: &mut Blob, n: u32) -> Result<(), Memory>
     out.append(&n.to_be_bytes())
 }
 
-/// Appends a text behind its length.
+/// Appends a text behind its length. A text of 2^32 bytes, whose length has no four bytes, counts as want of memory.
 pub fn put_text(out: &mut Blob, content: &[u8]) -> Result<(), Memory>
-    requires { length content.now < 2 ^ 32 }
     ensures { OnOk result (out.new ≡ out.old ++ text content.now) }
 {
-    put_word(out, content.len() as u32)?;
+    let Ok(len) = u32::try_from(content.len()) else {
+        return Err(Memory);
+    };
+    put_word(out, len)?;
     out.append(content)
 }
 

@@ -1,6 +1,6 @@
 -- Counts, subscriptions and replicators are read again as they were written.
-use Rattle.std.proofs.Common.{◌≡◌, ◌≢◌, ℕ, zero, suc, ◌+◌, ◌<◌, ◌≤◌, ◌^◌, ◌==◌, Bool, true, false, List, [], ◌∷◌, ◌++◌, length, inl, inr, Result, Ok, Err, refl, sym, ap, ◌∙◌, append_assoc, arith}
-use Rattle.std.specs.Prelude.{nat_le, ◌&&◌, is_none, Option, None, if◌then◌else◌}
+use Rattle.std.proofs.Common.{◌≡◌, ℕ, suc, ◌+◌, ◌<◌, ◌≤◌, ◌^◌, ◌==◌, Bool, true, false, List, [], ◌∷◌, ◌++◌, length, inl, inr, Ok, refl, sym, ap, ◌∙◌, append_assoc, arith}
+use Rattle.std.specs.Prelude.{nat_le, is_none, Option, None, if◌then◌else◌}
 use Rattle.std.specs.List.{flat_map}
 use Rattle.std.proofs.lemmas.Bool.Decides.{nat_tests}
 use Rattle.std.proofs.lemmas.List.{append-nil, length-append}
@@ -8,15 +8,14 @@ use Rattle.geo_base.specs.declared.frame.SubKind.{SubKind}
 use Rattle.geo_base.specs.declared.frame.SubKind.TheVariants as kind
 use Rattle.geo_base.specs.Broker.{sub_named}
 use Rattle.geo_base.specs.Name.{is_name}
-use Rattle.geo_base.specs.Sender.{Sender, new_sender}
+use Rattle.geo_base.specs.Sender.{Sender}
 use Rattle.geo_base.specs.Subscribing.{most_subs}
-use Rattle.geo_base.specs.Subscription.{Subscription, cleared}
+use Rattle.geo_base.specs.Subscription.{Subscription}
 use Rattle.state_items.specs.declared.rule.Rule.TheVariants as rule
 use Rattle.state_items.specs.Fitting.{AllFit}
 use Rattle.state_items.specs.Limits.{most_count}
-use Rattle.state_items.specs.Ranges.{cursor_at}
-use Rattle.state_items.specs.Reading.{many, number_at, number_within, text_at}
-use Rattle.state_items.specs.Texts.{cursor, list, number, text}
+use Rattle.state_items.specs.Reading.{many}
+use Rattle.state_items.specs.Texts.{cursor, number, text}
 use Rattle.state_items.proofs.Again.{cursor_again, many_again, number_again, text_again, within_again}
 use Rattle.state_parts.specs.declared.counts.Counts.{Counts}
 use Rattle.state_parts.specs.Counts.{counts_at, counts_text}

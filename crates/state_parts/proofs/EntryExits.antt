@@ -1,16 +1,15 @@
 -- The payload of an entry makes it whole.
-use Rattle.std.proofs.Common.{◌≡◌, ℕ, ◌+◌, ◌-◌, ◌<◌, ◌≤◌, Bool, true, false, List, [], ◌∷◌, ◌++◌, Result, Ok, Err, refl, sym, ap, subst, ◌∙◌, arith}
+use Rattle.std.proofs.Common.{◌≡◌, ℕ, ◌+◌, ◌-◌, ◌<◌, ◌≤◌, Bool, true, false, List, [], ◌∷◌, ◌++◌, Result, Ok, Err, refl, sym, ap, subst, ◌∙◌}
 use Rattle.std.specs.Prelude.{nat_le, IfOk}
 use Rattle.geo_base.specs.declared.entry.Entry.{Entry}
 use Rattle.geo_base.specs.declared.entry.Ident.{Ident}
 use Rattle.geo_base.specs.Sizes.{entry_size, most_entry_size}
 use Rattle.entry_texts.specs.Stored.{IsStored}
-use Rattle.state_items.specs.declared.fault.Broken.{Broken}
 use Rattle.state_items.specs.declared.fault.ItemFault.{ItemFault}
 use Rattle.state_items.specs.declared.fault.ItemFault.TheVariants as item_fault
 use Rattle.state_items.specs.declared.rule.Rule.TheVariants as rule
-use Rattle.state_items.specs.Reading.{Answer, Fails, Read, broken, judge, text_at}
-use Rattle.state_items.specs.Telling.{Many, Tells, TellsFault, Then, goes, stops}
+use Rattle.state_items.specs.Reading.{Fails, Read, broken, text_at}
+use Rattle.state_items.specs.Telling.{Many, Tells, TellsFault, goes, stops}
 use Rattle.state_items.proofs.Many as told
 use Rattle.state_parts.specs.declared.heading.Heading.{Heading}
 use Rattle.state_parts.specs.Book.{EntryList}

@@ -1,5 +1,5 @@
 -- What the metadata of an entry is an answer of.
-use Rattle.std.proofs.Common.{◌≡◌, ◌≢◌, ℕ, Bool, true, false, List, Result, Ok, Err, refl, sym, ap, subst, ◌∙◌}
+use Rattle.std.proofs.Common.{◌≡◌, ◌≢◌, ℕ, Bool, true, false, List, Ok, Err, refl, sym, ap, subst, ◌∙◌}
 use Rattle.std.specs.Prelude.{Option, Some, None}
 use Rattle.geo_base.specs.declared.entry.Entry.{Entry}
 use Rattle.entry_texts.specs.Origins.{origin_of}
@@ -12,10 +12,10 @@ use Rattle.pb_fields.proofs.Messages.{message_sound}
 use Rattle.state_items.specs.declared.fault.ItemFault.{ItemFault}
 use Rattle.state_items.specs.declared.fault.ItemFault.TheVariants as item_fault
 use Rattle.state_items.specs.declared.rule.Rule.TheVariants as rule
-use Rattle.state_items.specs.Reading.{Answer, broken, judge}
+use Rattle.state_items.specs.Reading.{broken}
 use Rattle.state_items.specs.Telling.{TellsFault}
 use Rattle.state_parts.specs.declared.heading.Heading.{Heading}
-use Rattle.state_parts.specs.Entries.{IsHeading, Says, headed, ident_of, is_next, nothing, with_origin}
+use Rattle.state_parts.specs.Entries.{IsHeading, Says, ident_of, is_next, nothing, with_origin}
 
 no_text : (bytes : List ℕ) (e : MessageFault) → WrongMessage ROWS bytes e → Says bytes None
 no_text bytes e wrong = nothing (λ m h. message_sound ROWS bytes h.fields e h.text h.means.message wrong)

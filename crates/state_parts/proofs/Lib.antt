@@ -11,3 +11,5 @@ pub mod One
 pub mod Tails
 pub mod Items
 pub mod Rows
+pub mod Known
+pub mod NodeKnown

@@ -1,9 +1,8 @@
 -- The durable part of a broker is read again as it was written.
-use Rattle.std.proofs.Common.{◌≡◌, ℕ, zero, suc, ◌+◌, ◌<◌, ◌≤◌, ◌^◌, ◌==◌, Bool, true, false, List, [], ◌∷◌, ◌++◌, length, Result, Ok, Err, refl, sym, ap, subst, ◌∙◌, append_assoc, arith}
+use Rattle.std.proofs.Common.{◌≡◌, ℕ, ◌<◌, ◌≤◌, ◌^◌, ◌==◌, true, List, [], ◌++◌, length, Ok, refl, sym, ap, ◌∙◌, append_assoc, arith}
 use Rattle.std.specs.Prelude.{nat_lt, nat_le, Option, Some}
 use Rattle.std.specs.List.{flat_map, sum}
 use Rattle.std.proofs.lemmas.Bool.Decides.{nat_tests}
-use Rattle.entry_texts.specs.Origins.{origin_of}
 use Rattle.entry_texts.specs.Texts.{entry_text, metadata_text}
 use Rattle.entry_texts.specs.Told.{IsSaid}
 use Rattle.entry_texts.proofs.Told.{some_said}
@@ -13,18 +12,17 @@ use Rattle.geo_base.specs.Broker.{Broker}
 use Rattle.geo_base.specs.Sizes.{entry_size, most_entry_size}
 use Rattle.message_meta.specs.Metadata.{Metadata}
 use Rattle.state_items.specs.declared.rule.Rule.TheVariants as rule
-use Rattle.state_items.specs.Fitting.{AllFit}
-use Rattle.state_items.specs.Reading.{Answer, Read, many, number_at, text_at}
-use Rattle.state_items.specs.Telling.{Many, Then}
-use Rattle.state_items.specs.Texts.{list, number, text}
+use Rattle.state_items.specs.Reading.{text_at}
+use Rattle.state_items.specs.Telling.{Then}
+use Rattle.state_items.specs.Texts.{number, text}
 use Rattle.state_items.proofs.Again.{number_again, text_again, within_again}
 use Rattle.state_items.proofs.Again as again
 use Rattle.state_items.proofs.Many as told
 use Rattle.state_parts.specs.declared.heading.Heading.{Heading}
-use Rattle.state_parts.specs.Entries.{AreEntries, IsEntry, IsHeading, IsPayload, IsSized, ident_of, is_next, sized, something, with_origin}
+use Rattle.state_parts.specs.Entries.{AreEntries, IsEntry, IsHeading, IsPayload, ident_of, is_next, sized, something, with_origin}
 use Rattle.state_parts.specs.Fitting.{IsDurable, IsNextEntry}
 use Rattle.state_parts.specs.Ledgers.{entry_count, ledgers_at, ledgers_text, length_at}
-use Rattle.state_parts.specs.Nodes.{IsNode, behind_entries, broker_with, counted_ledgers_at, node_text, shares_at}
+use Rattle.state_parts.specs.Nodes.{IsNode, behind_entries, counted_ledgers_at, node_text, shares_at}
 use Rattle.state_parts.specs.Senders.{senders_text}
 use Rattle.state_parts.specs.Subs.{subs_text}
 use Rattle.state_parts.proofs.Back.{senders_again, subs_again}

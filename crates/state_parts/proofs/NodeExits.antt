@@ -6,7 +6,7 @@ use Rattle.geo_base.specs.Broker.{Broker}
 use Rattle.state_items.specs.declared.fault.ItemFault.{ItemFault}
 use Rattle.state_items.specs.declared.fault.ItemFault.TheVariants as item_fault
 use Rattle.state_items.specs.Reading.{Fails, Gives}
-use Rattle.state_items.specs.Telling.{Tells, TellsFault, Then, goes, stops}
+use Rattle.state_items.specs.Telling.{Tells, TellsFault, goes, stops}
 use Rattle.state_parts.specs.Entries.{AreEntries}
 use Rattle.state_parts.specs.Nodes.{IsNode, behind_entries, counted_ledgers_at}
 

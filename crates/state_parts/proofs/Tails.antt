@@ -1,5 +1,5 @@
 -- What holds of each part holds of the one at a place.
-use Rattle.std.proofs.Common.{◌≡◌, ℕ, ◌<◌, List, length, map, get_or, sym, subst, arith}
+use Rattle.std.proofs.Common.{ℕ, ◌<◌, List, length, get_or, subst, arith}
 use Rattle.std.specs.List.{All}
 use Rattle.std.proofs.lemmas.List.{get_or-map, length-map}
 use Rattle.cursor_acks.specs.Acks.{AreBelow}

@@ -1,6 +1,6 @@
 -- What tells whether one more entry may stand behind others.
-use Rattle.std.proofs.Common.{◌≡◌, ◌≢◌, ℕ, zero, suc, ◌+◌, ◌-◌, ◌<◌, ◌≤◌, ◌==◌, Bool, true, false, List, [], ◌∷◌, ◌++◌, refl, sym, ap, subst, ◌∙◌, arith}
-use Rattle.std.specs.Prelude.{Option, Some, None, max, ◌&&◌, ◌↔◌, if◌then◌else◌}
+use Rattle.std.proofs.Common.{◌≡◌, ℕ, ◌==◌, Bool, true, false, List, [], ◌∷◌, ◌++◌, refl, sym, ap, subst, ◌∙◌, arith}
+use Rattle.std.specs.Prelude.{Option, Some, ◌&&◌, ◌↔◌}
 use Rattle.std.specs.Str.{bytes_eq}
 use Rattle.std.proofs.lemmas.Bool.Decides.{nat_tests}
 use Rattle.geo_base.specs.declared.entry.Entry.{Entry}
@@ -13,7 +13,7 @@ use Rattle.dedup_table.specs.declared.stream.Stream.{Stream}
 use Rattle.dedup_table.specs.Table.{Row, Table, Tells, noted, stream_of, verdict}
 use Rattle.dedup_table.proofs.Tells.{tells_new}
 use Rattle.restart.proofs.Markers.{next_marker-push}
-use Rattle.state_parts.specs.Book.{TellsLast, is_new, is_turn, last_with, number_behind}
+use Rattle.state_parts.specs.Book.{TellsLast, is_new, is_turn, last_with}
 use Rattle.state_parts.specs.Entries.{is_in_turn, is_next}
 
 new_then : (v : Verdict) (b : Bool) → ((v ≡ judged.New) ↔ (b ≡ true)) → is_new v ≡ b

@@ -1,5 +1,5 @@
 -- What a run counted.
-use Rattle.std.specs.Prelude.{ℕ, ◌+◌, nat_le, ◌&&◌, List, ◌++◌, Result, Ok, Err}
+use Rattle.std.specs.Prelude.{ℕ, ◌+◌, nat_le, ◌&&◌, List, ◌++◌, Ok}
 use Rattle.geo_base.specs.Run.{most_events, most_sent_bytes}
 use Rattle.state_items.specs.declared.rule.Rule.TheVariants as rule
 use Rattle.state_items.specs.Reading.{◌>>=◌, Read, judge, number_at, number_within}

@@ -1,5 +1,5 @@
 -- The lengths of a topic's ledgers, each of which takes per entries.
-use Rattle.std.specs.Prelude.{ℕ, ◌==◌, nat_lt, List, [], Result, Ok, Err}
+use Rattle.std.specs.Prelude.{ℕ, ◌==◌, nat_lt, List, [], Ok}
 use Rattle.std.specs.List.{sum}
 use Rattle.state_items.specs.declared.rule.Rule.TheVariants as rule
 use Rattle.state_items.specs.Reading.{◌>>=◌, Read, judge, many, number_at, number_within}

@@ -7,3 +7,4 @@ pub mod Book
 pub mod Nodes
 pub mod Writing
 pub mod Fitting
+pub mod Known

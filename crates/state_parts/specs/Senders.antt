@@ -1,5 +1,5 @@
 -- The replicators of a broker to the other clusters, over a topic of n entries. Own is the broker's cluster.
-use Rattle.std.specs.Prelude.{ℕ, ◌+◌, ◌==◌, if◌then◌else◌, List, [], ◌∷◌, ◌++◌, length, Result, Ok, Err}
+use Rattle.std.specs.Prelude.{ℕ, ◌+◌, ◌==◌, if◌then◌else◌, List, [], ◌∷◌, ◌++◌, length, Ok}
 use Rattle.geo_base.specs.Sender.{Sender, new_sender}
 use Rattle.state_items.specs.declared.rule.Rule.TheVariants as rule
 use Rattle.state_items.specs.Ranges.{cursor_at}

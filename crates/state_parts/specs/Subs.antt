@@ -1,5 +1,5 @@
 -- The subscriptions of a topic of n entries.
-use Rattle.std.specs.Prelude.{ℕ, ◌==◌, nat_le, Bool, true, false, ◌&&◌, if◌then◌else◌, List, [], ◌∷◌, ◌++◌, is_none, Result, Ok, Err}
+use Rattle.std.specs.Prelude.{ℕ, ◌==◌, nat_le, Bool, true, false, ◌&&◌, if◌then◌else◌, List, [], ◌∷◌, ◌++◌, is_none, Ok}
 use Rattle.geo_base.specs.declared.frame.SubKind.{SubKind}
 use Rattle.geo_base.specs.declared.frame.SubKind.TheVariants as kind
 use Rattle.geo_base.specs.Broker.{sub_named}

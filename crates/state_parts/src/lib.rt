@@ -6,6 +6,7 @@
 
 mod book;
 mod counts;
+mod durable;
 mod entries;
 mod heading;
 mod laws;
@@ -16,6 +17,6 @@ mod subs;
 mod writing;
 
 pub use counts::{Counts, counts_at};
-pub use laws::parts_read_back;
+pub use laws::{parts_are_known, parts_read_back};
 pub use nodes::{NodeParts, node_at};
 pub use writing::{put_counts, put_node};

@@ -1,5 +1,5 @@
 //! The parts of a state as texts.
-ghost use Rattle.std.specs.Prelude.{◌≡◌, ◌++◌, ◌<◌, ◌^◌, ◌∷◌, [], if◌then◌else◌, length, OnOk};
+ghost use Rattle.std.specs.Prelude.{◌≡◌, ◌++◌, ◌∷◌, [], if◌then◌else◌, length, OnOk};
 ghost use Rattle.std.specs.List.{All, flat_map};
 ghost use Rattle.geo_base.specs.Sender.{Sender};
 ghost use Rattle.geo_base.specs.Subscription.{Subscription};
@@ -12,7 +12,7 @@ ghost use Rattle.state_parts.specs.Ledgers.{ledgers_text};
 ghost use Rattle.state_parts.specs.Nodes.{broker_of, node_text};
 ghost use Rattle.state_parts.specs.Senders.{sender_text, senders_text};
 ghost use Rattle.state_parts.specs.Subs.{flag_byte, kind_byte, sub_text, subs_text};
-ghost use Rattle.state_parts.specs.Writing.{CanWrite, CanWriteEntry};
+ghost use Rattle.state_parts.specs.Writing.{CanWrite, HaveRests};
 
 use crate::counts::Counts;
 use crate::nodes::NodeParts;
@@ -44,7 +44,7 @@ pub fn put_node(
     own: u32,
     node: &NodeParts,
 ) -> Result<(), Memory>
-    requires { CanWrite names.now own (broker_of node.now) }
+    requires { CanWrite (broker_of node.now) }
     ensures { OnOk result (out.new ≡ out.old ++ node_text names.now own (broker_of node.now)) }
 {
     let count = node.entries.len() as u64;
@@ -77,14 +77,14 @@ fn put_entries(
     own: u32,
     entries: &[Entry],
 ) -> Result<(), Memory>
-    requires { All (CanWriteEntry names.now own) entries.now }
+    requires { HaveRests entries.now }
     ensures { OnOk result (out.new ≡ out.old ++ list (entry_text names.now own) entries.now) }
 {
     put_number(out, entries.len() as u64)?;
     put_each_entry(alloc, out, names, own, entries)
 }
 
-#[tactic(auto, using(crate::proofs::Items::has_rest, crate::proofs::Items::short_metadata, crate::proofs::Items::short_payload))]
+#[tactic(auto, using(crate::proofs::Items::has_rest))]
 fn put_each_entry(
     alloc: Global,
     out: &mut Blob,
@@ -92,7 +92,7 @@ fn put_each_entry(
     own: u32,
     entries: &[Entry],
 ) -> Result<(), Memory>
-    requires { All (CanWriteEntry names.now own) entries.now }
+    requires { HaveRests entries.now }
     ensures { OnOk result (out.new ≡ out.old ++ flat_map (entry_text names.now own) entries.now) }
 {
     for entry in entries {
@@ -130,8 +130,6 @@ fn put_sub(out: &mut Blob, entries: u64, sub: &DurableSub) -> Result<(), Memory>
     put_number(out, sub.seeks)
 }
 
-/// A name, which is short.
-#[tactic(auto, using(crate::proofs::Names::name_short))]
 fn put_name(out: &mut Blob, name: &SubName) -> Result<(), Memory>
     ensures { OnOk result (out.new ≡ out.old ++ text name.now) }
 {
@@ -158,12 +156,11 @@ fn put_senders(
     own: u32,
     senders: &[DurableSender],
 ) -> Result<(), Memory>
-    requires bound { length senders.now < 2 ^ 32 }
-    requires below { All (λ (s : Sender). AreBelow entries s.cursor) (senders_of senders.now) }
+    requires { All (λ (s : Sender). AreBelow entries s.cursor) (senders_of senders.now) }
     ensures { OnOk result (out.new ≡ out.old ++ senders_text entries own (senders_of senders.now)) }
 {
     for cluster in 0..senders.len() {
-        put_place(out, entries, cluster as u32 == own, &senders[cluster])?;
+        put_place(out, entries, cluster == own as usize, &senders[cluster])?;
     }
     Ok(())
 }

@@ -4,7 +4,7 @@ use Rattle.state_parts.proofs.writing.put_senders.Goals as goal
 
 pub put_place-requires : goal.put_place-requires
 put_place-requires c =
-    rw c.index-senders-cluster.is (sender_below c.args.entries c.args.senders.now c.loop-cluster.cluster _ c.requires.below c.loop-cluster-test.true)
+    rw c.index-senders-cluster.is (sender_below c.args.entries c.args.senders.now c.loop-cluster.cluster _ c.requires c.loop-cluster-test.true)
 
 pub loop-cluster-preserved : goal.loop-cluster-preserved
 loop-cluster-preserved c =
