@@ -6,7 +6,8 @@ usage: slow_cases.py CASE SIZE ..           prints the script
        slow_cases.py test OUT               writes each case at small sizes into OUT, NAME.geo and NAME.report
 
   resent RESENT MESSAGES          one producer sends RESENT messages again (at most 256), behind MESSAGES of another one
-  acknowledged MESSAGES ORDER     single acknowledgements with all MESSAGES out, the first or the last one first
+  acknowledged MESSAGES ORDER     single acknowledgements with all MESSAGES out: the first or the last one first, or mixed; upto acknowledges
+                                  all up to each message in turn
   clients TOPICS CLIENTS MESSAGES MESSAGES on the last of TOPICS, each of which has CLIENTS connected clients (at most 32), each with
                                   a subscription of its own
   late ENTRIES ROUNDS             a topic of ENTRIES markers, and behind them ROUNDS of a local and a replicated message, each offered
@@ -23,7 +24,8 @@ import sys
 
 PER_LEDGER = 50000
 MOST_EVENTS, MOST_BYTES = 2000000, 67108864
-SMALL = ['resent 2 3', 'resent 3 1', 'acknowledged 3 first', 'acknowledged 3 last', 'clients 2 2 2', 'clients 1 3 1', 'late 0 2', 'late 3 2']
+STRIDE = 7919
+SMALL = ['resent 2 3', 'resent 3 1', 'acknowledged 3 first', 'acknowledged 3 last', 'acknowledged 5 mixed', 'acknowledged 3 upto', 'clients 2 2 2', 'clients 1 3 1', 'late 0 2', 'late 3 2']
 
 
 class Case:
@@ -93,7 +95,15 @@ def pubs(client, count):
     return ['pub %d * - %s%d' % (i, client, i) for i in range(count)]
 
 
-def acks(idents):
+def acks(idents, order='first'):
+    """Each message by itself; mixed is an order in which the next message stands far away."""
+    if order == 'upto':
+        return ['ackto ' + ident for ident, _ in idents]
+    if order == 'last':
+        idents = idents[::-1]
+    if order == 'mixed':
+        assert len(idents) % STRIDE
+        idents = [idents[i * STRIDE % len(idents)] for i in range(len(idents))]
     return ['ack ' + ident for ident, _ in idents]
 
 
@@ -127,12 +137,12 @@ def resent(again, messages):
 
 
 def acknowledged(messages, order):
-    assert order in ('first', 'last')
+    assert order in ('first', 'last', 'mixed', 'upto')
     messages = int(messages)
     idents = published('a', 'p', messages)
     case = Case(['t'], {'p': ('t', 'a'), 'c': ('t', 'a')})
     case.do('p', 'produce', *pubs('p', messages))
-    case.do('c', 'sub s exclusive earliest local', flow(messages), *acks(idents if order == 'first' else idents[::-1]))
+    case.do('c', 'sub s exclusive earliest local', flow(messages), *acks(idents, order))
     case.connects('p', 1)
     case.connects('c', 2)
     for _ in range(messages):

@@ -1,9 +1,14 @@
 pub mod Connecting
 pub mod Getting
 pub mod HeldLists
+pub mod HeldMessages
+pub mod HeldSlots
 pub mod KnownNames
 pub mod Preparing
 pub mod Published
 pub mod Short
+pub mod SlotIndexes
+pub mod SlotKeys
+pub mod SlotLists
 pub mod Wire
 pub mod Writable

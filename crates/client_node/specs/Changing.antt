@@ -1,9 +1,9 @@
 -- What an event changes at a client, and what it sends: prepared before it is done, and no copy of the client.
-use Rattle.std.specs.Prelude.{◌+◌, ◌<◌, ◌^◌, true, not, List, [], ◌∷◌, ◌++◌, length, filter, drop, remove, Option, Some, None, is_some, ⊤}
+use Rattle.std.specs.Prelude.{◌+◌, ◌<◌, ◌^◌, true, not, List, [], ◌∷◌, ◌++◌, length, filter, drop, Option, Some, None, is_some, ⊤}
 use Rattle.geo_base.specs.declared.client.Held.{Held}
 use Rattle.geo_base.specs.declared.packet.Out.{Out}
 use Rattle.geo_base.specs.Client.{Acted, Client, connected_to}
-use Rattle.geo_base.specs.Going.{most_acks, past}
+use Rattle.geo_base.specs.Going.{most_acks, past, without_first}
 use Rattle.geo_base.specs.Position.{position_le}
 use Rattle.client_node.specs.declared.client.change.ClientChange.{ClientChange}
 use Rattle.client_node.specs.declared.client.change.ClientChange.TheVariants as change
@@ -16,7 +16,7 @@ changed change.Produces k = record (past k) { produce = Some k.done }
 changed change.Publishes k = record (past k) { unanswered = k.unanswered ++ k.done ∷ [] }
 changed change.Subscribes k = record (past k) { sub = Some k.done; flow = None; held = [] }
 changed change.Permits k = record (past k) { flow = Some k.done }
-changed (change.Acknowledges at) k = record (past k) { held = remove k.held at }
+changed (change.Acknowledges i) k = record (past k) { held = without_first k.held i }
 changed (change.AcknowledgesTo p) k = record (past k) { held = filter (λ (h : Held). not (position_le h.position p)) k.held }
 changed change.AcknowledgesAll k = record (past k) { held = drop most_acks k.held }
 changed change.EndsSub k = record (past k) { sub = None; flow = None; held = [] }
@@ -38,10 +38,9 @@ pub record ClientPlan : Type 0 where
 abbrev pub acted : ClientPlan → Client → Acted
 acted p k = record { idle = not (is_some p.change); client = client_after p.change k; sent = p.sent }
 
--- the place is one of a held message, the window has room, and no number comes to its end
+-- the window has room, and no number comes to its end
 abbrev pub ChangeFits : ClientChange → Client → Type 0
 ChangeFits change.Publishes k = (k.done + 1 < 2 ^ 64) × (length k.unanswered < 256)
-ChangeFits (change.Acknowledges at) k = (k.done + 1 < 2 ^ 64) × (at < length k.held)
 ChangeFits (change.Moves x) k = (k.done + 1 < 2 ^ 64) × (k.connection + 1 < 2 ^ 64)
 ChangeFits change.Reconnects k = k.connection + 1 < 2 ^ 64
 ChangeFits c k = k.done + 1 < 2 ^ 64

@@ -3,5 +3,7 @@ pub mod Site
 pub mod Packets
 pub mod Sent
 pub mod Changing
+pub mod SlotIndex
+pub mod HeldSlots
 pub mod Prepared
 pub mod State

@@ -9,27 +9,26 @@ ghost use Rattle.client_node.specs.Counted.{CanCount};
 ghost use Rattle.client_node.specs.Changing.{ChangeFits, ClientFits, changed, client_after};
 
 mod acknowledging;
-pub mod change;
+mod change;
 mod commands;
 mod connecting;
 mod ending;
 mod getting;
 mod going;
-mod held;
-pub mod outgoing;
+mod outgoing;
 mod plan;
-pub mod prepared;
-pub mod state;
+mod prepared;
+mod state;
 
 use crate::client::change::ClientChange;
-use crate::client::held::{forget_first, forget_to};
 use crate::client::outgoing::Connection;
-use crate::client::prepared::Prepared;
+use crate::held::HeldTable;
 use crate::site::ClientSite;
-use geo_base::client::Held;
 use geo_base::entry::Ident;
 use geo_base::limits::{ACKED_AT_ONCE, UNANSWERED};
 use geo_base::memory::Memory;
+pub use prepared::Prepared;
+pub use state::{ClientState, ClientView};
 use std::alloc::Global;
 use std::marker::Model;
 
@@ -49,7 +48,7 @@ pub struct Client {
     sub: Option<usize>,
     flow: Option<usize>,
     unanswered: Vec<usize>,
-    held: Vec<Held>,
+    held: HeldTable,
     receipts: u64,
     duplicates: u64,
     errors: u64,
@@ -71,7 +70,7 @@ impl Model for Client {
       sub = k.sub;
       flow = k.flow;
       unanswered = k.unanswered.items;
-      held = k.held.items;
+      held = k.held;
       receipts = k.receipts;
       duplicates = k.duplicates;
       errors = k.errors;
@@ -95,7 +94,7 @@ impl Client {
             sub: None,
             flow: None,
             unanswered: Vec::with_capacity(alloc, UNANSWERED)?,
-            held: Vec::new(alloc),
+            held: HeldTable::new(alloc),
             receipts: 0,
             duplicates: 0,
             errors: 0,
@@ -118,7 +117,7 @@ impl Client {
         requires { ClientFits prepared.change self.old }
         ensures { self.new ≡ client_after prepared.change self.old }
     {
-        if let Some(change) = prepared.change() {
+        if let Some(change) = prepared.into_change() {
             self.change(change);
         }
     }
@@ -150,17 +149,17 @@ impl Client {
                 self.held.clear();
             }
             ClientChange::Permits => self.flow = Some(self.pass_line()),
-            ClientChange::Acknowledges(at) => {
+            ClientChange::Acknowledges(ident) => {
                 self.pass_line();
-                self.held.remove(at);
+                self.held.forget(&ident);
             }
             ClientChange::AcknowledgesTo(position) => {
                 self.pass_line();
-                forget_to(&mut self.held, position);
+                self.held.forget_to(position);
             }
             ClientChange::AcknowledgesAll => {
                 self.pass_line();
-                forget_first(&mut self.held, ACKED_AT_ONCE);
+                self.held.forget_first(ACKED_AT_ONCE);
             }
             ClientChange::EndsSub => self.end_sub(),
             ClientChange::EndsProducer => {

@@ -1,16 +1,16 @@
 //! A client of the clusters whose packets are bytes: its own events, and what it keeps.
 #![tactic(auto)]
 
-pub mod client;
+mod client;
+mod held;
 mod laws;
-pub mod packet;
-pub mod site;
+mod packet;
+mod site;
 #[cfg(test)]
 mod tests;
 
-pub use client::Client;
-pub use client::prepared::Prepared;
-pub use client::state::{ClientState, ClientView};
+pub use client::{Client, ClientState, ClientView, Prepared};
+pub use held::HeldTable;
 pub use laws::{law_known_names, law_short_lines};
 pub use packet::{Incoming, Outgoing};
 pub use site::ClientSite;

@@ -7,12 +7,10 @@ ghost use Rattle.client_node.specs.Changing.{ClientFits};
 ghost use Rattle.client_node.specs.Counted.{CanCount};
 ghost use Rattle.client_node.specs.Site.{is_short_line};
 
+mod holding;
 mod story;
 
-use crate::client::Client;
-use crate::client::prepared::Prepared;
-use crate::packet::Incoming;
-use crate::site::ClientSite;
+use crate::{Client, ClientSite, Incoming, Prepared};
 use geo_base::limits::{CLUSTERS, TEXT_BYTES};
 use geo_base::name::name_text;
 use geo_base::{ClusterName, Line, Memory, ProducerName, Text, TopicName};

@@ -7,7 +7,6 @@ ghost use Rattle.client_node.specs.Changing.{ClientFits, acted};
 use crate::client::Client;
 use crate::client::change::ClientChange;
 use crate::client::commands::id_of;
-use crate::client::held::{first_held, first_positions};
 use crate::client::plan::Plan;
 use geo_base::entry::Ident;
 use geo_base::frame::{AckKind, Frame};
@@ -24,14 +23,14 @@ impl Client {
         ensures acted { IfOk result (λ p. acted p self.now ≡ acks_one self.now ident.now (first_held self.now.held ident.now)) }
         ensures fits { IfOk result (λ p. ClientFits p.change self.now) }
     {
-        let Some(found) = first_held(self.held.as_slice(), ident) else {
+        let Some(position) = self.held.first(ident) else {
             return Ok(Plan::idle(alloc));
         };
         self.acks(
             alloc,
-            ClientChange::Acknowledges(found.at),
+            ClientChange::Acknowledges(ident.copy(alloc)?),
             AckKind::Individual,
-            one(alloc, found.position)?,
+            one(alloc, position)?,
         )
     }
 
@@ -41,14 +40,14 @@ impl Client {
         ensures acted { IfOk result (λ p. acted p self.now ≡ acks_to self.now (first_held self.now.held ident.now)) }
         ensures fits { IfOk result (λ p. ClientFits p.change self.now) }
     {
-        let Some(found) = first_held(self.held.as_slice(), ident) else {
+        let Some(position) = self.held.first(ident) else {
             return Ok(Plan::idle(alloc));
         };
         self.acks(
             alloc,
-            ClientChange::AcknowledgesTo(found.position),
+            ClientChange::AcknowledgesTo(position),
             AckKind::Cumulative,
-            one(alloc, found.position)?,
+            one(alloc, position)?,
         )
     }
 
@@ -71,7 +70,7 @@ impl Client {
         ensures acted { IfOk result (λ p. acted p self.now ≡ acks_all self.now self.now.held) }
         ensures fits { IfOk result (λ p. ClientFits p.change self.now) }
     {
-        let positions = first_positions(alloc, self.held.as_slice(), ACKED_AT_ONCE)?;
+        let positions = self.held.positions(alloc, ACKED_AT_ONCE)?;
         let prepared = self.acks(
             alloc,
             ClientChange::AcknowledgesAll,

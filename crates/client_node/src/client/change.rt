@@ -1,8 +1,9 @@
 //! What an event changes at a client.
+use geo_base::entry::Ident;
 use geo_base::position::Position;
 
 /// What an event changes at a client. All but the last do its next line.
-#[derive(Clone, Copy, Debug, Drop, PartialEq, Eq)]
+#[derive(Debug, Drop)]
 pub enum ClientChange {
     /// The line is done, and nothing else changes.
     Passes,
@@ -14,8 +15,8 @@ pub enum ClientChange {
     Subscribes,
     /// The line is the `flow` line in force from now on.
     Permits,
-    /// The held message at a place is acknowledged.
-    Acknowledges(usize),
+    /// The first held message of an identity is acknowledged.
+    Acknowledges(Ident),
     /// All that is held up to a position is acknowledged.
     AcknowledgesTo(Position),
     /// What is held first is acknowledged, as much as one ACK may name.

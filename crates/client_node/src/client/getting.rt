@@ -126,12 +126,11 @@ impl Client {
             seq: ident.seq,
         };
         let got = held.copy(alloc)?;
-        self.held.reserve(1)?;
         self.got.reserve(1)?;
-        self.held.push_reserved(Held {
+        self.held.push(Held {
             ident: held,
             position,
-        });
+        })?;
         self.got.push_reserved(got);
         Ok(())
     }

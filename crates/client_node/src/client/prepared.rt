@@ -57,8 +57,8 @@ impl Prepared {
     }
 
     /// What the client changes.
-    pub(super) fn change(&self) -> Option<ClientChange>
-        ensures { result ≡ self.now.change }
+    pub(super) fn into_change(self) -> Option<ClientChange>
+        ensures { result ≡ self.change }
     {
         self.change
     }

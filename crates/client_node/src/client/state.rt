@@ -3,7 +3,7 @@ ghost use Rattle.std.specs.Prelude.{◌≡◌, IfOk};
 ghost use Rattle.client_node.specs.State.{stopped, viewed};
 
 use crate::client::Client;
-use geo_base::client::Held;
+use crate::held::HeldTable;
 use geo_base::entry::Ident;
 use geo_base::limits::UNANSWERED;
 use geo_base::memory::Memory;
@@ -22,7 +22,7 @@ pub struct ClientView<'a> {
     pub sub: Option<usize>,
     pub flow: Option<usize>,
     pub unanswered: &'a [usize],
-    pub held: &'a [Held],
+    pub held: &'a HeldTable,
     pub receipts: u64,
     pub duplicates: u64,
     pub errors: u64,
@@ -61,7 +61,7 @@ impl Client {
             sub: state.sub,
             flow: state.flow,
             unanswered,
-            held: Vec::new(alloc),
+            held: HeldTable::new(alloc),
             receipts: state.receipts,
             duplicates: state.duplicates,
             errors: state.errors,
@@ -82,7 +82,7 @@ impl Client {
             sub: self.sub,
             flow: self.flow,
             unanswered: self.unanswered.as_slice(),
-            held: self.held.as_slice(),
+            held: &self.held,
             receipts: self.receipts,
             duplicates: self.duplicates,
             errors: self.errors,

@@ -7,5 +7,5 @@ use Rattle.client_node.proofs.client.Client.acknowledges_first.Goals as goal
 
 pub returns-clause-acted : goal.returns-clause-acted
 returns-clause-acted c =
-    let held = c.as_slice.ensures.value ∙ ap (λ (k : Client). k.held) c.self.view_is in
+    let held = ap (λ (k : Client). k.held) c.self.view_is in
     acked_all c.args.self.now _ _ c.requires.some (c.in_ok-positions.ensures.positions ∙ ap (λ (hs : List Held). map (λ (h : Held). h.position) (take most_acks hs)) held) c.in_ok-prepared.ensures
