@@ -11,7 +11,7 @@ ghost use Rattle.world_kept.specs.Reached.{Reached};
 use crate::fault::RunFault;
 use crate::world::World;
 use geo_base::event::Step;
-use script_text::Scenario;
+use script_text::{Scenario, StepList};
 use std::alloc::Global;
 
 impl World {
@@ -21,7 +21,7 @@ impl World {
         &mut self,
         alloc: Global,
         scenario: &Scenario,
-        steps: &[Step],
+        steps: &StepList,
     ) -> Result<(), RunFault>
         requires at { IsAt scenario.now.setup self.old }
         requires each { All (IsStep scenario.now.setup) steps.now }
@@ -29,8 +29,8 @@ impl World {
             → Comes scenario.now.setup self.new (run_from all_limits scenario.now.setup (at_world w) steps.now) result }
         ensures at { IsAt scenario.now.setup self.new }
     {
-        for step in steps {
-            self.step(alloc, scenario, step)?;
+        for place in 0..steps.len() {
+            self.step(alloc, scenario, &steps.at(place))?;
         }
         Ok(())
     }

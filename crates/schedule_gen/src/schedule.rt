@@ -3,7 +3,8 @@ ghost use Rattle.std.specs.Prelude.{◌≡◌, ◌∷◌, [], ◌++◌, IfOk, On
 ghost use Rattle.schedule_gen.specs.Schedule.{connects, finishes, generated_steps, opens, round, rounds, turns};
 
 use crate::draws::{Draws, Pair, pair_at};
-use geo_base::{Event, Memory, Sequence, Step};
+use geo_base::{Event, Memory, Step};
+use script_text::StepList;
 use std::alloc::Global;
 
 /// The clients, all of which connect first.
@@ -23,10 +24,10 @@ const ROUNDS: u32 = 4_000;
 
 /// The steps of a run's number.
 #[tactic(auto, unfolding(crate::specs::Schedule::generated_steps))]
-pub(crate) fn steps(alloc: Global, number: u32) -> Result<Sequence<Step>, Memory>
+pub(crate) fn steps(alloc: Global, number: u32) -> Result<StepList, Memory>
     ensures { IfOk result (λ ss. ss ≡ generated_steps number) }
 {
-    let mut steps = Sequence::new(alloc);
+    let mut steps = StepList::new(alloc);
     add_connects(&mut steps)?;
     add_opens(&mut steps)?;
     add_turns(&mut steps, Draws::new(number))?;
@@ -36,7 +37,7 @@ pub(crate) fn steps(alloc: Global, number: u32) -> Result<Sequence<Step>, Memory
 }
 
 #[tactic(auto, using(crate::proofs::Counting::connects_next, crate::proofs::Counting::connects_none, std::proofs::lemmas::Grind::common_steps))]
-fn add_connects(steps: &mut Sequence<Step>) -> Result<(), Memory>
+fn add_connects(steps: &mut StepList) -> Result<(), Memory>
     ensures { OnOk result (steps.new ≡ steps.old ++ connects 4) }
 {
     for client in 0..CLIENTS {
@@ -46,7 +47,7 @@ fn add_connects(steps: &mut Sequence<Step>) -> Result<(), Memory>
 }
 
 #[tactic(auto, using(crate::proofs::Counting::opens_next, crate::proofs::Counting::opens_none, std::proofs::lemmas::Grind::common_steps))]
-fn add_opens(steps: &mut Sequence<Step>) -> Result<(), Memory>
+fn add_opens(steps: &mut StepList) -> Result<(), Memory>
     ensures { OnOk result (steps.new ≡ steps.old ++ opens 6) }
 {
     for number in 0..PAIRS {
@@ -61,7 +62,7 @@ fn add_opens(steps: &mut Sequence<Step>) -> Result<(), Memory>
 }
 
 #[tactic(auto, using(crate::proofs::Counting::turns_next, crate::proofs::Counting::turns_none, std::proofs::lemmas::Grind::common_steps))]
-fn add_turns(steps: &mut Sequence<Step>, mut draws: Draws) -> Result<(), Memory>
+fn add_turns(steps: &mut StepList, mut draws: Draws) -> Result<(), Memory>
     ensures { OnOk result (steps.new ≡ steps.old ++ (turns 20000 draws).steps) }
 {
     for turn in 0..TURNS {
@@ -71,7 +72,7 @@ fn add_turns(steps: &mut Sequence<Step>, mut draws: Draws) -> Result<(), Memory>
 }
 
 #[tactic(auto, using(crate::proofs::Counting::finishes_next, crate::proofs::Counting::finishes_none, std::proofs::lemmas::Grind::common_steps))]
-fn add_finishes(steps: &mut Sequence<Step>) -> Result<(), Memory>
+fn add_finishes(steps: &mut StepList) -> Result<(), Memory>
     ensures { OnOk result (steps.new ≡ steps.old ++ finishes 3) }
 {
     for client in 0..PRODUCERS {
@@ -82,7 +83,7 @@ fn add_finishes(steps: &mut Sequence<Step>) -> Result<(), Memory>
 }
 
 #[tactic(auto, using(crate::proofs::Counting::rounds_next, crate::proofs::Counting::rounds_none, std::proofs::lemmas::Grind::common_steps))]
-fn add_rounds(steps: &mut Sequence<Step>, client: u32) -> Result<(), Memory>
+fn add_rounds(steps: &mut StepList, client: u32) -> Result<(), Memory>
     ensures { OnOk result (steps.new ≡ steps.old ++ rounds client 4000) }
 {
     for number in 0..ROUNDS {
@@ -91,7 +92,7 @@ fn add_rounds(steps: &mut Sequence<Step>, client: u32) -> Result<(), Memory>
     Ok(())
 }
 
-fn add_round(steps: &mut Sequence<Step>, client: u32) -> Result<(), Memory>
+fn add_round(steps: &mut StepList, client: u32) -> Result<(), Memory>
     ensures { OnOk result (steps.new ≡ steps.old ++ round client) }
 {
     let cluster = client;

@@ -50,7 +50,7 @@ fn schedules_are_read_and_written_the_same(rt: HostRuntime) -> Result<(), Fail> 
     let scenario = read_script(rt.alloc(), STORY)?;
     let steps = read_schedule(rt.alloc(), &scenario, SCHEDULE)?;
     assert_eq!(rt; steps.len(), 19);
-    let text = write_schedule(rt.alloc(), &scenario, steps.as_slice())?;
+    let text = write_schedule(rt.alloc(), &scenario, &steps)?;
     assert_eq!(rt; text.as_slice(), SCHEDULE);
     for (schedule, line, rule) in CASES {
         assert!(rt; schedule.len() < 1_000);

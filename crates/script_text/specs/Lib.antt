@@ -1,4 +1,5 @@
 pub mod Lines
+pub mod Forms
 pub mod Naming
 pub mod Script
 pub mod Adding

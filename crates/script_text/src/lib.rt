@@ -33,6 +33,7 @@ mod read;
 mod scenario;
 mod schedule;
 mod setup;
+mod step_list;
 mod steps;
 mod subs;
 
@@ -44,3 +45,4 @@ pub use law::{declarations_read_back, schedules_go_on};
 pub use read::read_script;
 pub use scenario::{Scenario, ScenarioParts};
 pub use schedule::{read_schedule, write_schedule};
+pub use step_list::StepList;

@@ -3,6 +3,7 @@ ghost use Rattle.std.specs.Prelude.{◌≡◌, slice_get, All, IfOk, IfSome, OnO
 ghost use Rattle.std.specs.Option.{option_copied};
 ghost use Rattle.geo_base.specs.Scripted.{IsScripted};
 ghost use Rattle.geo_base.specs.Setup.{sub_names};
+ghost use Rattle.script_text.specs.Canonical.{declared_alone};
 ghost use Rattle.script_text.specs.Drafts.{IsDeclared};
 ghost use Rattle.script_text.specs.Naming.{names_of};
 ghost use Rattle.script_text.specs.Rules.{script_with};
@@ -13,8 +14,9 @@ use crate::client::ClientDecl;
 use crate::declarations::Declarations;
 use crate::schedule::AT_EVENTS;
 use crate::setup::SetupParts;
+use crate::step_list::StepList;
 use crate::steps::Steps;
-use geo_base::{ClusterName, Memory, Sequence, Step, SubName, TopicName};
+use geo_base::{ClusterName, Memory, Sequence, SubName, TopicName};
 use script_rows::Names;
 use std::alloc::Global;
 use std::marker::Model;
@@ -27,7 +29,7 @@ pub struct ScenarioParts {
     pub clusters: Sequence<ClusterName>,
     pub topics: Sequence<TopicName>,
     pub clients: Sequence<ClientDecl>,
-    pub steps: Sequence<Step>,
+    pub steps: StepList,
 }
 
 impl Model for ScenarioParts {
@@ -83,6 +85,16 @@ impl Scenario {
         ensures { result ≡ script_with (record { declared = declared; steps = steps }) }
     {
         Scenario { declared, steps }
+    }
+
+    /// What is declared, without a schedule; takes no memory.
+    pub fn without_steps(self, alloc: Global) -> Scenario
+        ensures { result ≡ declared_alone self.setup self.chance }
+    {
+        Scenario {
+            declared: self.declared,
+            steps: Steps::new(alloc),
+        }
     }
 
     /// How many entries a ledger takes.
@@ -143,11 +155,11 @@ impl Scenario {
     }
 
     /// The schedule.
-    pub fn steps(&self) -> &[Step]
+    pub fn steps(&self) -> &StepList
         ensures steps { result.now ≡ self.now.steps }
         ensures each { All (IsStep self.now.setup) self.now.steps }
     {
-        self.steps.as_slice()
+        self.steps.list()
     }
 
     /// What the events of the script may name.

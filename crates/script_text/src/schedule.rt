@@ -9,8 +9,9 @@ ghost use Rattle.script_text.specs.Schedule.{schedule_of, schedule_text};
 use crate::fault::ScriptFault;
 use crate::lines::Lines;
 use crate::scenario::Scenario;
+use crate::step_list::StepList;
 use crate::steps::Steps;
-use geo_base::{Blob, Memory, Sequence, Step};
+use geo_base::{Blob, Memory};
 use script_rows::{LineFault, Names, Progress, Stage};
 use std::alloc::Global;
 
@@ -31,7 +32,7 @@ pub fn read_schedule(
     alloc: Global,
     scenario: &Scenario,
     bytes: &[u8],
-) -> Result<Sequence<Step>, ScriptFault>
+) -> Result<StepList, ScriptFault>
     requires { length bytes.now < 2 ^ 32 }
 
     // What is answered is what the schedule says.
@@ -52,7 +53,7 @@ pub fn read_schedule(
 
 /// The same, said at once.
 #[tactic(auto, using(crate::proofs::LineCounts::length_lines_of))]
-fn read(alloc: Global, scenario: &Scenario, bytes: &[u8]) -> Result<Sequence<Step>, ScriptFault>
+fn read(alloc: Global, scenario: &Scenario, bytes: &[u8]) -> Result<StepList, ScriptFault>
     requires { length bytes.now < 2 ^ 32 }
     ensures answers { Answers result (schedule_of scenario.now.setup bytes.now) }
     ensures known { IfOk result (All (IsStep scenario.now.setup)) }
@@ -82,7 +83,7 @@ fn read(alloc: Global, scenario: &Scenario, bytes: &[u8]) -> Result<Sequence<Ste
 /// Writes the steps of a schedule, a line each, by the names of a script. What is written of steps that the script may
 /// schedule reads back the same.
 #[tactic(auto, using(crate::proofs::ScheduleBack::schedule_back))]
-pub fn write_schedule(alloc: Global, scenario: &Scenario, steps: &[Step]) -> Result<Blob, Memory>
+pub fn write_schedule(alloc: Global, scenario: &Scenario, steps: &StepList) -> Result<Blob, Memory>
     ensures text { IfOk result (λ text. text ≡ schedule_text (names_of scenario.now.setup) steps.now) }
     ensures back { IfOk result (λ text. All (IsStep scenario.now.setup) steps.now
         → schedule_of scenario.now.setup text ≡ Ok steps.now) }
@@ -91,12 +92,12 @@ pub fn write_schedule(alloc: Global, scenario: &Scenario, steps: &[Step]) -> Res
     write_steps(alloc, &names, steps)
 }
 
-fn write_steps(alloc: Global, names: &Names<'_>, steps: &[Step]) -> Result<Blob, Memory>
+fn write_steps(alloc: Global, names: &Names<'_>, steps: &StepList) -> Result<Blob, Memory>
     ensures { IfOk result (λ text. text ≡ schedule_text names.now steps.now) }
 {
     let mut text = Blob::new(alloc);
-    for step in steps {
-        names.write_step(alloc, &mut text, step)?;
+    for place in 0..steps.len() {
+        names.write_step(alloc, &mut text, &steps.at(place))?;
         text.append(b"\n")?;
     }
     Ok(text)

@@ -8,7 +8,8 @@ ghost use Rattle.script_text.specs.Schedule.{scheduled};
 ghost use Rattle.script_text.specs.Script.{no_steps};
 
 use crate::lines::TextLine;
-use geo_base::{Memory, Sequence, Step};
+use crate::step_list::StepList;
+use geo_base::{Memory, Step};
 use script_rows::{Heading, LineFault, Names, Progress, Row, Rule, heading_of};
 use std::alloc::Global;
 use std::marker::Model;
@@ -17,7 +18,7 @@ use std::marker::Model;
 #[derive(Debug, Drop)]
 pub(crate) struct Steps {
     first: Option<u64>,
-    list: Sequence<Step>,
+    list: StepList,
 }
 
 impl Model for Steps {
@@ -35,12 +36,12 @@ impl Steps {
     {
         Steps {
             first: None,
-            list: Sequence::new(alloc),
+            list: StepList::new(alloc),
         }
     }
 
     /// Steps that no line scheduled; takes no memory.
-    pub(crate) fn of_list(list: Sequence<Step>) -> Steps
+    pub(crate) fn of_list(list: StepList) -> Steps
         ensures { result ≡ record { first = None; list = list } }
     {
         Steps { first: None, list }
@@ -54,14 +55,14 @@ impl Steps {
     }
 
     /// The steps.
-    pub(crate) fn as_slice(&self) -> &[Step]
+    pub(crate) fn list(&self) -> &StepList
         ensures { result.now ≡ self.now.list }
     {
-        self.list.as_slice()
+        &self.list
     }
 
     /// The steps alone.
-    pub(crate) fn into_list(self) -> Sequence<Step>
+    pub(crate) fn into_list(self) -> StepList
         ensures { result ≡ self.list }
     {
         self.list
