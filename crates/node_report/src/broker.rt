@@ -18,7 +18,7 @@ pub fn add_broker(alloc: Global, lines: &mut Blob, broker: &TopicNode) -> Result
     requires { length broker.now.broker.senders ≡ length broker.now.site.clusters }
     ensures { OnOk result (lines.new ≡ lines.old ++ with_line_feeds (broker_lines broker.now.site.clusters broker.now.site.own broker.now.broker)) }
 {
-    add_entries(alloc, lines, broker.site().clusters(), broker.store())?;
+    add_entries(lines, broker.site().clusters(), broker.store())?;
     add_senders(alloc, lines, broker)?;
     add_subs(alloc, lines, broker)
 }

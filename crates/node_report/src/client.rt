@@ -30,7 +30,7 @@ pub fn add_client(
     let cluster = cluster_name(clusters, view.cluster);
     let line = client_line(alloc, declared.name().as_str(), cluster, &counts)?;
     add(lines, line)?;
-    add_got(alloc, lines, clusters, view.got)
+    add_got(lines, clusters, view.got)
 }
 
 /// How many of its lines a client has done, and what came.

@@ -1,5 +1,5 @@
 -- Words in a row, some of which are groups of words.
-use Rattle.std.proofs.Common.{◌≡◌, ℕ, ◌<◌, List, [], ◌∷◌, ◌++◌, length, map, refl, sym, ap, append_assoc, arith}
+use Rattle.std.proofs.Common.{◌≡◌, ℕ, ◌<◌, List, [], ◌∷◌, ◌++◌, length, map, refl, sym, ap, append_assoc, ◌∙◌, arith}
 use Rattle.std.proofs.lemmas.List.{append-nil}
 use Rattle.std.specs.Prelude.{codes, decimal, slice_index_or}
 use Rattle.geo_base.specs.declared.entry.Content.{Content}
@@ -39,7 +39,7 @@ regrouped : (first place origin producer seq to what s e : List ℕ)
     ≡ (first ++ (s ++ (place ++ (s ++ (origin ++ (s ++ (producer ++ (s ++ (seq ++ (s ++ (to ++ (s ++ what)))))))))))) ++ e
 regrouped first place origin producer seq to what s e = simp append_assoc
 
-pub entry_whole : (names : List (List ℕ)) (p : Position) (e : Entry)
+entry_whole : (names : List (List ℕ)) (p : Position) (e : Entry)
     → codes "entry " ++ (shown_position p ++ (32 ∷ (words (shown_ident names e.ident) ++ (32 ∷ (shown_targets names e.to ++ (32 ∷ (words (shown_content names e e.content) ++ 10 ∷ [])))))))
     ≡ entry_line names p e ++ 10 ∷ []
 entry_whole names p e =
@@ -47,17 +47,30 @@ entry_whole names p e =
     rw (words_more to what (content_some names e e.content))
     (regrouped (codes "entry") (shown_position p) (slice_index_or names e.ident.origin []) (printed e.ident.producer) (decimal e.ident.seq) to (words what) (32 ∷ []) (10 ∷ []))
 
+-- nine parts behind what stands there
+joined : (old a b c d e f g h i : List ℕ) → ((((((((old ++ a) ++ b) ++ c) ++ d) ++ e) ++ f) ++ g) ++ h) ++ i ≡ old ++ (a ++ (b ++ (c ++ (d ++ (e ++ (f ++ (g ++ (h ++ i))))))))
+joined old a b c d e f g h i = simp append_assoc
+
+pub line_whole : (names : List (List ℕ)) (p : Position) (e : Entry) (old first place two ident four to six what all : List ℕ)
+    → first ≡ old ++ codes "entry " → place ≡ first ++ shown_position p → two ≡ place ++ 32 ∷ [] → ident ≡ two ++ words (shown_ident names e.ident)
+    → four ≡ ident ++ 32 ∷ [] → to ≡ four ++ shown_targets names e.to → six ≡ to ++ 32 ∷ [] → what ≡ six ++ words (shown_content names e e.content)
+    → all ≡ what ++ 10 ∷ [] → all ≡ old ++ (entry_line names p e ++ 10 ∷ [])
+line_whole names p e old first place two ident four to six what all e1 e2 e3 e4 e5 e6 e7 e8 e9 =
+    rw (e9, e8, e7, e6, e5, e4, e3, e2, e1)
+    (joined old (codes "entry ") (shown_position p) (32 ∷ []) (words (shown_ident names e.ident)) (32 ∷ []) (shown_targets names e.to) (32 ∷ []) (words (shown_content names e e.content)) (10 ∷ [])
+    ∙ ap (λ (line : List ℕ). old ++ line) (entry_whole names p e))
+
 -- a snapshot, and an update
-pub snapshot_whole : (names : List (List ℕ)) (id : List ℕ) (local : Position) (remote : List ClusterPosition) (text with : List ℕ)
-    → text ≡ codes "snapshot" ++ (32 ∷ (printed id ++ (32 ∷ shown_position local))) → with ≡ text ++ spaced (map (shown_cluster_position names) remote)
-    → with ≡ words (shown_marker names (marker.Snapshot id local remote))
-snapshot_whole names id local remote text with is added =
+pub snapshot_whole : (names : List (List ℕ)) (id : List ℕ) (local : Position) (remote : List ClusterPosition) (old text with : List ℕ)
+    → text ≡ old ++ (codes "snapshot" ++ (32 ∷ (printed id ++ (32 ∷ shown_position local)))) → with ≡ text ++ spaced (map (shown_cluster_position names) remote)
+    → with ≡ old ++ words (shown_marker names (marker.Snapshot id local remote))
+snapshot_whole names id local remote old text with is added =
     let rest = map (shown_cluster_position names) remote in
     rw (added, is, words_spaced (shown_position local) rest) (simp append_assoc)
 
-pub update_whole : (names : List (List ℕ)) (sub : List ℕ) (remote : List ClusterPosition) (text with : List ℕ)
-    → text ≡ codes "update" ++ (32 ∷ printed sub) → with ≡ text ++ spaced (map (shown_cluster_position names) remote)
-    → with ≡ words (shown_marker names (marker.Update sub remote))
-update_whole names sub remote text with is added =
+pub update_whole : (names : List (List ℕ)) (sub : List ℕ) (remote : List ClusterPosition) (old text with : List ℕ)
+    → text ≡ old ++ (codes "update" ++ (32 ∷ printed sub)) → with ≡ text ++ spaced (map (shown_cluster_position names) remote)
+    → with ≡ old ++ words (shown_marker names (marker.Update sub remote))
+update_whole names sub remote old text with is added =
     let rest = map (shown_cluster_position names) remote in
     rw (added, is, words_spaced (printed sub) rest) (simp append_assoc)

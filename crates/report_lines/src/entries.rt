@@ -6,15 +6,14 @@ ghost use Rattle.geo_base.specs.declared.entry.Entry.{Entry};
 ghost use Rattle.geo_base.specs.Report.{entry_line, entry_lines, got_line, with_line_feeds};
 ghost use Rattle.geo_base.specs.Topic.{position_at};
 
-use crate::lines::{entry_line, got_line};
+use crate::words::{add_content, add_ident, add_position, add_targets};
 use geo_base::bytes::Blob;
-use geo_base::entry::Ident;
+use geo_base::entry::{Entry, Ident};
 use geo_base::entry_store::EntryStore;
 use geo_base::limits::CLUSTERS;
 use geo_base::memory::Memory;
 use geo_base::name::ClusterName;
 use geo_base::position::Position;
-use std::alloc::Global;
 
 /// Appends one more line.
 pub fn add(lines: &mut Blob, line: String) -> Result<(), Memory>
@@ -25,7 +24,6 @@ pub fn add(lines: &mut Blob, line: String) -> Result<(), Memory>
 
 /// Appends the entries of a topic, each at its position.
 pub fn add_entries<S: EntryStore>(
-    alloc: Global,
     lines: &mut Blob,
     clusters: &[ClusterName],
     store: &S,
@@ -34,14 +32,13 @@ pub fn add_entries<S: EntryStore>(
     ensures { OnOk result (lines.new ≡ lines.old ++ with_line_feeds (entry_lines clusters.now (S.ledgers store.now) 0 (S.entries store.now))) }
 {
     for index in 0..store.len() {
-        add_entry(alloc, lines, clusters, store, index)?;
+        add_entry(lines, clusters, store, index)?;
     }
     Ok(())
 }
 
 /// The entry at an index.
 fn add_entry<S: EntryStore>(
-    alloc: Global,
     lines: &mut Blob,
     clusters: &[ClusterName],
     store: &S,
@@ -53,9 +50,31 @@ fn add_entry<S: EntryStore>(
 {
     let position = place(store, index);
     match store.get(index) {
-        Some(entry) => add(lines, entry_line(alloc, clusters, position, entry)?),
+        Some(entry) => add_line(lines, clusters, position, entry),
         None => unreachable!(),
     }
+}
+
+/// An entry at its position: a message, a marker, or a marker that nobody reads.
+#[tactic(auto, using(crate::proofs::Wholes::line_whole))]
+fn add_line(
+    lines: &mut Blob,
+    clusters: &[ClusterName],
+    position: Position,
+    entry: &Entry,
+) -> Result<(), Memory>
+    requires { length clusters.now ≤ CLUSTERS }
+    ensures { OnOk result (lines.new ≡ lines.old ++ (entry_line clusters.now position entry.now ++ 10 ∷ [])) }
+{
+    lines.append(b"entry ")?;
+    add_position(lines, position)?;
+    lines.append(b" ")?;
+    add_ident(lines, clusters, &entry.ident)?;
+    lines.append(b" ")?;
+    add_targets(lines, clusters, entry.to)?;
+    lines.append(b" ")?;
+    add_content(lines, clusters, entry)?;
+    lines.append(b"\n")
 }
 
 /// The position of an index; 0:0 where nothing stands there.
@@ -72,16 +91,20 @@ fn place<S: EntryStore>(store: &S, index: usize) -> Position
 }
 
 /// Appends the messages that a client got, in order of receipt.
-pub fn add_got(
-    alloc: Global,
-    lines: &mut Blob,
-    clusters: &[ClusterName],
-    got: &[Ident],
-) -> Result<(), Memory>
+pub fn add_got(lines: &mut Blob, clusters: &[ClusterName], got: &[Ident]) -> Result<(), Memory>
     ensures { OnOk result (lines.new ≡ lines.old ++ with_line_feeds (map (got_line clusters.now) got.now)) }
 {
     for ident in got {
-        add(lines, got_line(alloc, clusters, ident)?)?;
+        add_one(lines, clusters, ident)?;
     }
     Ok(())
+}
+
+/// A message that a client got.
+fn add_one(lines: &mut Blob, clusters: &[ClusterName], ident: &Ident) -> Result<(), Memory>
+    ensures { OnOk result (lines.new ≡ lines.old ++ (got_line clusters.now ident.now ++ 10 ∷ [])) }
+{
+    lines.append(b"got ")?;
+    add_ident(lines, clusters, ident)?;
+    lines.append(b"\n")
 }

@@ -11,6 +11,5 @@ mod words;
 
 pub use entries::{add, add_entries, add_got};
 pub use lines::{
-    ClientCounts, SubShown, client_line, entry_line, got_line, head_line, place_line, sender_line,
-    sub_line,
+    ClientCounts, SubShown, client_line, head_line, place_line, sender_line, sub_line,
 };

@@ -1,17 +1,10 @@
-//! Each kind of line.
-ghost use Rattle.std.specs.Prelude.{◌≡◌, ◌≤◌, ◌++◌, ◌∷◌, [], length, codes, decimal, string_bytes, IfOk};
-ghost use Rattle.geo_base.specs.Report.{entry_line, got_line, shown_kind, shown_replicated, shown_seeks, shown_state, words};
+//! Lines that a report has few of.
+ghost use Rattle.std.specs.Prelude.{◌≡◌, ◌++◌, ◌∷◌, [], length, codes, decimal, string_bytes, IfOk};
+ghost use Rattle.geo_base.specs.Report.{shown_kind, shown_replicated, shown_seeks, shown_state, words};
 
-use crate::words::{
-    shown_content, shown_done, shown_ident, shown_kind, shown_position, shown_replicated,
-    shown_state, shown_targets,
-};
-use geo_base::entry::{Entry, Ident};
+use crate::words::{shown_done, shown_kind, shown_replicated, shown_state};
 use geo_base::frame::SubKind;
-use geo_base::limits::CLUSTERS;
 use geo_base::memory::Memory;
-use geo_base::name::ClusterName;
-use geo_base::position::Position;
 use geo_base::sender::SenderState;
 use std::alloc::Global;
 
@@ -47,24 +40,6 @@ pub fn place_line(alloc: Global, topic: &str, cluster: &str) -> Result<String, M
     ensures { IfOk result (λ line. string_bytes line ≡ words (codes "topic" ∷ topic.now ∷ codes "at" ∷ cluster.now ∷ []) ++ 10 ∷ []) }
 {
     Ok(format!(in alloc; "topic {topic} at {cluster}\n")?)
-}
-
-/// An entry at its position: a message, a marker, or a marker that nobody reads.
-#[tactic(auto, using(crate::proofs::Wholes::entry_whole))]
-pub fn entry_line(
-    alloc: Global,
-    clusters: &[ClusterName],
-    position: Position,
-    entry: &Entry,
-) -> Result<String, Memory>
-    requires { length clusters.now ≤ CLUSTERS }
-    ensures { IfOk result (λ line. string_bytes line ≡ entry_line clusters.now position entry.now ++ 10 ∷ []) }
-{
-    let place = shown_position(alloc, position)?;
-    let ident = shown_ident(alloc, clusters, &entry.ident)?;
-    let to = shown_targets(alloc, clusters, entry.to)?;
-    let content = shown_content(alloc, clusters, entry)?;
-    Ok(format!(in alloc; "entry {place} {ident} {to} {content}\n")?)
 }
 
 /// The sender to a cluster.
@@ -135,12 +110,4 @@ pub fn client_line(
     Ok(format!(in alloc;
         "client {name} at {cluster} lines {done} receipts {receipts} duplicates {duplicates} errors {errors}\n"
     )?)
-}
-
-/// A message that a client got.
-pub fn got_line(alloc: Global, clusters: &[ClusterName], ident: &Ident) -> Result<String, Memory>
-    ensures { IfOk result (λ line. string_bytes line ≡ got_line clusters.now ident.now ++ 10 ∷ []) }
-{
-    let ident = shown_ident(alloc, clusters, ident)?;
-    Ok(format!(in alloc; "got {ident}\n")?)
 }

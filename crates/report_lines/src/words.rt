@@ -1,10 +1,12 @@
-//! The words of the report's lines.
+//! The words of the report's lines, each appended to what stands before it.
 ghost use Rattle.std.specs.Prelude.{◌≡◌, ◌<◌, ◌≤◌, ◌&&◌, [], ◌∷◌, ◌++◌, length, nat_le, codes, decimal, if◌then◌else◌, IfOk, OnOk, slice_index_or, string_bytes};
+ghost use Rattle.std.specs.List.{list_all};
 ghost use Rattle.geo_base.specs.Client.{target_names};
 ghost use Rattle.geo_base.specs.Report.{commas, printed, shown_content, shown_ident, shown_key, shown_kind, shown_position, shown_replicated, shown_state, shown_targets, words};
+ghost use Rattle.report_lines.specs.Printed.{is_shown};
 
-use crate::markers::shown_marker;
-use geo_base::bytes::Text;
+use crate::markers::add_marker;
+use geo_base::bytes::{Blob, Text};
 use geo_base::entry::{Content, Entry, Ident, Targets};
 use geo_base::frame::SubKind;
 use geo_base::limits::CLUSTERS;
@@ -12,128 +14,148 @@ use geo_base::memory::Memory;
 use geo_base::name::ClusterName;
 use geo_base::position::Position;
 use geo_base::sender::SenderState;
+use itoa::Buffer;
 use std::alloc::Global;
 
 /// Bytes of which a terminal shows each as itself: others are shown as `?`.
-pub(crate) fn printed(alloc: Global, bytes: &[u8]) -> Result<String, Memory>
-    ensures { IfOk result (λ text. string_bytes text ≡ printed bytes.now) }
+#[tactic(auto, using(crate::proofs::Shown::shown_whole))]
+pub(crate) fn add_printed(lines: &mut Blob, bytes: &[u8]) -> Result<(), Memory>
+    ensures { OnOk result (lines.new ≡ lines.old ++ printed bytes.now) }
 {
-    let mut text = String::new(alloc);
-    for byte in bytes {
-        text.push(printed_byte(*byte))?;
+    if are_shown(bytes) {
+        return lines.append(bytes);
     }
-    Ok(text)
+    for byte in bytes {
+        lines.append(&[printed_byte(*byte)])?;
+    }
+    Ok(())
 }
 
-fn printed_byte(byte: u8) -> char
-    ensures shown { result ≡ (if nat_le 32 byte && nat_le byte 126 then byte else 63) }
-    ensures ascii { result < 128 }
+/// Whether a terminal shows each byte as itself, as nearly all are.
+fn are_shown(bytes: &[u8]) -> bool
+    ensures { result ≡ list_all is_shown bytes.now }
 {
-    if (b' '..=b'~').contains(&byte) {
-        byte as char
-    } else {
-        '?'
-    }
+    bytes.iter().all(|b| is_shown(*b))
+}
+
+fn is_shown(byte: u8) -> bool
+    ensures { result ≡ is_shown byte }
+{
+    matches!(byte, b' '..=b'~')
+}
+
+fn printed_byte(byte: u8) -> u8
+    ensures { result ≡ (if is_shown byte then byte else 63) }
+{
+    if is_shown(byte) { byte } else { b'?' }
+}
+
+/// A number.
+fn add_number(lines: &mut Blob, number: u64) -> Result<(), Memory>
+    ensures { OnOk result (lines.new ≡ lines.old ++ decimal number) }
+{
+    lines.append(Buffer::new().format(number).as_bytes())
+}
+
+/// A position: its ledger's number and its entry's number there.
+pub(crate) fn add_position(lines: &mut Blob, position: Position) -> Result<(), Memory>
+    ensures { OnOk result (lines.new ≡ lines.old ++ shown_position position) }
+{
+    add_number(lines, position.ledger)?;
+    lines.append(b":")?;
+    add_number(lines, position.entry)
 }
 
 /// What names an entry: its origin, its producer and its sequence id.
-pub(crate) fn shown_ident(
-    alloc: Global,
+pub(crate) fn add_ident(
+    lines: &mut Blob,
     clusters: &[ClusterName],
     ident: &Ident,
-) -> Result<String, Memory>
-    ensures { IfOk result (λ text. string_bytes text ≡ words (shown_ident clusters.now ident.now)) }
+) -> Result<(), Memory>
+    ensures { OnOk result (lines.new ≡ lines.old ++ words (shown_ident clusters.now ident.now)) }
 {
-    let origin = cluster_name(clusters, ident.origin);
-    let producer = printed(alloc, ident.producer.as_bytes())?;
-    let seq = ident.seq;
-    Ok(format!(in alloc; "{origin} {producer} {seq}")?)
+    lines.append(cluster_name(clusters, ident.origin).as_bytes())?;
+    lines.append(b" ")?;
+    add_printed(lines, ident.producer.as_bytes())?;
+    lines.append(b" ")?;
+    add_number(lines, ident.seq)
 }
 
 /// What an entry is: a message, a marker, or a marker of a type that nobody reads.
-pub(crate) fn shown_content(
-    alloc: Global,
+pub(crate) fn add_content(
+    lines: &mut Blob,
     clusters: &[ClusterName],
     entry: &Entry,
-) -> Result<String, Memory>
-    ensures { IfOk result (λ text. string_bytes text ≡ words (shown_content clusters.now entry.now entry.now.content)) }
+) -> Result<(), Memory>
+    ensures { OnOk result (lines.new ≡ lines.old ++ words (shown_content clusters.now entry.now entry.now.content)) }
 {
     match &entry.content {
-        Content::Data => shown_message(alloc, entry),
-        Content::Marked(marker) => shown_marker(alloc, clusters, marker),
-        Content::Unread(_) => Ok(String::from_str(alloc, "unread")?),
+        Content::Data => add_message(lines, entry),
+        Content::Marked(marker) => add_marker(lines, clusters, marker),
+        Content::Unread(_) => lines.append(b"unread"),
     }
 }
 
 /// What a message is: its key and its payload.
-fn shown_message(alloc: Global, entry: &Entry) -> Result<String, Memory>
-    ensures { IfOk result (λ text. string_bytes text ≡ words (codes "data" ∷ shown_key entry.now.meta.key ∷ printed entry.now.payload ∷ [])) }
+fn add_message(lines: &mut Blob, entry: &Entry) -> Result<(), Memory>
+    ensures { OnOk result (lines.new ≡ lines.old ++ words (codes "data" ∷ shown_key entry.now.meta.key ∷ printed entry.now.payload ∷ [])) }
 {
-    let key = shown_key(alloc, &entry.meta.key)?;
-    let payload = printed(alloc, entry.payload.as_slice())?;
-    Ok(format!(in alloc; "data {key} {payload}")?)
+    lines.append(b"data ")?;
+    add_key(lines, &entry.meta.key)?;
+    lines.append(b" ")?;
+    add_printed(lines, entry.payload.as_slice())
 }
 
 /// A key, or `-` where there is none.
-fn shown_key(alloc: Global, key: &Option<Text>) -> Result<String, Memory>
-    ensures { IfOk result (λ text. string_bytes text ≡ shown_key key.now) }
+fn add_key(lines: &mut Blob, key: &Option<Text>) -> Result<(), Memory>
+    ensures { OnOk result (lines.new ≡ lines.old ++ shown_key key.now) }
 {
     match key {
-        Some(key) => printed(alloc, key.as_bytes()),
-        None => Ok(String::from_str(alloc, "-")?),
+        Some(key) => add_printed(lines, key.as_bytes()),
+        None => lines.append(b"-"),
     }
 }
 
 /// The names of a target list in cluster order with a comma between each two, `?` where it names none; `*` for all clusters.
-pub(crate) fn shown_targets(
-    alloc: Global,
+pub(crate) fn add_targets(
+    lines: &mut Blob,
     clusters: &[ClusterName],
     to: Targets,
-) -> Result<String, Memory>
+) -> Result<(), Memory>
     requires { length clusters.now ≤ CLUSTERS }
-    ensures { IfOk result (λ text. string_bytes text ≡ shown_targets clusters.now to) }
+    ensures { OnOk result (lines.new ≡ lines.old ++ shown_targets clusters.now to) }
 {
     match to {
-        Targets::All => Ok(String::from_str(alloc, "*")?),
-        Targets::Only(bits) => target_names(alloc, clusters, bits),
+        Targets::All => lines.append(b"*"),
+        Targets::Only(bits) => add_names(lines, clusters, bits),
     }
 }
 
-fn target_names(alloc: Global, clusters: &[ClusterName], bits: u8) -> Result<String, Memory>
+fn add_names(lines: &mut Blob, clusters: &[ClusterName], bits: u8) -> Result<(), Memory>
     requires { length clusters.now ≤ CLUSTERS }
-    ensures { IfOk result (λ text. string_bytes text ≡ commas (target_names 0 (Targets.Only bits) clusters.now)) }
+    ensures { OnOk result (lines.new ≡ lines.old ++ commas (target_names 0 (Targets.Only bits) clusters.now)) }
 {
-    let mut text = String::new(alloc);
     let mut is_first = true;
     for (number, name) in clusters.iter().enumerate() {
         if Targets::Only(bits).contains(number as u32) {
-            add_name(&mut text, is_first, name.as_str())?;
+            add_name(lines, is_first, name.as_str())?;
             is_first = false;
         }
     }
     if is_first {
-        text.push_str("?")?;
+        lines.append(b"?")?;
     }
-    Ok(text)
-}
-
-/// One more name, behind a comma if it is not the first.
-fn add_name(text: &mut String, is_first: bool, name: &str) -> Result<(), Memory>
-    ensures { OnOk result (string_bytes text.new ≡ string_bytes text.old ++ (if is_first then name.now else 44 ∷ name.now)) }
-{
-    if !is_first {
-        text.push_str(",")?;
-    }
-    text.push_str(name)?;
     Ok(())
 }
 
-/// A position: its ledger's number and its entry's number there.
-pub(crate) fn shown_position(alloc: Global, position: Position) -> Result<String, Memory>
-    ensures { IfOk result (λ text. string_bytes text ≡ shown_position position) }
+/// One more name, behind a comma if it is not the first.
+fn add_name(lines: &mut Blob, is_first: bool, name: &str) -> Result<(), Memory>
+    ensures { OnOk result (lines.new ≡ lines.old ++ (if is_first then name.now else 44 ∷ name.now)) }
 {
-    let Position { ledger, entry } = position;
-    Ok(format!(in alloc; "{ledger}:{entry}")?)
+    if !is_first {
+        lines.append(b",")?;
+    }
+    lines.append(name.as_bytes())
 }
 
 /// How many of its lines a client has done.
