@@ -1,6 +1,6 @@
 //! Fields: a number, and a value in one of the four wire types of the Protocol Buffers encoding that are in use.
 
-ghost use Rattle.std.specs.Prelude.{◌≡◌, ◌≢◌, ◌↔◌, ◌++◌, ◌∷◌, [], List, ℕ, length, IsTrue, IsUtf8, OnOk, OnErr, MatchOption};
+ghost use Rattle.std.specs.Prelude.{◌≡◌, ◌≢◌, ◌↔◌, ◌++◌, ◌∷◌, [], List, ℕ, length, IfOk, IsTrue, IsUtf8, OnOk, OnErr, MatchOption};
 ghost use Rattle.pb_fields.specs.declared.field.Value.TheVariants as value;
 ghost use Rattle.pb_fields.specs.declared.field.WireType.{WireType};
 ghost use Rattle.pb_fields.specs.Field.{HasNumber, wire_number, wire_type};
@@ -118,6 +118,9 @@ pub struct Field {
     pub value: Value,
 }
 
+/// A SEND's metadata and most commands have no more fields, so that their list grows once.
+const COMMON_FIELDS: usize = 8;
+
 /// Fields in order, each with a number from 1 to 536870911.
 #[derive(Debug, Drop)]
 pub struct FieldList {
@@ -145,6 +148,15 @@ impl FieldList {
         FieldList {
             fields: Vec::new(alloc),
         }
+    }
+
+    /// No fields yet, with room for as many as most messages have; `Memory` where there is none.
+    pub(crate) fn with_common_room(alloc: Global) -> Result<FieldList, Memory>
+        ensures { IfOk result (λ list. list ≡ []) }
+    {
+        Ok(FieldList {
+            fields: Vec::with_capacity(alloc, COMMON_FIELDS)?,
+        })
     }
 
     /// How many fields there are.

@@ -14,6 +14,7 @@ ghost use Rattle.pb_fields.specs.declared.fault.FieldFault.{FieldFault};
 use crate::byte_list::ByteList;
 use crate::fault::{FieldError, FieldFault, PbFault};
 use crate::field::{Field, FieldList, Value, WireType};
+use crate::memory::Memory;
 use std::alloc::Global;
 
 /// A varint has at most ten bytes; the tenth has the one bit that is left of 64.
@@ -140,12 +141,22 @@ pub fn read_fields(alloc: Global, bytes: &[u8]) -> Result<FieldList, PbFault>
     all_fields(alloc, bytes)
 }
 
+/// An empty list for the fields of the bytes. Where there are none, it takes no memory.
+fn list_for(alloc: Global, bytes: &[u8]) -> Result<FieldList, Memory>
+    ensures { IfOk result (λ fields. fields ≡ []) }
+{
+    if bytes.is_empty() {
+        return Ok(FieldList::new(alloc));
+    }
+    FieldList::with_common_room(alloc)
+}
+
 /// Reads field after field.
 fn all_fields(alloc: Global, bytes: &[u8]) -> Result<FieldList, PbFault>
     ensures found { IfOk result (λ fields. IsText bytes.now fields) }
     ensures fault { IfErr result (IsFaultOf bytes.now) }
 {
-    let mut fields = FieldList::new(alloc);
+    let mut fields = list_for(alloc, bytes)?;
     let mut rest = bytes;
     while !rest.is_empty() {
         match field_at(alloc, rest) {

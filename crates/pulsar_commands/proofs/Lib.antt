@@ -1,5 +1,6 @@
 pub mod Numbers
 pub mod Ascending
+pub mod Held
 pub mod Told
 pub mod Written
 pub mod Meaning

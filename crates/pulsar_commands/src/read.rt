@@ -1,11 +1,11 @@
 //! Reading commands.
 
-ghost use Rattle.std.specs.Prelude.{◌≡◌, ◌≤◌, Some, true, IfOk, IfErr, MatchOption, Ok, Err};
+ghost use Rattle.std.specs.Prelude.{◌≡◌, ◌≤◌, Some, ◌∷◌, [], IfOk, OnOk, IfErr, MatchOption, Ok, Err};
 ghost use Rattle.std.specs.List.{AllByRecursion};
 ghost use Rattle.pb_fields.specs.declared.field.Value.TheVariants as value;
 ghost use Rattle.pb_fields.specs.Faults.{Answers};
-ghost use Rattle.pb_fields.specs.Message.{IsMessage, IsWrongOrMemory, last_value};
-ghost use Rattle.pb_fields.specs.Embedded.{IsMessageWith, WrongFieldsWith};
+ghost use Rattle.pb_fields.specs.Message.{Fits, IsMessage, IsWrongOrMemory, last_value};
+ghost use Rattle.pb_fields.specs.Embedded.{FitsWith, IsMessageWith, IsWrongWith, WrongFieldsWith};
 ghost use Rattle.pulsar_commands.specs.declared.command.Command.{Command};
 ghost use Rattle.pulsar_commands.specs.declared.fault.CommandFault.{CommandFault};
 ghost use Rattle.pulsar_commands.specs.Table.{kind_number, rows_of, type_rows, held_rows, choices_of, IsKnown};
@@ -18,8 +18,10 @@ use crate::fault::CommandFault;
 use crate::ids::Ids;
 use crate::kind::Kind;
 use crate::table::{Choice, TYPE, TYPE_ROWS};
-use pb_fields::embedded::{Embedded, check_fields_with, read_message_with, required_message};
-use pb_fields::message::{Form, MessageFault, Row, last_varint, read_message, required_varint};
+use pb_fields::embedded::read_message_with;
+use pb_fields::message::{
+    Form, MessageFault, Row, check_field, last_varint, read_message, required_varint,
+};
 use pb_fields::{Field, FieldList};
 use std::alloc::Global;
 
@@ -73,15 +75,36 @@ fn held_of(alloc: Global, kind: Kind, fields: &[Field]) -> Result<FieldList, Mes
     ensures found { IfOk result (IsLast kind fields.now) }
     ensures fault { IfErr result (IsWrongOrMemory (WrongFieldsWith (BodyRight kind) (BodyWrong kind) (held_rows kind) fields.now)) }
 {
+    let number = kind.number();
     let rows = [Row {
-        number: kind.number(),
+        number,
         form: Form::Message,
         required: true,
     }];
-    check_fields_with(alloc, &rows, &kind, fields)?;
-    let content = required_message(&rows, &kind, fields, kind.number());
-    // The content was judged right above, so want of memory is the only fault left.
-    read_message_with(alloc, kind.rows(), &Ids, content)
+    let mut held = None;
+    for field in fields {
+        check_field(&rows, field)?;
+        if field.number == number {
+            held = Some(body_of(alloc, kind, field)?);
+        }
+    }
+    held.ok_or(MessageFault::Missing(number))
+}
+
+/// The fields of the message in a field that fits the type's row.
+fn body_of(alloc: Global, kind: Kind, field: &Field) -> Result<FieldList, MessageFault>
+    requires number { field.now.number ≡ kind_number kind }
+    requires fits { Fits (held_rows kind) field.now }
+    ensures right { OnOk result (FitsWith (BodyRight kind) (held_rows kind) field.now) }
+    ensures message { IfOk result (λ held. IsMessage (rows_of kind) held) }
+    ensures ids { IfOk result (λ held. IsMessageWith IdRight (rows_of kind) held) }
+    ensures found { IfOk result (IsLast kind (field.now ∷ [])) }
+    ensures fault { IfErr result (IsWrongOrMemory (IsWrongWith (BodyWrong kind) (held_rows kind) field.now)) }
+{
+    match field.value.as_bytes() {
+        Some(content) => read_message_with(alloc, kind.rows(), &Ids, content),
+        None => unreachable!(),
+    }
 }
 
 /// The first value of an enumeration that is not known.
@@ -103,17 +126,5 @@ fn value_above(choice: &Choice, fields: &[Field]) -> Option<u64>
     match last_varint(fields, choice.number) {
         Some(value) if value >= choice.size => Some(value),
         _ => None,
-    }
-}
-
-/// What a BaseCommand of a type holds.
-impl Embedded for Kind {
-    ghost right = { λ k. BodyRight k };
-
-    ghost wrong = { λ k. BodyWrong k };
-
-    fn judge(&self, alloc: Global, _number: u32, content: &[u8]) -> Result<(), MessageFault> {
-        read_message_with(alloc, self.rows(), &Ids, content)?;
-        Ok(())
     }
 }
