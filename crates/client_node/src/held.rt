@@ -39,7 +39,7 @@ impl Model for HeldTable {
 
 impl HeldTable {
     /// No message; takes no memory.
-    pub(crate) fn new(alloc: Global) -> HeldTable
+    pub fn new(alloc: Global) -> HeldTable
         ensures { result ≡ [] }
     {
         HeldTable {
@@ -63,7 +63,7 @@ impl HeldTable {
 
     /// One more message came; unchanged where memory is wanting.
     #[tactic(auto, using(crate::proofs::SlotLists::held_in_pushed))]
-    pub(crate) fn push(&mut self, held: Held) -> Result<(), Memory>
+    pub fn push(&mut self, held: Held) -> Result<(), Memory>
         ensures ok { OnOk result (self.new ≡ self.old ++ held ∷ []) }
         ensures err { OnErr result (self.new ≡ self.old) }
     {
@@ -71,7 +71,7 @@ impl HeldTable {
     }
 
     /// The position under which the first message of an identity came.
-    pub(crate) fn first(&self, ident: &Ident) -> Option<Position>
+    pub fn first(&self, ident: &Ident) -> Option<Position>
         ensures { result ≡ first_held self.now ident.now }
     {
         match self.slots.find(ident) {
@@ -81,7 +81,7 @@ impl HeldTable {
     }
 
     /// The positions of the first so many messages, or of all.
-    pub(crate) fn positions(&self, alloc: Global, most: usize) -> Result<Sequence<Position>, Memory>
+    pub fn positions(&self, alloc: Global, most: usize) -> Result<Sequence<Position>, Memory>
         ensures positions { IfOk result (λ ps. ps ≡ map (λ (h : HeldMessage). h.position) (take most self.now)) }
         ensures few { IfOk result (λ ps. length ps ≤ most) }
     {
@@ -96,7 +96,7 @@ impl HeldTable {
     }
 
     /// Gives up the first message of an identity, if there is one.
-    pub(crate) fn forget(&mut self, ident: &Ident)
+    pub fn forget(&mut self, ident: &Ident)
         ensures { self.new ≡ without_first self.old ident.now }
     {
         if let Some(slot) = self.slots.find(ident) {
@@ -107,7 +107,7 @@ impl HeldTable {
 
     /// Gives up the first so many messages, or all.
     #[tactic(auto, using(std::proofs::lemmas::List::drop_min))]
-    pub(crate) fn forget_first(&mut self, most: usize)
+    pub fn forget_first(&mut self, most: usize)
         ensures { self.new ≡ drop most self.old }
     {
         for _place in 0..most.min(self.len()) {
@@ -117,7 +117,7 @@ impl HeldTable {
     }
 
     /// Gives up what came under a position up to another one.
-    pub(crate) fn forget_to(&mut self, position: Position)
+    pub fn forget_to(&mut self, position: Position)
         ensures { self.new ≡ filter (λ (h : HeldMessage). not (position_le h.position position)) self.old }
     {
         while let Some(slot) = self.slots.up_to(position) {
@@ -127,7 +127,7 @@ impl HeldTable {
     }
 
     /// Gives up all.
-    pub(crate) fn clear(&mut self)
+    pub fn clear(&mut self)
         ensures { self.new ≡ [] }
     {
         self.slots.clear();

@@ -6,8 +6,6 @@ mod held;
 mod laws;
 mod packet;
 mod site;
-#[cfg(test)]
-mod tests;
 
 pub use client::{Client, ClientState, ClientView, Prepared};
 pub use held::HeldTable;

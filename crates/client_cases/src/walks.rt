@@ -7,16 +7,13 @@ ghost use Rattle.client_node.specs.Changing.{ClientFits};
 ghost use Rattle.client_node.specs.Counted.{CanCount};
 ghost use Rattle.client_node.specs.Site.{is_short_line};
 
-mod holding;
-mod story;
-
-use crate::{Client, ClientSite, Incoming, Prepared};
+use crate::story::{Act, ROWS, Row, lines};
+use client_node::{Client, ClientSite, Incoming, Prepared};
 use geo_base::limits::{CLUSTERS, TEXT_BYTES};
 use geo_base::name::name_text;
 use geo_base::{ClusterName, Line, Memory, ProducerName, Text, TopicName};
 use std::alloc::Global;
 use std::test::Fail;
-use story::{Act, ROWS, Row, lines};
 
 fn is_cluster_name(name: &ClusterName) -> bool
     ensures { result ≡ is_name name.now }
