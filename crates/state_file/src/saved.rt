@@ -1,0 +1,14 @@
+//! A saved state.
+use client_node::ClientState;
+use script_text::Scenario;
+use state_parts::{Counts, NodeParts};
+
+/// The state of a run's world after a stop: what its script declares, what it counted, the durable parts of its brokers by topic and
+/// then by cluster, and what the stop left of its clients.
+#[derive(Drop)]
+pub struct Saved {
+    pub scenario: Scenario,
+    pub counts: Counts,
+    pub nodes: Vec<NodeParts>,
+    pub clients: Vec<ClientState>,
+}
