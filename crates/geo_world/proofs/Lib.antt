@@ -16,3 +16,9 @@ pub mod SettlingSteps
 pub mod SettlingKnown
 pub mod SettledEvent
 pub mod PairLists
+pub mod ReadEntries
+pub mod Resumed
+pub mod SavedWorlds
+pub mod ResumedNodes
+pub mod RevivedNodes
+pub mod Revived

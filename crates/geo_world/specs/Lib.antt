@@ -5,3 +5,4 @@ pub mod Runs
 pub mod Opening
 pub mod Restarts
 pub mod Settling
+pub mod Saving

@@ -92,7 +92,12 @@ fn new_node(
 }
 
 /// What the broker of a topic at a cluster knows of the setup.
-fn new_site(alloc: Global, scenario: &Scenario, topic: u32, cluster: u32) -> Result<Site, Memory>
+pub(crate) fn new_site(
+    alloc: Global,
+    scenario: &Scenario,
+    topic: u32,
+    cluster: u32,
+) -> Result<Site, Memory>
     requires topic { topic < length scenario.now.setup.topics }
     requires cluster { cluster < length scenario.now.setup.clusters }
     ensures { IfOk result (λ h. h ≡ site scenario.now.setup topic cluster) }
@@ -114,7 +119,11 @@ fn cluster_names(alloc: Global, names: &[ClusterName]) -> Result<Vec<ClusterName
 }
 
 /// The names of a topic's subscriptions, by their numbers in events.
-fn sub_names(alloc: Global, scenario: &Scenario, topic: u32) -> Result<Vec<SubName>, Memory>
+pub(crate) fn sub_names(
+    alloc: Global,
+    scenario: &Scenario,
+    topic: u32,
+) -> Result<Vec<SubName>, Memory>
     ensures { IfOk result (λ names. names.items ≡ sub_names scenario.now.setup topic) }
 {
     let _known = scenario.topics();
@@ -131,10 +140,7 @@ fn sub_names(alloc: Global, scenario: &Scenario, topic: u32) -> Result<Vec<SubNa
 fn copied<K>(alloc: Global, name: &Name<K>) -> Result<Name<K>, Memory>
     ensures { IfOk result (λ copy. copy ≡ name.now) }
 {
-    match Name::read(alloc, name.as_str()) {
-        Ok(copy) => Ok(copy),
-        Err(_) => Err(Memory),
-    }
+    Name::read(alloc, name.as_str()).map_err(|_| Memory)
 }
 
 /// The clients, none of which has done anything.

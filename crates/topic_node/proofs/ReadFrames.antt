@@ -88,7 +88,7 @@ has_text m (b ∷ bs) h = h
 as_content : (c d : Content) (kept payload : List ℕ) → c ≡ d → kept ≡ payload → HasText d payload → HasText c kept
 as_content c d kept payload is same h = rw (is, same) h
 
-content_has : (names : List (List ℕ)) (number : Option ℕ) (payload : List ℕ) (c : Content) (kept : List ℕ) → IsContent names number payload c kept → HasText c kept
+pub content_has : (names : List (List ℕ)) (number : Option ℕ) (payload : List ℕ) (c : Content) (kept : List ℕ) → IsContent names number payload c kept → HasText c kept
 content_has names number payload c kept (no_marker none is same) = as_content c content.Data kept payload is same tt
 content_has names number payload c kept (unread k some not is same) = as_content c (content.Unread k) kept payload is same tt
 content_has names number payload c kept (canonical k m some says text is same) = as_content c (content.Marked (placed_marker names m)) kept [] is same tt
