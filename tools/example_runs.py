@@ -1,9 +1,10 @@
 #!/usr/bin/env python3
 """Makes the input and the expected output of crates/geo_examples from the scripts of the repository.
 
-The input has each script NAME.geo of examples/, runs/ and edges/ behind a line `== DIRECTORY/NAME`, the output has that line and the report
-NAME.report that lies beside the script; and behind them each case of refused/cases.txt as `== refused/LINE`, by its line in that file, with
-the line that refuses it. The program's own output is never read.
+The input has each script NAME.geo of examples/, runs/, edges/ and states/ behind a line `== DIRECTORY/NAME`, the output has that line and the
+report NAME.report that lies beside the script. Behind them stand each case of refused/cases.txt as `== refused/LINE`, by its line in that
+file, with the line that refuses it; each script with a `stop` line as `== stop DIRECTORY/NAME`, which the program saves there and resumes,
+with its report once more; and the state files of tools/state_files.py. The program's own output is never read.
 
 usage: example_runs.py write     writes crates/geo_examples/stdin and crates/geo_examples/stdout
        example_runs.py check     says whether they are what `write` would write
@@ -12,8 +13,10 @@ usage: example_runs.py write     writes crates/geo_examples/stdin and crates/geo
 import os
 import sys
 
+import state_files
+
 ROOT = os.path.dirname(os.path.dirname(os.path.abspath(__file__)))
-DIRECTORIES = ('examples', 'runs', 'edges')
+DIRECTORIES = ('examples', 'runs', 'edges', 'states')
 CRATE = os.path.join(ROOT, 'crates', 'geo_examples')
 HEADING = b'== '
 
@@ -62,6 +65,10 @@ def sections():
     for name in names():
         yield name, content(name, '.geo'), content(name, '.report')
     yield from refusals()
+    for name in names():
+        if b'\nstop\n' in content(name, '.geo'):
+            yield 'stop ' + name, content(name, '.geo'), content(name, '.report')
+    yield from state_files.sections(lambda name: content(name, '.report'))
 
 
 def joined(part):

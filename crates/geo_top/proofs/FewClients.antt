@@ -1,10 +1,10 @@
 -- A script has at most 512 clients: 32 of each of 16 topics.
-use Rattle.std.proofs.Common.{◌≡◌, ℕ, zero, suc, ◌+◌, ◌*◌, ◌<◌, ◌≤◌, ◌^◌, ◌==◌, Bool, true, false, ◌&&◌, if◌then◌else◌, List, [], ◌∷◌, length, refl, sym, ap, subst, ◌∙◌, arith}
+use Rattle.std.proofs.Common.{◌≡◌, ℕ, zero, suc, ◌+◌, ◌*◌, ◌≤◌, ◌==◌, Bool, true, false, ◌&&◌, if◌then◌else◌, List, [], ◌∷◌, length, refl, ap, arith}
 use Rattle.std.specs.Prelude.{filter, nat_lt}
 use Rattle.std.specs.List.{list_all}
 use Rattle.std.proofs.lemmas.Bool.Decides.{nat_tests}
 use Rattle.geo_base.specs.Name.{is_name}
-use Rattle.geo_base.specs.Scripted.{IsScripted, clients_of, is_declared}
+use Rattle.geo_base.specs.Scripted.{IsScripted, is_declared}
 use Rattle.geo_base.specs.Setup.{Declared, Setup}
 
 one : Bool → ℕ

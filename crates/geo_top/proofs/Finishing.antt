@@ -1,8 +1,9 @@
 -- How a run of the program ends: in the world of the machine's run, or at the limit that it passes.
-use Rattle.std.proofs.Common.{◌≡◌, ℕ, List, refl, sym, ap, subst, ◌∙◌}
-use Rattle.std.specs.Prelude.{Option, Some, None, Result, Ok, Err, OnOk}
+use Rattle.std.proofs.Common.{◌≡◌, ℕ, List, sym, ap, subst, ◌∙◌}
+use Rattle.std.specs.Prelude.{Some, Result, Ok, Err, OnOk}
 use Rattle.geo_base.specs.declared.event.Step.{Step}
-use Rattle.geo_base.specs.Run.{Ran, all_limits, run, run_from, run_under}
+use Rattle.geo_base.specs.Report.{report}
+use Rattle.geo_base.specs.Run.{all_limits, run_from, run_under}
 use Rattle.geo_base.specs.Setup.{Setup}
 use Rattle.geo_base.specs.World.{World, opening_world}
 use Rattle.geo_world.specs.declared.fault.RunFault.{RunFault}
@@ -19,8 +20,10 @@ use Rattle.world_kept.specs.Reached.{Reached}
 use Rattle.geo_top.specs.declared.top.answer.Answer.{Answer}
 use Rattle.geo_top.specs.declared.top.status.Status.TheVariants as status
 use Rattle.geo_top.specs.Finished.{IsFinished}
-use Rattle.geo_top.specs.Outputs.{answer_to_big, answer_to_generated, answer_to_run, passed_limit, refused, report_of, summary_of}
+use Rattle.geo_top.specs.Outputs.{answer_to_big, answer_to_generated, answer_to_run, passed_limit, refused, summary_of}
+use Rattle.geo_top.specs.Shown.{shown_world}
 use Rattle.geo_top.proofs.Limits.{unlimited}
+use Rattle.geo_top.proofs.Shown.{shown_report}
 
 -- the steps of a script, done from its opening world
 abbrev ComesTo : Setup → WorldBook → WorldBook → List Step → Result (Unit {0}) RunFault → Type 0
@@ -56,8 +59,8 @@ passed n old new es r f limit opens is comes err large =
 abbrev ok_answer : List ℕ → Answer
 ok_answer bytes = record { status = status.Ok; bytes = bytes }
 
-pub reported : (n : Script) (b : WorldBook) (bytes : List ℕ) → IsFinished n b → bytes ≡ report_of n → ok_answer bytes ≡ answer_to_run n (passed_limit n)
-reported n b bytes f is = ap ok_answer is ∙ sym (ap (answer_to_run n) f.unlimited)
+pub reported : (n : Script) (b : WorldBook) (bytes : List ℕ) → IsFinished n b → bytes ≡ report n.setup (shown_world b) → ok_answer bytes ≡ answer_to_run n (passed_limit n)
+reported n b bytes f is = ap ok_answer (shown_report n b bytes f is) ∙ sym (ap (answer_to_run n) f.unlimited)
 
 pub refused_run : (n : Script) (limit : ℕ) (a : Answer) → passed_limit n ≡ Some limit → a ≡ refused (status.TooLarge limit) → a ≡ answer_to_run n (passed_limit n)
 refused_run n limit a some is = is ∙ sym (ap (answer_to_run n) some)

@@ -1,17 +1,15 @@
 -- The headline, of the run of a script: messages stand once and in order, none is lost, and settling brings all over.
-use Rattle.std.proofs.Common.{◌≡◌, ℕ, ◌<◌, Bool, true, false, length, refl, sym, subst, ◌∙◌, inl, inr}
-use Rattle.std.specs.Prelude.{◌⊎◌, Option, Some}
+use Rattle.std.proofs.Common.{◌≡◌, Bool, true, false, refl, sym, subst, ◌∙◌, inl, inr}
+use Rattle.std.specs.Prelude.{◌⊎◌, Some}
 use Rattle.geo_base.specs.declared.entry.Entry.{Entry}
 use Rattle.geo_base.specs.Cursor.{has}
 use Rattle.geo_base.specs.Entry.{is_data}
 use Rattle.geo_base.specs.Laws.{Always, BetweenEvents, IsShort, SettlesAll, after_settling}
-use Rattle.geo_base.specs.Run.{run}
-use Rattle.geo_base.specs.Safe.{AllOnce, IsEntry, IsSub, OnlySettled}
+use Rattle.geo_base.specs.Safe.{AllOnce, OnlySettled}
 use Rattle.geo_base.specs.Scripted.{IsScripted}
 use Rattle.geo_base.specs.Settled.{IsSettled, SettledSoFar}
 use Rattle.geo_base.specs.Setup.{Setup}
-use Rattle.geo_base.specs.Subscription.{Subscription}
-use Rattle.geo_base.specs.World.{World, topic_at}
+use Rattle.geo_base.specs.World.{World}
 use Rattle.script_text.specs.Script.{Script}
 use Rattle.world_laws.proofs.Complete.{budget_always}
 use Rattle.world_laws.proofs.Once.{once_always}
@@ -39,7 +37,7 @@ nothing_lost s w settled only t x i v e small sub stands message = by (has v.cur
         let same : there.0 ≡ e = same_entry there.0 e (sym there.1 ∙ stands) in
         inl (subst (λ (f : Entry). IsSettled settled t v.name f) same (there.2 (subst (λ (f : Entry). is_data f.content ≡ true) (sym same) message)))
 
-safe_world : (s : Setup) (w : World) (settled : SettledSoFar) → (IsShort w → OnlySettled s w settled) → IsShort w → IsSafe s w settled
+pub safe_world : (s : Setup) (w : World) (settled : SettledSoFar) → (IsShort w → OnlySettled s w settled) → IsShort w → IsSafe s w settled
 safe_world s w settled only short = record { acknowledged = only short; messages = nothing_lost s w settled (only short) }
 
 -- what follows at each moment follows always

@@ -5,4 +5,14 @@ pub mod Shown
 pub mod Finishing
 pub mod Quiet
 pub mod Headline
-mod Answering
+pub mod Answering
+pub mod GoingOut
+pub mod Founding
+pub mod Stopping
+pub mod Loaded
+pub mod Resuming
+pub mod Saving
+pub mod SavedWith
+pub mod OneRun
+pub mod Still
+pub mod GoingOn

@@ -1,5 +1,5 @@
 -- How runs end: under which limits, and that a run which no limit ended is the run without limits.
-use Rattle.std.proofs.Common.{◌≡◌, ℕ, zero, suc, ◌+◌, ◌==◌, Bool, true, false, if◌then◌else◌, List, [], ◌∷◌, ◌++◌, refl, sym, ap, ◌∙◌, inl, inr}
+use Rattle.std.proofs.Common.{◌≡◌, ℕ, zero, suc, ◌+◌, ◌==◌, Bool, true, false, if◌then◌else◌, List, [], ◌∷◌, refl, sym, ap, subst, ◌∙◌, inl, inr}
 use Rattle.std.specs.Prelude.{Option, Some, None, ◌||◌, ◌⊎◌, is_some, nat_lt, ⊤}
 use Rattle.geo_base.specs.declared.event.Event.{Event}
 use Rattle.geo_base.specs.declared.event.Step.{Step}
@@ -58,9 +58,12 @@ limit_is true c = inl refl
 limit_is false true = inr refl
 limit_is false false = tt
 
+pub only_limit_from : (s : Setup) (r : Ran) (es : List Step) → r.ended ≡ None → IsOnlyLimit (run_from all_limits s r es).ended
+only_limit_from s r es none =
+    steps_with IsOnlyLimit all_limits tt (λ w. limit_is (nat_lt most_events (w.events + w.idle)) (nat_lt most_sent_bytes w.frame_bytes)) s r es (subst IsOnlyLimit (sym none) tt)
+
 pub only_limit : (s : Setup) (es : List Step) → IsOnlyLimit (run_under all_limits s es).ended
-only_limit s es =
-    steps_with IsOnlyLimit all_limits tt (λ w. limit_is (nat_lt most_events (w.events + w.idle)) (nat_lt most_sent_bytes w.frame_bytes)) s (record { world = opening_world s; ended = None }) es tt
+only_limit s es = only_limit_from s (record { world = opening_world s; ended = None }) es refl
 
 -- without limits, with none
 pub never_ends : (s : Setup) (es : List Step) → (run_under no_limits s es).ended ≡ None
@@ -157,6 +160,10 @@ step_same l s r q step.Stop h = goes_same l (λ (w : World). stops s w) r q h
 steps_same : (l : Limits) (s : Setup) (r q : Ran) (es : List Step) → Follows r q → Follows (run_from l s r es) (run_from no_limits s q es)
 steps_same l s r q [] h = h
 steps_same l s r q (e ∷ es) h = steps_same l s (steps l s r e) (steps no_limits s q e) es (step_same l s r q e h)
+
+-- from any world
+pub unlimited_from : (l : Limits) (s : Setup) (w : World) (es : List Step) → (run_from l s (at w) es).ended ≡ None → (run_from l s (at w) es).world ≡ (run_from no_limits s (at w) es).world
+unlimited_from l s w es none = ap (λ (r : Ran). r.world) (steps_same l s (at w) (at w) es (λ k. refl) none)
 
 pub unlimited : (l : Limits) (s : Setup) (es : List Step) → (run_under l s es).ended ≡ None → (run_under l s es).world ≡ run s es
 unlimited l s es none =

@@ -1,5 +1,5 @@
 -- What each part of a report or a summary of a world leaves of the whole.
-use Rattle.std.proofs.Common.{◌≡◌, ℕ, ◌+◌, ◌*◌, ◌<◌, ◌==◌, if◌then◌else◌, List, [], ◌∷◌, ◌++◌, length, drop, get_or, map, refl, sym, ap, subst, ◌∙◌, append_assoc, arith, Fits, w32}
+use Rattle.std.proofs.Common.{◌≡◌, ℕ, ◌+◌, ◌<◌, ◌==◌, if◌then◌else◌, List, [], ◌∷◌, ◌++◌, length, drop, get_or, map, sym, ap, subst, ◌∙◌, append_assoc, arith, Fits, w32}
 use Rattle.std.proofs.lemmas.List.{drop_more, get_or-map, get_or_read}
 use Rattle.std.specs.Prelude.{codes, decimal, slice_index_or}
 use Rattle.geo_base.specs.Broker.{Broker, Site, no_broker}
@@ -8,7 +8,7 @@ use Rattle.geo_base.specs.Report.{broker_lines, client_line, client_lines, clust
 use Rattle.geo_base.specs.Scripted.{IsScripted}
 use Rattle.geo_base.specs.Setup.{Declared, Setup, declared_at}
 use Rattle.geo_base.specs.World.{World, broker_at, client_at, node, topic_at}
-use Rattle.geo_world.specs.World.{IsAt, WorldBook, brokers_of, no_node, node_at}
+use Rattle.geo_world.specs.World.{IsAt, WorldBook, no_node, node_at}
 use Rattle.node_report.proofs.Parts.{lines_added, with_line_feeds-append}
 use Rattle.report_lines.proofs.Added.{line_added}
 use Rattle.topic_node.specs.Node.{NodeBook}

@@ -14,7 +14,7 @@ use Rattle.world_laws.proofs.InTime.{settles_in_time}
 use Rattle.geo_top.proofs.Limits.{never_ends}
 
 -- a run of some steps, and then of others
-run_append : (l : Limits) (s : Setup) (r : Ran) (es fs : List Step) → run_from l s r (es ++ fs) ≡ run_from l s (run_from l s r es) fs
+pub run_append : (l : Limits) (s : Setup) (r : Ran) (es fs : List Step) → run_from l s r (es ++ fs) ≡ run_from l s (run_from l s r es) fs
 run_append l s r [] fs = refl
 run_append l s r (e ∷ es) fs = run_append l s (steps l s r e) es fs
 

@@ -1,6 +1,7 @@
 -- A report and a summary do not show the links, and so they are those of the machine's world.
-use Rattle.std.proofs.Common.{◌≡◌, ℕ, ◌+◌, List, [], ◌∷◌, ◌++◌, refl, sym, ap, subst, ◌∙◌}
+use Rattle.std.proofs.Common.{◌≡◌, ℕ, ◌+◌, List, [], ◌∷◌, ◌++◌, refl, ap, ◌∙◌}
 use Rattle.std.specs.Prelude.{◌==◌, if◌then◌else◌, map, codes}
+use Rattle.geo_base.specs.declared.event.Step.{Step}
 use Rattle.geo_base.specs.Report.{broker_lines, client_line, client_lines, cluster_lines, got_line, head_line, report, report_lines, topic_lines, with_line_feeds, words}
 use Rattle.geo_base.specs.Run.{run}
 use Rattle.geo_base.specs.Setup.{Declared, Setup}
@@ -9,8 +10,10 @@ use Rattle.geo_world.specs.World.{WorldBook, kept_of}
 use Rattle.schedule_gen.specs.Generated.{generated_run}
 use Rattle.script_text.specs.Script.{Script}
 use Rattle.world_kept.specs.Standing.{Stands}
-use Rattle.geo_top.specs.Finished.{IsFinished}
-use Rattle.geo_top.specs.Outputs.{report_of, summary_of}
+use Rattle.state_file.specs.State.{SavedState}
+use Rattle.geo_top.specs.Finished.{IsFinished, IsResumed}
+use Rattle.geo_top.specs.Outputs.{report_of, resumed_report, summary_of}
+use Rattle.geo_top.specs.States.{resumed}
 use Rattle.geo_top.specs.Shown.{no_links, shown_world}
 use Rattle.geo_top.specs.Summary.{big_line, stored_line, stored_lines, summary, summary_lines}
 
@@ -66,3 +69,8 @@ pub shown_summary : (number : ℕ) (n : Script) (b : WorldBook) (bytes : List �
     → bytes ≡ summary number n.setup (shown_world b) → bytes ≡ summary_of number
 shown_summary number n b bytes generated f is =
     summed_up number n b bytes f is ∙ ap (λ (m : Script). summary number m.setup (run m.setup m.steps)) generated
+
+pub shown_resumed : (f : SavedState) (es : List Step) (b : WorldBook) (bytes : List ℕ) → IsResumed f es b → bytes ≡ report f.scenario.setup (shown_world b) → bytes ≡ resumed_report f es
+shown_resumed f es b bytes r is =
+    let s = f.scenario.setup in
+    let w = resumed f es in is ∙ (ap (report s) (shown_is s b w r.stands) ∙ same_report s w)

@@ -3,5 +3,7 @@ pub mod Statuses
 pub mod Headline
 pub mod Shown
 pub mod Summary
+pub mod States
 pub mod Outputs
 pub mod Finished
+pub mod OneRun

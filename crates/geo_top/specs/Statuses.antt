@@ -12,6 +12,8 @@ status_number status.ReadFault = 4
 status_number status.WriteFault = 5
 status_number (status.TooLarge limit) = 6
 status_number status.OutOfMemory = 8
+status_number (status.BadState offset rule) = 9
+status_number (status.StateVersion number) = 9
 
 -- the one line that a refusal writes. Want of memory writes nothing, and a write fault has no line of its own
 abbrev pub refusal_line : Status → List ℕ
@@ -22,6 +24,8 @@ refusal_line status.ReadFault = codes "read fault\n"
 refusal_line status.WriteFault = []
 refusal_line (status.TooLarge limit) = codes "too large " ++ (decimal limit ++ 10 ∷ [])
 refusal_line status.OutOfMemory = []
+refusal_line (status.BadState offset rule) = codes "bad state at " ++ (decimal offset ++ (codes " rule " ++ (decimal rule ++ 10 ∷ [])))
+refusal_line (status.StateVersion number) = codes "bad state version " ++ (decimal number ++ 10 ∷ [])
 
 -- a status is the one that is due, unless the source, the sink or memory failed
 abbrev pub IsDue : Status → Status → Type 0

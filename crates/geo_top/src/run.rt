@@ -1,10 +1,17 @@
-//! The run of a script.
-ghost use Rattle.std.specs.Prelude.{◌≡◌, ℕ, Err, IfOk, Some};
-ghost use Rattle.geo_top.specs.Finished.{IsFinished};
+//! The runs of the program.
+ghost use Rattle.std.specs.Prelude.{◌≡◌, ℕ, All, Err, IfOk, None, OnOk, Some};
+ghost use Rattle.geo_base.specs.Run.{all_limits};
+ghost use Rattle.geo_top.specs.Finished.{IsFinished, IsResumed};
 ghost use Rattle.geo_top.specs.Outputs.{passed_limit};
+ghost use Rattle.geo_top.specs.States.{file_of, resumed_under, stopped};
+ghost use Rattle.script_text.specs.Scenario.{IsStep};
+ghost use Rattle.state_file.specs.Known.{IsKnownState};
+ghost use Rattle.state_file.specs.State.{state_of};
 
+use geo_base::bytes::Blob;
 use geo_world::{RunFault, World};
-use script_text::Scenario;
+use script_text::{Scenario, StepList};
+use state_file::{Saved, save};
 use std::alloc::Global;
 
 /// The world at the end of a script's run, or the limit that the run passes.
@@ -16,6 +23,41 @@ pub fn run_script(alloc: Global, scenario: &Scenario) -> Result<World, RunFault>
     let mut world = World::new(alloc, scenario)?;
     match world.run(alloc, scenario, scenario.steps()) {
         Ok(()) => Ok(world),
+        Err(fault) => Err(fault),
+    }
+}
+
+/// The state file of a script's run and the stop behind it, or the limit that they pass.
+#[tactic(auto, using(crate::proofs::Stopping::run_limit))]
+pub fn save_script(alloc: Global, scenario: Scenario) -> Result<Blob, RunFault>
+    ensures done { IfOk result (λ bytes. bytes ≡ file_of scenario) }
+    ensures within { OnOk result (passed_limit (stopped scenario) ≡ None) }
+    ensures large { (limit : ℕ) → result ≡ Err (RunFault.TooLarge limit) → passed_limit (stopped scenario) ≡ Some limit }
+{
+    let world = run_script(alloc, &scenario)?;
+    let saved = world.saved(alloc, scenario)?;
+    Ok(save(alloc, &saved)?)
+}
+
+/// The world at the end of a run that goes on from a state, and what its script declares.
+#[derive(Drop)]
+pub struct Resumed {
+    pub scenario: Scenario,
+    pub world: World,
+}
+
+/// The world behind the steps that go on from a state, or the limit that they pass.
+pub fn resume(alloc: Global, saved: Saved, steps: &StepList) -> Result<Resumed, RunFault>
+    requires known { IsKnownState (state_of saved) }
+    requires steps { All (IsStep (state_of saved).scenario.setup) steps.now }
+    ensures scenario { IfOk result (λ r. r.scenario ≡ (state_of saved).scenario) }
+    ensures done { IfOk result (λ r. IsResumed (state_of saved) steps.now r.world) }
+    ensures large { (limit : ℕ) → result ≡ Err (RunFault.TooLarge limit)
+        → (resumed_under all_limits (state_of saved) steps.now).ended ≡ Some limit }
+{
+    let (scenario, mut world) = World::from_saved(alloc, saved)?;
+    match world.run(alloc, &scenario, steps) {
+        Ok(()) => Ok(Resumed { scenario, world }),
         Err(fault) => Err(fault),
     }
 }

@@ -2,4 +2,5 @@
 pub mod alone;
 pub mod answer;
 pub mod command;
+pub mod states;
 pub mod status;

@@ -76,7 +76,7 @@ fn bad_scripts_are_refused_at_their_first_bad_line(rt: HostRuntime) -> Result<()
 /// Nothing is read for them: the source would fail.
 #[test]
 fn words_that_are_no_command(rt: HostRuntime) -> Result<(), Fail> {
-    let lines: [&[&str]; 15] = [
+    let lines: [&[&str]; 19] = [
         &[],
         &["run", "x"],
         &["--help"],
@@ -92,6 +92,10 @@ fn words_that_are_no_command(rt: HostRuntime) -> Result<(), Fail> {
         &["big", "4294967296"],
         &["big", "1", "2"],
         &["Big", "1"],
+        &["save", "x"],
+        &["resume", "x"],
+        &["Save"],
+        &["audit"],
     ];
     for line in lines {
         let mut words = Vec::new(rt.alloc());

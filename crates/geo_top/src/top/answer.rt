@@ -1,17 +1,20 @@
 //! What the program is to write, made whole before its first byte goes out.
 ghost use Rattle.std.specs.Prelude.{◌≡◌, ◌≤◌, Some, IfOk, OnOk, OnErr, string_bytes, length};
+ghost use Rattle.geo_base.specs.Report.{report};
 ghost use Rattle.geo_io.specs.Faults.{Stood};
-ghost use Rattle.geo_top.specs.Commands.{command_of};
+ghost use Rattle.geo_top.specs.Commands.{command_of, command_with};
 ghost use Rattle.geo_top.specs.Finished.{IsFinished};
-ghost use Rattle.geo_top.specs.Outputs.{DeclaresSetup, IsFounded, answer_to, answer_to_big, answer_to_run, passed_limit, refused, report_of, summary_of};
+ghost use Rattle.geo_top.specs.Outputs.{IsAccepted, IsAnswerToBytes, IsFounded, IsKnown, answer_to, answer_to_big, answer_to_run, passed_limit, refused, summary_of};
+ghost use Rattle.geo_top.specs.Shown.{shown_world};
 ghost use Rattle.geo_top.specs.Statuses.{refusal_line};
-ghost use Rattle.geo_top.specs.declared.top.command.Command.TheVariants as command;
+ghost use Rattle.geo_world.specs.World.{IsAt};
 ghost use Rattle.schedule_gen.specs.Generated.{generated_run};
 ghost use Rattle.script_text.specs.Rules.{script_of};
 
 use crate::run::run_script;
 use crate::summary::append_summary;
-use crate::top::command::{Command, Word};
+use crate::top::command::{Command, Reading, Word};
+use crate::top::states::{answer_to_file, answer_to_saving};
 use crate::top::status::Status;
 use crate::world_report::append_report;
 use geo_base::bytes::Blob;
@@ -31,7 +34,7 @@ pub struct Answer {
 }
 
 /// The answer to words, which may read what a source holds.
-#[tactic(auto, using(crate::proofs::Answering::founded_usage))]
+#[tactic(auto, using(crate::proofs::Founding::founded_usage))]
 pub fn answer_to_words<S: Source>(
     alloc: Global,
     words: &[Word],
@@ -41,33 +44,52 @@ pub fn answer_to_words<S: Source>(
     ensures memory { OnErr result (Stood (S.faults source.old) (S.faults source.new)) }
 {
     match Command::read(words) {
-        Some(Command::Run) => answer_to_script(alloc, source),
+        Some(Command::Run) => answer_to_input(alloc, Reading::Run, source),
+        Some(Command::Save) => answer_to_input(alloc, Reading::Save, source),
+        Some(Command::Resume) => answer_to_input(alloc, Reading::Resume, source),
         Some(Command::Big(number)) => answer_to_number(alloc, number),
         None => refusal(alloc, Status::Usage),
     }
 }
 
-/// The answer to the script that a source holds. The line of a read fault is made before anything is read, so that a fault of
-/// the source is never told as want of memory.
-#[tactic(auto, using(crate::proofs::Answering::founded_read, crate::proofs::Answering::founded_large))]
-fn answer_to_script<S: Source>(alloc: Global, source: &mut S) -> Result<Answer, Memory>
-    ensures founded { IfOk result (IsFounded (Some command.Run) (S.faults source.old) (S.faults source.new) (S.left source.old)) }
+/// The answer to what a source holds. The line of a read fault is made before anything is read, so that a fault of the source is
+/// never told as want of memory.
+#[tactic(auto, using(crate::proofs::Founding::founded_read, crate::proofs::Founding::founded_large))]
+fn answer_to_input<S: Source>(
+    alloc: Global,
+    reading: Reading,
+    source: &mut S,
+) -> Result<Answer, Memory>
+    ensures founded { IfOk result (IsFounded (Some (command_with reading)) (S.faults source.old) (S.faults source.new) (S.left source.old)) }
     ensures memory { OnErr result (Stood (S.faults source.old) (S.faults source.new)) }
 {
     let read_fault = refusal(alloc, Status::ReadFault)?;
     match read_all(alloc, source, INPUT_BYTES) {
-        Ok(bytes) => answer_to_bytes(alloc, bytes.as_slice()),
+        Ok(bytes) => answer_to_bytes(alloc, reading, bytes.as_slice()),
         Err(ReadFault::Failed) => Ok(read_fault),
         Err(ReadFault::TooLong) => refusal(alloc, Status::TooLarge(1)),
         Err(ReadFault::Memory) => Err(Memory),
     }
 }
 
+/// The answer to the bytes of an input.
+fn answer_to_bytes(alloc: Global, reading: Reading, bytes: &[u8]) -> Result<Answer, Memory>
+    requires { length bytes.now ≤ INPUT_BYTES }
+    ensures answer { IfOk result (IsAnswerToBytes reading bytes.now) }
+    ensures known { OnOk result (IsKnown reading bytes.now) }
+{
+    match reading {
+        Reading::Run => answer_to_script(alloc, bytes),
+        Reading::Save => answer_to_saving(alloc, bytes),
+        Reading::Resume => answer_to_file(alloc, bytes),
+    }
+}
+
 /// The answer to the bytes of a script.
-fn answer_to_bytes(alloc: Global, bytes: &[u8]) -> Result<Answer, Memory>
+fn answer_to_script(alloc: Global, bytes: &[u8]) -> Result<Answer, Memory>
     requires { length bytes.now ≤ INPUT_BYTES }
     ensures answer { IfOk result (λ a. a ≡ answer_to (script_of bytes.now)) }
-    ensures known { OnOk result (DeclaresSetup (script_of bytes.now)) }
+    ensures known { OnOk result (IsAccepted (script_of bytes.now)) }
 {
     match read_script(alloc, bytes) {
         Ok(scenario) => answer_to_scenario(alloc, &scenario),
@@ -91,11 +113,10 @@ fn answer_to_scenario(alloc: Global, scenario: &Scenario) -> Result<Answer, Memo
     }
 }
 
-/// The report of the world at the end of a script's run.
-#[tactic(auto, using(crate::proofs::Shown::shown_report))]
-fn report(alloc: Global, scenario: &Scenario, world: &World) -> Result<Blob, Memory>
-    requires { IsFinished scenario.now world.now }
-    ensures { IfOk result (λ bytes. bytes ≡ report_of scenario.now) }
+/// The report of a world.
+pub fn report(alloc: Global, scenario: &Scenario, world: &World) -> Result<Blob, Memory>
+    requires { IsAt scenario.now.setup world.now }
+    ensures { IfOk result (λ bytes. bytes ≡ report scenario.now.setup (shown_world world.now)) }
 {
     let mut bytes = Blob::new(alloc);
     append_report(alloc, &mut bytes, scenario, world)?;
@@ -139,7 +160,7 @@ fn summary(alloc: Global, number: u32, scenario: &Scenario, world: &World) -> Re
 }
 
 /// A refusal, with its one line.
-fn refusal(alloc: Global, status: Status) -> Result<Answer, Memory>
+pub fn refusal(alloc: Global, status: Status) -> Result<Answer, Memory>
     ensures { IfOk result (λ a. a ≡ refused status) }
 {
     let line = refusal_line(alloc, status)?;
@@ -163,6 +184,10 @@ fn refusal_line(alloc: Global, status: Status) -> Result<String, Memory>
         )?),
         Status::ReadFault => Ok(String::from_str(alloc, "read fault\n")?),
         Status::TooLarge(limit) => Ok(format!(in alloc; "too large {limit}\n")?),
+        Status::BadState { offset, rule } => Ok(format!(in alloc;
+            "bad state at {offset} rule {rule}\n"
+        )?),
+        Status::StateVersion(number) => Ok(format!(in alloc; "bad state version {number}\n")?),
         Status::Ok | Status::WriteFault | Status::OutOfMemory => Ok(String::new(alloc)),
     }
 }

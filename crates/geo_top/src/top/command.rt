@@ -1,6 +1,6 @@
 //! The commands of the program.
 ghost use Rattle.std.specs.Prelude.{◌≡◌};
-ghost use Rattle.geo_top.specs.Commands.{big_of, command_of, most_number};
+ghost use Rattle.geo_top.specs.Commands.{alone_of, big_of, command_of, most_number};
 ghost use Rattle.script_names.specs.Numbers.{number_of};
 
 use geo_base::bytes::Text;
@@ -17,8 +17,23 @@ const MOST_NUMBER: u64 = 4_294_967_295;
 pub enum Command {
     /// Run a script, and report.
     Run,
+    /// Run a script, stop everything, and write the state file of what is left.
+    Save,
+    /// Go on from a state file with the steps behind it, and report.
+    Resume,
     /// Do the run that a number generates, and sum it up.
     Big(u32),
+}
+
+/// What is done with an input.
+#[derive(Clone, Copy, Debug, Drop, PartialEq, Eq)]
+pub enum Reading {
+    /// A script is run.
+    Run,
+    /// A script is run, and its state saved.
+    Save,
+    /// A run goes on from a state.
+    Resume,
 }
 
 impl Command {
@@ -27,9 +42,25 @@ impl Command {
         ensures { result ≡ command_of words.now }
     {
         match words {
-            [word] if word.as_bytes() == b"run".as_slice() => Some(Command::Run),
+            [word] => Command::alone(word),
             [word, number] if word.as_bytes() == b"big".as_slice() => Command::big(number),
             _ => None,
+        }
+    }
+
+    /// The command of a word that stands alone.
+    fn alone(word: &Word) -> Option<Command>
+        ensures { result ≡ alone_of word.now }
+    {
+        let bytes = word.as_bytes();
+        if bytes == b"run".as_slice() {
+            Some(Command::Run)
+        } else if bytes == b"save".as_slice() {
+            Some(Command::Save)
+        } else if bytes == b"resume".as_slice() {
+            Some(Command::Resume)
+        } else {
+            None
         }
     }
 

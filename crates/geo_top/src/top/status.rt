@@ -9,7 +9,8 @@ pub enum Status {
     Ok,
     /// The words are no command.
     Usage,
-    /// The first line of the script that breaks a rule, counted from 1, and the lowest rule that it breaks.
+    /// The first line that breaks a rule, counted from 1, and the lowest rule that it breaks: a line of the script, or of those
+    /// behind a state.
     BadScript { line: u64, rule: u32 },
     /// The source failed.
     ReadFault,
@@ -20,6 +21,10 @@ pub enum Status {
     TooLarge(u64),
     /// A growth of memory was refused, and nothing went out.
     OutOfMemory,
+    /// The first item of a state that breaks a rule, by the offset of its first byte, and the lowest rule that it breaks.
+    BadState { offset: u64, rule: u32 },
+    /// A state of a version that is not read.
+    StateVersion(u32),
 }
 
 impl Status {
@@ -35,6 +40,7 @@ impl Status {
             Status::WriteFault => 5,
             Status::TooLarge(_) => 6,
             Status::OutOfMemory => 8,
+            Status::BadState { .. } | Status::StateVersion(_) => 9,
         }
     }
 }

@@ -1,6 +1,6 @@
 use Rattle.std.proofs.Common.{sym, ◌∙◌}
 use Rattle.geo_top.specs.Commands.{command_of}
-use Rattle.geo_top.proofs.Answering.{answered_big}
+use Rattle.geo_top.proofs.Founding.{answered_big}
 use Rattle.geo_top.proofs.top.answer.answer_to_words.Goals as goal
 
 pub returns-in-Some-Big-clause-founded : goal.returns-in-Some-Big-clause-founded

@@ -1,0 +1,57 @@
+-- The answers of the two commands on state files.
+use Rattle.std.proofs.Common.{◌≡◌, ℕ, List, sym, ap, ◌∙◌}
+use Rattle.std.specs.Prelude.{drop, Option, Some, None, Result, Ok, Err, IfOk}
+use Rattle.geo_base.specs.declared.event.Step.{Step}
+use Rattle.geo_base.specs.declared.memory.Memory.{Memory}
+use Rattle.geo_base.specs.Report.{report}
+use Rattle.geo_base.specs.Run.{all_limits}
+use Rattle.geo_world.specs.World.{WorldBook}
+use Rattle.script_text.specs.Schedule.{schedule_of}
+use Rattle.script_text.specs.Script.{Script}
+use Rattle.state_file.specs.Loading.{IsLoaded, bad_state, version}
+use Rattle.state_file.specs.State.{SavedState}
+use Rattle.geo_top.specs.declared.top.answer.Answer.{Answer}
+use Rattle.geo_top.specs.declared.top.status.Status.TheVariants as status
+use Rattle.geo_top.specs.Finished.{IsResumed}
+use Rattle.geo_top.specs.Outputs.{IsAnswerToFile, answer_to_resumed, answer_to_saved, passed_limit, refused, resumed_report, unless_passed}
+use Rattle.geo_top.specs.Shown.{shown_world}
+use Rattle.geo_top.specs.States.{file_of, resumed_under, stopped}
+use Rattle.geo_top.proofs.Shown.{shown_resumed}
+
+abbrev ok_answer : List ℕ → Answer
+ok_answer bytes = record { status = status.Ok; bytes = bytes }
+
+whole : (bytes due : List ℕ) (o : Option ℕ) → bytes ≡ due → o ≡ None → ok_answer bytes ≡ unless_passed due o
+whole bytes due o is none = ap ok_answer is ∙ sym (ap (unless_passed due) none)
+
+over : (due : List ℕ) (o : Option ℕ) (limit : ℕ) (a : Answer) → o ≡ Some limit → a ≡ refused (status.TooLarge limit) → a ≡ unless_passed due o
+over due o limit a some is = is ∙ sym (ap (unless_passed due) some)
+
+pub saved_whole : (n : Script) (bytes : List ℕ) → bytes ≡ file_of n → passed_limit (stopped n) ≡ None → ok_answer bytes ≡ answer_to_saved n
+saved_whole n bytes is none = whole bytes (file_of n) (passed_limit (stopped n)) is none
+
+pub saved_refused : (n : Script) (limit : ℕ) (a : Answer) → passed_limit (stopped n) ≡ Some limit → a ≡ refused (status.TooLarge limit) → a ≡ answer_to_saved n
+saved_refused n limit a some is = over (file_of n) (passed_limit (stopped n)) limit a some is
+
+pub resumed_whole : (f : SavedState) (n : Script) (es : List Step) (b : WorldBook) (bytes : List ℕ) → IsResumed f es b → n ≡ f.scenario → bytes ≡ report n.setup (shown_world b)
+    → ok_answer bytes ≡ answer_to_resumed f (Ok es)
+resumed_whole f n es b bytes r same is =
+    whole bytes (resumed_report f es) (resumed_under all_limits f es).ended (shown_resumed f es b bytes r (is ∙ ap (λ (m : Script). report m.setup (shown_world b)) same)) r.unlimited
+
+pub resumed_refused : (f : SavedState) (es : List Step) (limit : ℕ) (a : Answer) → (resumed_under all_limits f es).ended ≡ Some limit → a ≡ refused (status.TooLarge limit)
+    → a ≡ answer_to_resumed f (Ok es)
+resumed_refused f es limit a some is = over (resumed_report f es) (resumed_under all_limits f es).ended limit a some is
+
+pub file_answered : (input rest : List ℕ) (f : SavedState) (used : ℕ) (r : Result Answer Memory) → IsLoaded input (Ok (f, used)) → rest ≡ drop used input
+    → IfOk r (λ a. a ≡ answer_to_resumed f (schedule_of f.scenario.setup rest)) → IfOk r (IsAnswerToFile input)
+file_answered input rest f used (Ok a) loaded behind is =
+    (Ok (f, used), loaded, is ∙ ap (λ (bytes : List ℕ). answer_to_resumed f (schedule_of f.scenario.setup bytes)) behind)
+file_answered input rest f used (Err e) loaded behind is = tt
+
+pub file_refused : (input : List ℕ) (offset rule : ℕ) (r : Result Answer Memory) → IsLoaded input (Err (bad_state offset rule)) → IfOk r (λ a. a ≡ refused (status.BadState offset rule)) → IfOk r (IsAnswerToFile input)
+file_refused input offset rule (Ok a) loaded is = (Err (bad_state offset rule), loaded, is)
+file_refused input offset rule (Err e) loaded is = tt
+
+pub file_strange : (input : List ℕ) (number : ℕ) (r : Result Answer Memory) → IsLoaded input (Err (version number)) → IfOk r (λ a. a ≡ refused (status.StateVersion number)) → IfOk r (IsAnswerToFile input)
+file_strange input number (Ok a) loaded is = (Err (version number), loaded, is)
+file_strange input number (Err e) loaded is = tt

@@ -1,0 +1,107 @@
+//! The answers of the two commands on state files.
+ghost use Rattle.std.specs.Prelude.{◌≡◌, ◌<◌, ◌≤◌, ◌^◌, All, IfOk, OnOk, Ok, drop, length};
+ghost use Rattle.geo_top.specs.Outputs.{IsAccepted, IsAnswerToFile, answer_to_resumed, answer_to_save, answer_to_saved};
+ghost use Rattle.script_text.specs.Rules.{script_of};
+ghost use Rattle.script_text.specs.Scenario.{IsStep};
+ghost use Rattle.script_text.specs.Schedule.{schedule_of};
+ghost use Rattle.state_file.specs.Known.{IsKnownState};
+ghost use Rattle.state_file.specs.State.{state_of};
+
+use crate::run::{resume, save_script};
+use crate::top::answer::{Answer, refusal, report};
+use crate::top::status::Status;
+use geo_base::limits::INPUT_BYTES;
+use geo_base::memory::Memory;
+use geo_world::RunFault;
+use script_text::{Scenario, ScriptFault, StepList, read_schedule, read_script};
+use state_file::{Saved, StateFault, load};
+use std::alloc::Global;
+
+/// The state file of the script that an input is.
+pub fn answer_to_saving(alloc: Global, bytes: &[u8]) -> Result<Answer, Memory>
+    requires { length bytes.now ≤ INPUT_BYTES }
+    ensures answer { IfOk result (λ a. a ≡ answer_to_save (script_of bytes.now)) }
+    ensures known { OnOk result (IsAccepted (script_of bytes.now)) }
+{
+    match read_script(alloc, bytes) {
+        Ok(scenario) => saved_answer(alloc, scenario),
+        Err(ScriptFault::Rule { line, rule }) => refusal(alloc, Status::BadScript { line, rule }),
+        Err(ScriptFault::Memory) => Err(Memory),
+    }
+}
+
+/// The state file of a script's run, or the limit that the run or the stop behind it passes.
+#[tactic(auto, using(crate::proofs::Saving::saved_whole, crate::proofs::Saving::saved_refused))]
+fn saved_answer(alloc: Global, scenario: Scenario) -> Result<Answer, Memory>
+    ensures { IfOk result (λ a. a ≡ answer_to_saved scenario) }
+{
+    match save_script(alloc, scenario) {
+        Ok(bytes) => Ok(Answer {
+            status: Status::Ok,
+            bytes,
+        }),
+        Err(RunFault::TooLarge(limit)) => refusal(alloc, Status::TooLarge(limit)),
+        Err(RunFault::Memory) => Err(Memory),
+    }
+}
+
+/// The answer to a state file and the lines behind it.
+pub fn answer_to_file(alloc: Global, bytes: &[u8]) -> Result<Answer, Memory>
+    requires { length bytes.now ≤ INPUT_BYTES }
+    ensures { IfOk result (IsAnswerToFile bytes.now) }
+{
+    match load(alloc, bytes) {
+        Ok((saved, used)) => resumed_answer(alloc, saved, behind(bytes, used)),
+        Err(StateFault::BadState { offset, rule }) => refusal(
+            alloc,
+            Status::BadState {
+                offset: offset as u64,
+                rule,
+            },
+        ),
+        Err(StateFault::Version(number)) => refusal(alloc, Status::StateVersion(number)),
+        Err(StateFault::Memory) => Err(Memory),
+    }
+}
+
+/// The bytes behind so many.
+fn behind(bytes: &[u8], used: usize) -> &[u8]
+    ensures behind { result.now ≡ drop used bytes.now }
+    ensures shorter { length result.now ≤ length bytes.now }
+{
+    if used < bytes.len() {
+        &bytes[used..]
+    } else {
+        &[]
+    }
+}
+
+/// The answer to a state and the lines behind it.
+fn resumed_answer(alloc: Global, saved: Saved, lines: &[u8]) -> Result<Answer, Memory>
+    requires known { IsKnownState (state_of saved) }
+    requires few { length lines.now < 2 ^ 32 }
+    ensures { IfOk result (λ a. a ≡ answer_to_resumed (state_of saved) (schedule_of (state_of saved).scenario.setup lines.now)) }
+{
+    match read_schedule(alloc, &saved.scenario, lines) {
+        Ok(steps) => run_on(alloc, saved, &steps),
+        Err(ScriptFault::Rule { line, rule }) => refusal(alloc, Status::BadScript { line, rule }),
+        Err(ScriptFault::Memory) => Err(Memory),
+    }
+}
+
+/// The report of the run that goes on from a state, or the limit that it passes.
+#[tactic(auto, using(crate::proofs::Saving::resumed_refused))]
+fn run_on(alloc: Global, saved: Saved, steps: &StepList) -> Result<Answer, Memory>
+    requires known { IsKnownState (state_of saved) }
+    requires steps { All (IsStep (state_of saved).scenario.setup) steps.now }
+    ensures { IfOk result (λ a. a ≡ answer_to_resumed (state_of saved) (Ok steps.now)) }
+{
+    match resume(alloc, saved, steps) {
+        Ok(resumed) => Ok(Answer {
+            status: Status::Ok,
+            bytes: report(alloc, &resumed.scenario, &resumed.world)?,
+        }),
+        Err(RunFault::TooLarge(limit)) => refusal(alloc, Status::TooLarge(limit)),
+        Err(RunFault::Memory) => Err(Memory),
+    }
+}

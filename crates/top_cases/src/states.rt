@@ -1,0 +1,145 @@
+//! What the program answers to state files.
+use geo_io::{MemSink, MemSource};
+use geo_top::{Status, Word, geo_alone};
+use std::alloc::Global;
+use std::test::Fail;
+
+/// Bytes that a source gives in a call, and that a sink takes in one.
+const AT_ONCE: usize = 1_000_000;
+
+/// Declarations, behind which a client gets nothing.
+const DECLARED: &[u8] = b"geo 1\ncluster a\ncluster b\ntopic t\nclient p t a\n";
+
+/// A message that goes to another cluster.
+const FIRST: &[u8] = b"geo 1\nledger 7\ncluster a\ncluster b\ntopic t\nclient p t a\nclient q t b\n\
+do p produce\ndo p pub 0 * - hi\ndo p pub 1 * - ho\ndo q sub s exclusive earliest replicated\ndo q flow 5\n\
+reconnect p\nserve a p\ngo p\nserve a p\ngo p\nserve a p\nget p\nget p\nget p\n\
+reset t a b\ntake t a b good\nreceipt t a b good\nread t a b\ntake t a b good\n";
+
+/// Steps that go on from there: its receipt was lost, and it goes once more.
+const MORE: &[u8] =
+    b"# behind the state\nreconnect p\nserve a p\nreset t a b\nreconnect q\nserve b q\nsettle\n";
+
+/// What a command does with an input.
+fn answer(alloc: Global, word: &str, input: &[u8], sink: &mut MemSink) -> Result<Status, Fail> {
+    let words = vec![in alloc; Word::from_str(alloc, word)?]?;
+    let mut source = MemSource::new(alloc, input, AT_ONCE, &[])?;
+    Ok(geo_alone(alloc, words.as_slice(), &mut source, sink))
+}
+
+fn open_sink(alloc: Global) -> Result<MemSink, Fail> {
+    Ok(MemSink::new(alloc, AT_ONCE, &[])?)
+}
+
+#[test]
+fn a_run_goes_on_from_its_state(rt: HostRuntime) -> Result<(), Fail> {
+    let mut file = open_sink(rt.alloc())?;
+    assert_eq!(rt; answer(rt.alloc(), "save", FIRST, &mut file)?, Status::Ok);
+
+    // in two runs
+    let mut input = Vec::new(rt.alloc());
+    input.extend_from_slice(file.bytes())?;
+    input.extend_from_slice(MORE)?;
+    let mut resumed = open_sink(rt.alloc())?;
+    assert_eq!(rt;
+        answer(rt.alloc(), "resume", input.as_slice(), &mut resumed)?,
+        Status::Ok
+    );
+
+    // in one
+    let mut script = Vec::new(rt.alloc());
+    script.extend_from_slice(FIRST)?;
+    script.extend_from_slice(b"stop\n")?;
+    script.extend_from_slice(MORE)?;
+    let mut whole = open_sink(rt.alloc())?;
+    assert_eq!(rt;
+        answer(rt.alloc(), "run", script.as_slice(), &mut whole)?,
+        Status::Ok
+    );
+    assert_eq!(rt; resumed.bytes(), whole.bytes());
+
+    // and with nothing behind the state
+    let mut alone = open_sink(rt.alloc())?;
+    assert_eq!(rt;
+        answer(rt.alloc(), "resume", file.bytes(), &mut alone)?,
+        Status::Ok
+    );
+    Ok(())
+}
+
+#[test]
+fn what_is_no_state_is_refused(rt: HostRuntime) -> Result<(), Fail> {
+    let refused: [(&str, &[u8], u8, &[u8]); 5] = [
+        ("resume", b"", 9, b"bad state at 0 rule 1\n"),
+        ("resume", b"GEOSTATF", 9, b"bad state at 0 rule 2\n"),
+        (
+            "resume",
+            b"GEOSTATE\x00\x00\x00\x03",
+            9,
+            b"bad state version 3\n",
+        ),
+        (
+            "resume",
+            b"GEOSTATE\x00\x00\x00\x02\x00",
+            9,
+            b"bad state at 12 rule 1\n",
+        ),
+        (
+            "save",
+            b"geo 1\ncluster a\n",
+            3,
+            b"bad script line 3 rule 10\n",
+        ),
+    ];
+    for (word, input, number, line) in refused {
+        let mut sink = open_sink(rt.alloc())?;
+        let status = answer(rt.alloc(), word, input, &mut sink)?;
+        assert_eq!(rt; status.number(), number);
+        assert_eq!(rt; sink.bytes(), line);
+    }
+    let mut file = open_sink(rt.alloc())?;
+    assert_eq!(rt; answer(rt.alloc(), "save", FIRST, &mut file)?, Status::Ok);
+    for (lines, line) in [
+        (
+            b"cluster a\n".as_slice(),
+            b"bad script line 1 rule 6\n".as_slice(),
+        ),
+        (
+            b"#\ngo r\n".as_slice(),
+            b"bad script line 2 rule 15\n".as_slice(),
+        ),
+        (
+            b"settle".as_slice(),
+            b"bad script line 1 rule 1\n".as_slice(),
+        ),
+    ] {
+        let mut input = Vec::new(rt.alloc());
+        input.extend_from_slice(file.bytes())?;
+        input.extend_from_slice(lines)?;
+        let mut sink = open_sink(rt.alloc())?;
+        let status = answer(rt.alloc(), "resume", input.as_slice(), &mut sink)?;
+        assert_eq!(rt; status.number(), 3);
+        assert_eq!(rt; sink.bytes(), line);
+    }
+    Ok(())
+}
+
+/// The stop of `save` is an event, and what a state counted counts on.
+#[test]
+fn limits_count_on(rt: HostRuntime) -> Result<(), Fail> {
+    let alloc = rt.alloc();
+    let mut file = open_sink(alloc)?;
+    assert_eq!(rt; answer(alloc, "save", FIRST, &mut file)?, Status::Ok);
+    let mut behind = file.bytes().to_vec(alloc)?;
+    let mut script = DECLARED.to_vec(alloc)?;
+    for event in 0..2_000_000 {
+        behind.extend_from_slice(b"get p\n")?;
+        script.extend_from_slice(b"get p\n")?;
+    }
+    for (word, input) in [("resume", behind.as_slice()), ("save", script.as_slice())] {
+        let mut sink = open_sink(alloc)?;
+        assert_eq!(rt; answer(alloc, word, input, &mut sink)?, Status::TooLarge(2));
+        assert_eq!(rt; sink.bytes(), b"too large 2\n".as_slice());
+    }
+    Ok(())
+}
