@@ -20,9 +20,14 @@ fi
 echo "geo: there is no build of this source, so each call compiles it, unproved, in about a minute;" \
     "tools/build makes one, and later calls are then quick" >&2
 said=$(mktemp)
-trap 'rm -f "$said"' EXIT
+input=$(mktemp)
+trap 'rm -f "$said" "$input"' EXIT
+# `rt try` does not wait for a pipe to end, so what the program reads is read here
+case "${1:-}" in
+run | save | resume) cat >"$input" ;;
+esac
 status=0
-(cd "$top/crates/geo_cli" && exec rt try --seconds 600 -- "$@") 2>"$said" || status=$?
+(cd "$top/crates/geo_cli" && exec rt try --seconds 600 -- "$@") <"$input" 2>"$said" || status=$?
 # the toolchain's last line says whether the program ended by itself
 if tail -n 1 "$said" | grep -q '^run=ended '; then
     exit "$status"
