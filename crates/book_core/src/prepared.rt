@@ -13,6 +13,10 @@ use std::alloc::Global;
 use std::collections::VecDeque;
 use std::marker::Model;
 
+/// The writes that an event first takes room for: most events do one, and the room that an empty queue grows to by itself, for
+/// four, is a block too large for an allocator to give and take back quickly (own).
+const FIRST_WRITES: usize = 1;
+
 /// The bytes of a packet to a peer, and the session that it is sent in.
 #[derive(Debug, Drop)]
 pub struct Outgoing {
@@ -71,30 +75,32 @@ impl Prepared {
     pub fn write(&mut self, write: BookWrite) -> Result<(), Memory>
         ensures { OnOk result (self.new ≡ record self.old { writes = self.old.writes ++ write ∷ [] }) }
     {
-        match self.writes.push_back(write) {
-            Ok(()) => Ok(()),
-            Err(_) => Err(Memory),
+        self.reserve_first()?;
+        Ok(self.writes.push_back(write)?)
+    }
+
+    /// Room for the first writes, where there is no write yet.
+    fn reserve_first(&mut self) -> Result<(), Memory>
+        ensures { self.new ≡ self.old }
+    {
+        if self.writes.is_empty() {
+            self.writes.reserve_exact(FIRST_WRITES)?;
         }
+        Ok(())
     }
 
     /// One more change in memory.
     pub fn change(&mut self, change: BookChange) -> Result<(), Memory>
         ensures { OnOk result (self.new ≡ record self.old { changes = self.old.changes ++ change ∷ [] }) }
     {
-        match self.changes.push_back(change) {
-            Ok(()) => Ok(()),
-            Err(_) => Err(Memory),
-        }
+        Ok(self.changes.push_back(change)?)
     }
 
     /// One more packet to a peer.
     pub fn send(&mut self, outgoing: Outgoing) -> Result<(), Memory>
         ensures { OnOk result (self.new ≡ record self.old { sent = self.old.sent ++ outgoing ∷ [] }) }
     {
-        match self.sent.push(outgoing) {
-            Ok(()) => Ok(()),
-            Err(_) => Err(Memory),
-        }
+        Ok(self.sent.push(outgoing)?)
     }
 
     /// Whether the event is not enabled.
