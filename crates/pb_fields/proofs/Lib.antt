@@ -1,6 +1,7 @@
 pub mod Varints
 pub mod ValueTexts
 pub mod Fields
+pub mod Pairs
 pub mod Unique
 pub mod Written
 pub mod Messages

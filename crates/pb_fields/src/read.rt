@@ -21,7 +21,7 @@ use std::alloc::Global;
 const LAST_BYTE: usize = 9;
 
 /// The number at the front of the bytes, and the bytes after it.
-fn varint_at(bytes: &[u8]) -> Result<(u64, &[u8]), FieldFault>
+pub(crate) fn varint_at(bytes: &[u8]) -> Result<(u64, &[u8]), FieldFault>
     ensures ok { IfOk result (λ x. TakesVarint bytes.now x.0 x.1.now) }
     ensures err { IfErr result (BrokenVarint bytes.now) }
 {
@@ -61,7 +61,7 @@ fn fixed32_at(bytes: &[u8]) -> Result<(u32, &[u8]), FieldFault>
 }
 
 /// A length and so many bytes, and the bytes after them.
-fn content_at(bytes: &[u8]) -> Result<(&[u8], &[u8]), FieldFault>
+pub(crate) fn content_at(bytes: &[u8]) -> Result<(&[u8], &[u8]), FieldFault>
     ensures ok { IfOk result (λ x. TakesVarint bytes.now (length x.0.now) (x.0.now ++ x.1.now)) }
     ensures err { IfErr result (BrokenValue wire.Bytes bytes.now) }
 {
@@ -98,7 +98,7 @@ fn value_at(alloc: Global, wire: WireType, bytes: &[u8]) -> Result<(Value, &[u8]
 }
 
 /// The number and the wire type that a tag has.
-fn number_and_type(tag: u64) -> Result<(u32, WireType), FieldFault>
+pub(crate) fn number_and_type(tag: u64) -> Result<(u32, WireType), FieldFault>
     ensures ok { IfOk result (λ x. (tag ≡ 8 * x.0 + wire_number x.1) × (0 < x.0) × (x.0 < 2 ^ 29)) }
     ensures err { IfErr result (λ why. (rest : List ℕ) → BrokenBehind tag rest why) }
 {
