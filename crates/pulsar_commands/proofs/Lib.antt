@@ -1,6 +1,8 @@
 pub mod Numbers
 pub mod Ascending
 pub mod Held
+pub mod Usual
+pub mod UsualIds
 pub mod Told
 pub mod Written
 pub mod Meaning

@@ -1,5 +1,5 @@
 -- The canonical text of a command is a text of it.
-use Rattle.std.proofs.Common.{◌≡◌, ℕ, ◌<◌, ◌^◌, arith, Bool, true, false, eqb, eq-eqb, ne_eqb, List, [], ◌∷◌, Option, Some, None, length, map, refl, sym, ap, subst, ◌∙◌}
+use Rattle.std.proofs.Common.{◌≡◌, ℕ, ◌<◌, arith, Bool, true, false, List, [], ◌∷◌, Option, Some, None, map, refl, sym, ap, subst, ◌∙◌}
 use Rattle.std.specs.Prelude.{if◌then◌else◌}
 use Rattle.std.specs.List.{AllByRecursion, last_or, flat_map}
 use Rattle.std.proofs.lemmas.List.Concat.{flat_map-cons}
@@ -10,27 +10,24 @@ use Rattle.geo_base.specs.declared.frame.SubKind.TheVariants as sub_kind
 use Rattle.pb_fields.specs.declared.field.Field.{Field}
 use Rattle.pb_fields.specs.declared.field.Value.{Value}
 use Rattle.pb_fields.specs.declared.field.Value.TheVariants as value
-use Rattle.pb_fields.specs.declared.message.Form.TheVariants as form
 use Rattle.pb_fields.specs.declared.message.Row.{Row}
-use Rattle.pb_fields.specs.Field.{IsFieldNumber, IsField, varint_field, bytes_field}
+use Rattle.pb_fields.specs.Field.{IsFieldNumber, IsField}
 use Rattle.pb_fields.specs.Canonical.{AscendFrom}
 use Rattle.pb_fields.specs.Text.{IsText}
-use Rattle.pb_fields.specs.Message.{row_of, Fits, values, last_value, lowest_absent, IsMessage}
-use Rattle.pb_fields.specs.Embedded.{FitsWith, IsMessageWith, IsMessageText}
-use Rattle.pb_fields.proofs.LastValues.{values-same, values-other}
-use Rattle.pb_fields.proofs.Parts.{AllByRecursion-append, fits_row}
+use Rattle.pb_fields.specs.Message.{row_of, values, lowest_absent}
+use Rattle.pb_fields.specs.Embedded.{FitsWith, IsMessageText}
+use Rattle.pb_fields.proofs.Parts.{AllByRecursion-append}
 use Rattle.pb_fields.proofs.Written.{text-is}
 use Rattle.pulsar_commands.specs.declared.command.Command.{Command}
 use Rattle.pulsar_commands.specs.declared.command.Command.TheVariants as command
-use Rattle.pulsar_commands.specs.declared.kind.Kind.{Kind}
-use Rattle.pulsar_commands.specs.declared.kind.Kind.TheVariants as kind
-use Rattle.pulsar_commands.specs.Table.{kind_number, type_rows, rows_of, choices_of, required, IsKnown}
+use Rattle.pulsar_commands.specs.Table.{kind_number, rows_of, choices_of, IsKnown}
 use Rattle.pulsar_commands.specs.Part.{Part, number, place, Told, Says}
 use Rattle.pulsar_commands.specs.Parts.{kind_of, parts, sub_number, ack_number}
 use Rattle.pulsar_commands.specs.Text.{IdRight, BodyRight, IsCommandText}
 use Rattle.pulsar_commands.specs.Canonical.{part_fields, IsPart, body_text, command_fields, command_text, IsWritable}
 use Rattle.pulsar_commands.proofs.Ascending.{above, all_numbers, at_place, fields_ascend, row, row_at}
 use Rattle.pulsar_commands.proofs.Told.{told, part_fits, part_ok}
+use Rattle.pulsar_commands.proofs.Usual.{bounds, type_message, type_last, body_last, holds_message, fields_ok}
 
 abbrev held_fields : Command → List Field
 held_fields c = flat_map part_fields (parts c)
@@ -180,107 +177,6 @@ known command.Ping h = tt
 known command.Pong h = tt
 
 -- ---- the BaseCommand
-
--- a type's number is neither that of the type's own field nor beyond the numbers of fields
-bounds : (k : Kind) → (1 < kind_number k) × (kind_number k < 20)
-bounds kind.Connect = (omega arith, omega arith)
-bounds kind.Connected = (omega arith, omega arith)
-bounds kind.Subscribe = (omega arith, omega arith)
-bounds kind.Producer = (omega arith, omega arith)
-bounds kind.Send = (omega arith, omega arith)
-bounds kind.SendReceipt = (omega arith, omega arith)
-bounds kind.SendError = (omega arith, omega arith)
-bounds kind.Message = (omega arith, omega arith)
-bounds kind.Ack = (omega arith, omega arith)
-bounds kind.Flow = (omega arith, omega arith)
-bounds kind.Unsubscribe = (omega arith, omega arith)
-bounds kind.Success = (omega arith, omega arith)
-bounds kind.Error = (omega arith, omega arith)
-bounds kind.CloseProducer = (omega arith, omega arith)
-bounds kind.CloseConsumer = (omega arith, omega arith)
-bounds kind.ProducerSuccess = (omega arith, omega arith)
-bounds kind.Ping = (omega arith, omega arith)
-bounds kind.Pong = (omega arith, omega arith)
-
--- Two fields, of the numbers 1 and n.
-module _ (n : ℕ) (above_one : 1 < n) (body : List ℕ) where
-  abbrev type_field : Field
-  type_field = varint_field 1 n
-
-  abbrev body_field : Field
-  body_field = bytes_field n body
-
-  abbrev both_fields : List Field
-  both_fields = type_field ∷ body_field ∷ []
-
-  not_one : n ≡ 1 → ⊥
-  not_one e = omega (arith, above_one, e)
-
-  one_not : 1 ≡ n → ⊥
-  one_not e = omega (arith, above_one, e)
-
-  type_last : last_value 1 both_fields ≡ Some (value.Varint n)
-  type_last = ap (λ (vs : List Value). last_or None vs) (values-same 1 type_field (body_field ∷ []) refl ∙ ap (λ (vs : List Value). value.Varint n ∷ vs) (values-other 1 body_field [] not_one))
-
-  body_last : last_value n both_fields ≡ Some (value.Bytes body)
-  body_last = ap (λ (vs : List Value). last_or None vs) (values-other n type_field (body_field ∷ []) one_not ∙ values-same n body_field [] refl)
-
-  no_row : (m : ℕ) (r : Row) → (r.number ≡ m → ⊥) → row_of (r ∷ []) m ≡ None
-  no_row m r other = let test : eqb r.number m ≡ false = ne_eqb _ _ other in rw test refl
-
-  its_row : (r : Row) → r.number ≡ n → row_of (r ∷ []) n ≡ Some r
-  its_row r same = let test : eqb r.number n ≡ true = eq-eqb _ _ same in rw test refl
-
-  unknown_fits : (rows : List Row) (f : Field) → row_of rows f.number ≡ None → Fits rows f
-  unknown_fits rows f none = λ r is. absurd (let h = none in cc)
-
-  type_message : IsMessage type_rows both_fields
-  type_message = record {
-    fit = (fits_row type_rows 1 (required 1 form.Varint) (value.Varint n) refl tt, (unknown_fits type_rows body_field (no_row n (required 1 form.Varint) one_not), tt));
-    complete = refl;
-  }
-
-  there : lowest_absent (required n form.Message ∷ []) both_fields ≡ None
-  there =
-      let other : eqb 1 n ≡ false = ne_eqb _ _ one_not in
-      let same : eqb n n ≡ true = eq-eqb _ _ refl in
-      rw (other, same) refl
-
-  holds_message : (Right : ℕ → List ℕ → Type 0) → Right n body → IsMessageWith Right (required n form.Message ∷ []) both_fields
-  holds_message Right right = record {
-    fit = (
-      record {
-        fits = unknown_fits (required n form.Message ∷ []) type_field (no_row 1 (required n form.Message) not_one);
-        holds = λ content h. absurd (let known = h.known in let none = no_row 1 (required n form.Message) not_one in cc);
-      },
-      (
-        record {
-          fits = fits_row (required n form.Message ∷ []) n (required n form.Message) (value.Bytes body) (its_row (required n form.Message) refl) tt;
-          holds = λ content h. subst (λ (c : List ℕ). Right n c) (same_content body content h.value) right;
-        },
-        tt,
-      ),
-    );
-    complete = there;
-  }
-    where
-      same_content : (a b : List ℕ) → ◌≡◌ {A = Value} (value.Bytes a) (value.Bytes b) → a ≡ b
-      same_content a b e = cc
-
-  fields_ok : n < 20 → length body < 2 ^ 64 → AllByRecursion IsField both_fields
-  fields_ok small fits = (
-    record { number = record { above_zero = omega arith; in_range = omega arith }; value = small_value },
-    (record { number = record { above_zero = positive; in_range = in_range }; value = fits }, tt),
-  )
-    where
-      small_value : n < 2 ^ 64
-      small_value = omega (arith, small)
-
-      positive : 0 < n
-      positive = omega (arith, above_one)
-
-      in_range : n < 2 ^ 29
-      in_range = omega (arith, small)
 
 pub canonical_is : (c : Command) → IsWritable c → IsCommandText (command_text c) c
 canonical_is c h =

@@ -1,9 +1,10 @@
 -- The texts of a command.
-use Rattle.std.specs.Prelude.{◌≡◌, ℕ, List, Some}
+use Rattle.std.specs.Prelude.{◌≡◌, ℕ, List, [], ◌∷◌, Some}
 use Rattle.std.specs.List.{AllByRecursion}
 use Rattle.pb_fields.specs.declared.field.Field.{Field}
 use Rattle.pb_fields.specs.declared.field.Value.TheVariants as value
 use Rattle.pb_fields.specs.declared.message.MessageFault.{MessageFault}
+use Rattle.pb_fields.specs.Field.{varint_field, bytes_field}
 use Rattle.pb_fields.specs.Text.{IsText}
 use Rattle.pb_fields.specs.Message.{IsMessage, last_value}
 use Rattle.pb_fields.specs.Embedded.{IsMessageWith, IsMessageText, WrongMessageWith, AnyContent, NoFault}
@@ -64,3 +65,7 @@ pub record IsCommandText (bytes : List ℕ) (c : Command) : Type 0 where
   pub fields : List Field
   pub text : IsText bytes fields
   pub means : IsCommand fields c
+
+-- The fields of a BaseCommand as writers make it: the type, and then the command's own message.
+abbrev pub usual : Kind → List ℕ → List Field
+usual k content = varint_field 1 (kind_number k) ∷ bytes_field (kind_number k) content ∷ []

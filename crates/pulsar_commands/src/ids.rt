@@ -12,13 +12,13 @@ ghost use Rattle.pulsar_commands.specs.Text.{IdRight, IdWrong};
 ghost use Rattle.pulsar_commands.specs.Canonical.{WritesPart, IsPosition, id_text};
 
 use crate::command::PositionList;
-use crate::table::ID_ROWS;
+use crate::table::{ENTRY, ID_ROWS, LEDGER};
 use geo_base::{Memory, Position};
 use pb_fields::embedded::{
     Embedded, Unread, optional_message, read_message_with, required_message,
 };
 use pb_fields::message::{MessageFault, Row, required_varint};
-use pb_fields::{ByteList, Field, write_bytes, write_varint};
+use pb_fields::{ByteList, Field, varint_pair, write_bytes, write_varint};
 use std::alloc::Global;
 
 /// The embedded messages of a command are ids.
@@ -31,9 +31,39 @@ impl Embedded for Ids {
     ghost wrong = { λ s. IdWrong };
 
     fn judge(&self, alloc: Global, _number: u32, content: &[u8]) -> Result<(), MessageFault> {
-        read_message_with(alloc, &ID_ROWS, &Unread, content)?;
-        Ok(())
+        match usual_id(content) {
+            Some(_position) => Ok(()),
+            None => judge_fields(alloc, content),
+        }
     }
+}
+
+/// Judges the content of an id by its fields.
+fn judge_fields(alloc: Global, content: &[u8]) -> Result<(), MessageFault>
+    ensures right { OnOk result (IdRight 0 content.now) }
+    ensures wrong { IfErr result (IsWrongOrMemory (IdWrong 0 content.now)) }
+{
+    read_message_with(alloc, &ID_ROWS, &Unread, content)?;
+    Ok(())
+}
+
+/// The position of an id whose content is its two fields in their order and nothing more, as writers make it.
+#[tactic(auto, using(crate::proofs::UsualIds::usual_id_right, crate::proofs::UsualIds::usual_id_said))]
+fn usual_id(content: &[u8]) -> Option<Position>
+    ensures right { IfSome result (λ p. IdRight 0 content.now) }
+    ensures said { IfSome result (IsIdText content.now) }
+{
+    let pair = varint_pair(content)?;
+    if pair.first != LEDGER {
+        return None;
+    }
+    if pair.second != ENTRY {
+        return None;
+    }
+    Some(Position {
+        ledger: pair.first_varint,
+        entry: pair.second_varint,
+    })
 }
 
 /// The position that the content of an id says.
@@ -41,10 +71,21 @@ fn position_of(alloc: Global, content: &[u8]) -> Result<Position, Memory>
     requires { IdRight 0 content.now }
     ensures { IfOk result (IsIdText content.now) }
 {
+    match usual_id(content) {
+        Some(position) => Ok(position),
+        None => position_of_fields(alloc, content),
+    }
+}
+
+/// The position that the fields of an id say.
+fn position_of_fields(alloc: Global, content: &[u8]) -> Result<Position, Memory>
+    requires { IdRight 0 content.now }
+    ensures { IfOk result (IsIdText content.now) }
+{
     match read_message_with(alloc, &ID_ROWS, &Unread, content) {
         Ok(fields) => Ok(Position {
-            ledger: required_varint(&ID_ROWS, fields.as_slice(), 1),
-            entry: required_varint(&ID_ROWS, fields.as_slice(), 2),
+            ledger: required_varint(&ID_ROWS, fields.as_slice(), LEDGER),
+            entry: required_varint(&ID_ROWS, fields.as_slice(), ENTRY),
         }),
         Err(MessageFault::Memory) => Err(Memory),
         Err(_) => unreachable!(),
@@ -110,8 +151,8 @@ fn id_content(alloc: Global, position: Position) -> Result<ByteList, pb_fields::
     ensures { IfOk result (λ bytes. (bytes ≡ id_text position) × IsPosition position) }
 {
     let mut out = ByteList::new(alloc);
-    write_varint(&mut out, 1, position.ledger)?;
-    write_varint(&mut out, 2, position.entry)?;
+    write_varint(&mut out, LEDGER, position.ledger)?;
+    write_varint(&mut out, ENTRY, position.entry)?;
     Ok(out)
 }
 

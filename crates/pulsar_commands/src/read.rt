@@ -1,15 +1,17 @@
 //! Reading commands.
 
-ghost use Rattle.std.specs.Prelude.{◌≡◌, ◌≤◌, Some, ◌∷◌, [], IfOk, OnOk, IfErr, MatchOption, Ok, Err};
+ghost use Rattle.std.specs.Prelude.{◌≡◌, ◌≤◌, List, Some, ◌∷◌, [], IfOk, OnOk, IfErr, IfSome, MatchOption, Ok, Err};
 ghost use Rattle.std.specs.List.{AllByRecursion};
+ghost use Rattle.pb_fields.specs.declared.field.Field.{Field};
 ghost use Rattle.pb_fields.specs.declared.field.Value.TheVariants as value;
+ghost use Rattle.pb_fields.specs.Text.{IsText};
 ghost use Rattle.pb_fields.specs.Faults.{Answers};
 ghost use Rattle.pb_fields.specs.Message.{Fits, IsMessage, IsWrongOrMemory, last_value};
 ghost use Rattle.pb_fields.specs.Embedded.{FitsWith, IsMessageWith, IsWrongWith, WrongFieldsWith};
 ghost use Rattle.pulsar_commands.specs.declared.command.Command.{Command};
 ghost use Rattle.pulsar_commands.specs.declared.fault.CommandFault.{CommandFault};
 ghost use Rattle.pulsar_commands.specs.Table.{kind_number, rows_of, type_rows, held_rows, choices_of, IsKnown};
-ghost use Rattle.pulsar_commands.specs.Text.{IdRight, BodyRight, BodyWrong, HasType, IsLast, IsCommand, IsCommandText};
+ghost use Rattle.pulsar_commands.specs.Text.{IdRight, BodyRight, BodyWrong, HasType, IsLast, IsCommand, IsCommandText, usual};
 ghost use Rattle.pulsar_commands.specs.Faults.{FirstUnknown, WrongOfType, WrongCommand, IsFaultOrMemory};
 
 use crate::bodies::command_of_body;
@@ -22,7 +24,7 @@ use pb_fields::embedded::read_message_with;
 use pb_fields::message::{
     Form, MessageFault, Row, check_field, last_varint, read_message, required_varint,
 };
-use pb_fields::{Field, FieldList};
+use pb_fields::{Field, FieldList, field_pair};
 use std::alloc::Global;
 
 impl Command {
@@ -41,8 +43,44 @@ impl Command {
     }
 }
 
-/// Reads the fields, the type, and then the command of the type.
+/// Reads the command: from the bytes in their place where they have the usual form, else field by field.
 fn command_of_bytes(alloc: Global, bytes: &[u8]) -> Result<Command, CommandFault>
+    ensures found { IfOk result (IsCommandText bytes.now) }
+    ensures fault { IfErr result (IsFaultOrMemory (WrongCommand bytes.now)) }
+{
+    match usual_form(bytes) {
+        Some((kind, content)) => command_of_content(alloc, kind, content),
+        None => command_of_fields(alloc, bytes),
+    }
+}
+
+/// The type, and the content of the field of its number, where the bytes are these two fields and nothing more.
+#[tactic(auto, using(crate::proofs::Usual::usual_pair))]
+fn usual_form(bytes: &[u8]) -> Option<(Kind, &[u8])>
+    ensures { IfSome result (λ x. IsText bytes.now (usual x.0 x.1.now)) }
+{
+    let pair = field_pair(bytes)?;
+    if pair.first != TYPE {
+        return None;
+    }
+    let kind = Kind::from_number(pair.varint)?;
+    if pair.second != kind.number() {
+        return None;
+    }
+    Some((kind, pair.content))
+}
+
+/// The command of a type, where its own message is the content.
+fn command_of_content(alloc: Global, kind: Kind, content: &[u8]) -> Result<Command, CommandFault>
+    ensures found { IfOk result (IsCommand (usual kind content.now)) }
+    ensures fault { IfErr result (IsFaultOrMemory (WrongOfType kind (usual kind content.now))) }
+{
+    let held = read_message_with(alloc, kind.rows(), &Ids, content)?;
+    command_of_held(alloc, kind, held.as_slice())
+}
+
+/// Reads the fields, the type, and then the command of the type.
+fn command_of_fields(alloc: Global, bytes: &[u8]) -> Result<Command, CommandFault>
     ensures found { IfOk result (IsCommandText bytes.now) }
     ensures fault { IfErr result (IsFaultOrMemory (WrongCommand bytes.now)) }
 {
@@ -61,10 +99,20 @@ fn command_of_kind(alloc: Global, kind: Kind, fields: &[Field]) -> Result<Comman
     ensures fault { IfErr result (IsFaultOrMemory (WrongOfType kind fields.now)) }
 {
     let held = held_of(alloc, kind, fields)?;
-    if let Some(value) = unknown_value(kind.choices(), held.as_slice()) {
+    command_of_held(alloc, kind, held.as_slice())
+}
+
+/// The command of a type that the fields of its own message say.
+fn command_of_held(alloc: Global, kind: Kind, held: &[Field]) -> Result<Command, CommandFault>
+    requires message { IsMessage (rows_of kind) held.now }
+    requires ids { IsMessageWith IdRight (rows_of kind) held.now }
+    ensures found { (fields : List Field) → HasType fields kind → IsMessageWith (BodyRight kind) (held_rows kind) fields → IsLast kind fields held.now → IfOk result (IsCommand fields) }
+    ensures fault { (fields : List Field) → IsMessageWith (BodyRight kind) (held_rows kind) fields → IsLast kind fields held.now → IfErr result (IsFaultOrMemory (WrongOfType kind fields)) }
+{
+    if let Some(value) = unknown_value(kind.choices(), held) {
         return Err(CommandFault::UnknownType(value));
     }
-    Ok(command_of_body(alloc, kind, held.as_slice())?)
+    Ok(command_of_body(alloc, kind, held)?)
 }
 
 /// The fields of the message in the field of the type's number.

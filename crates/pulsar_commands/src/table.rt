@@ -38,8 +38,14 @@ pub(crate) const TYPE: u32 = 1;
 
 pub(crate) const TYPE_ROWS: [Row; 1] = [required!(TYPE, Varint)];
 
+/// The ledgerId of a MessageIdData.
+pub(crate) const LEDGER: u32 = 1;
+
+/// The entryId of a MessageIdData.
+pub(crate) const ENTRY: u32 = 2;
+
 /// MessageIdData: ledgerId, entryId.
-pub(crate) const ID_ROWS: [Row; 2] = [required!(1, Varint), required!(2, Varint)];
+pub(crate) const ID_ROWS: [Row; 2] = [required!(LEDGER, Varint), required!(ENTRY, Varint)];
 
 /// client_version, protocol_version.
 pub(crate) const CONNECT: [Row; 2] = [required!(1, Text), optional!(4, Varint)];
