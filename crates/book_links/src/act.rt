@@ -92,6 +92,7 @@ fn session_act(site: &Site, source: u32, is_open: bool, frame: Frame) -> TakeAct
     if is_open {
         command_act(site, source, frame)
     } else {
+        drop(frame);
         TakeAct::Discards
     }
 }
@@ -109,7 +110,10 @@ fn command_act(site: &Site, source: u32, frame: Frame) -> TakeAct
             source: from,
             entry,
         } => send_act(site, source, seq, &from, entry),
-        _other => TakeAct::Refuses,
+        other => {
+            drop(other);
+            TakeAct::Refuses
+        }
     }
 }
 

@@ -93,14 +93,10 @@ fn also_open(
     ensures { IfOk result (AlsoSends site.now.clusters (opening_out site.now remote session) prepared) }
 {
     let frame = opening(alloc, site, session)?;
-    let with = also_send(
-        alloc,
-        site,
-        prepared,
-        Peer::Forward(remote),
-        session,
-        &frame,
-    )?;
+    let to = Peer::Forward(remote);
+    let sent = also_send(alloc, site, prepared, to, session, &frame);
+    drop(frame);
+    let with = sent?;
     Ok(with)
 }
 

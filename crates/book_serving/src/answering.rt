@@ -57,16 +57,19 @@ pub(crate) fn answered(
     book: &Book,
     client: u32,
     prepared: Prepared,
-    frame: &Frame,
+    frame: Frame,
 ) -> Result<Prepared, Memory>
     requires open { IsOpen book.now.broker client }
-    requires simple { carries_entry frame.now ≡ false }
-    requires readable { is_readable frame.now ≡ true }
-    requires small { IsSmall site.now.clusters frame.now }
-    ensures { IfOk result (AlsoSends site.now.clusters (record { to = peer.Client client; session = (open_at book.now.broker client).number; frame = frame.now }) prepared) }
+    requires simple { carries_entry frame ≡ false }
+    requires readable { is_readable frame ≡ true }
+    requires small { IsSmall site.now.clusters frame }
+    ensures { IfOk result (AlsoSends site.now.clusters (record { to = peer.Client client; session = (open_at book.now.broker client).number; frame = frame }) prepared) }
 {
     let session = open_session(book, client).number;
-    also_send(alloc, site, prepared, Peer::Client(client), session, frame)
+    let to = Peer::Client(client);
+    let sent = also_send(alloc, site, prepared, to, session, &frame);
+    drop(frame);
+    sent
 }
 
 /// An answer that changes nothing.
@@ -76,13 +79,13 @@ pub(crate) fn answering(
     site: &Site,
     book: &Book,
     client: u32,
-    frame: &Frame,
+    frame: Frame,
 ) -> Result<Prepared, Memory>
     requires open { IsOpen book.now.broker client }
-    requires simple { carries_entry frame.now ≡ false }
-    requires readable { is_readable frame.now ≡ true }
-    requires small { IsSmall site.now.clusters frame.now }
-    ensures prepared { IfOk result (IsPrepared site.now book.now.broker (answers client (open_at book.now.broker client) frame.now)) }
+    requires simple { carries_entry frame ≡ false }
+    requires readable { is_readable frame ≡ true }
+    requires small { IsSmall site.now.clusters frame }
+    ensures prepared { IfOk result (IsPrepared site.now book.now.broker (answers client (open_at book.now.broker client) frame)) }
     ensures room { (room : Room) → IfOk result (HasRoom room) }
 {
     let quiet = Prepared::quiet(alloc, 0);
@@ -104,7 +107,7 @@ pub(crate) fn refusing(
     ensures room { (room : Room) → IfOk result (HasRoom room) }
 {
     let frame = Frame::Error { request, code };
-    answering(alloc, site, book, client, &frame)
+    answering(alloc, site, book, client, frame)
 }
 
 /// An event that does nothing.

@@ -92,7 +92,7 @@ fn unsubscribing(
         return refusing(alloc, site, book, client, request, UNKNOWN_ERROR);
     }
     let plan = deleting(alloc, site, book, place)?;
-    let prepared = answered(alloc, site, book, client, plan, &Frame::Success { request })?;
+    let prepared = answered(alloc, site, book, client, plan, Frame::Success { request })?;
     Ok(prepared)
 }
 
@@ -140,7 +140,7 @@ fn leaving(
     ensures room { (room : Room) → IfOk result (HasRoom room) }
 {
     let plan = detaching(alloc, site, book, client)?;
-    let prepared = answered(alloc, site, book, client, plan, &Frame::Success { request })?;
+    let prepared = answered(alloc, site, book, client, plan, Frame::Success { request })?;
     Ok(prepared)
 }
 

@@ -106,7 +106,7 @@ fn attach_producer(
         request: asked.request,
         name: name.copy(alloc)?,
     };
-    let prepared = answered(alloc, site, book, client, plan, &success)?;
+    let prepared = answered(alloc, site, book, client, plan, success)?;
     Ok(prepared)
 }
 
@@ -167,7 +167,7 @@ fn close_producer(
 {
     let kept = without_producer(alloc, id, open_producers(book, client))?;
     let plan = having(alloc, site, book, client, kept)?;
-    let prepared = answered(alloc, site, book, client, plan, &Frame::Success { request })?;
+    let prepared = answered(alloc, site, book, client, plan, Frame::Success { request })?;
     Ok(prepared)
 }
 

@@ -51,7 +51,9 @@ pub(crate) fn serve_send(
     if may_publish(site, book, client, &publish) {
         store(alloc, site, book, client, publish)
     } else {
-        failing(alloc, site, book, client, publish.id, publish.seq)
+        let Publish { id, seq, .. } = publish;
+        drop(publish);
+        failing(alloc, site, book, client, id, seq)
     }
 }
 
@@ -73,7 +75,7 @@ fn failing(
         seq,
         code: UNKNOWN_ERROR,
     };
-    answering(alloc, site, book, client, &frame)
+    answering(alloc, site, book, client, frame)
 }
 
 /// A sound message is stored, or is a duplicate, and is answered either way.
@@ -104,7 +106,7 @@ fn store(
         seq,
         position: Some(stored.position),
     };
-    let prepared = answered(alloc, site, book, client, stored.prepared, &receipt)?;
+    let prepared = answered(alloc, site, book, client, stored.prepared, receipt)?;
     Ok(prepared)
 }
 

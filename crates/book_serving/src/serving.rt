@@ -152,6 +152,7 @@ fn serve_in(
     if is_open(book, client, session) {
         serve_command(alloc, site, book, client, frame)
     } else {
+        drop(frame);
         Ok(ignoring(alloc, site, book))
     }
 }
@@ -301,7 +302,7 @@ fn serve_other(
             };
             serve_ack(alloc, site, book, client, &acked)
         }
-        Frame::Ping => answering(alloc, site, book, client, &Frame::Pong),
+        Frame::Ping => answering(alloc, site, book, client, Frame::Pong),
         Frame::Pong => Ok(ignoring(alloc, site, book)),
         frame => closing(alloc, site, book, client, frame),
     }
@@ -313,11 +314,12 @@ fn closing(
     site: &Site,
     book: &Book,
     client: u32,
-    _frame: Frame,
+    frame: Frame,
 ) -> Result<Prepared, Memory>
     requires { client < length book.now.broker.sessions }
     ensures prepared { IfOk result (IsPrepared site.now book.now.broker (quiet_plan (session_becomes client None))) }
     ensures room { (room : Room) → IfOk result (HasRoom room) }
 {
+    drop(frame);
     becoming(alloc, site, book, client, None)
 }

@@ -165,7 +165,7 @@ fn creating(
     let success = Frame::Success {
         request: asked.request,
     };
-    let prepared = answered(alloc, site, book, client, plan, &success)?;
+    let prepared = answered(alloc, site, book, client, plan, success)?;
     Ok(prepared)
 }
 
@@ -215,7 +215,7 @@ fn join(
     let success = Frame::Success {
         request: asked.request,
     };
-    let prepared = answered(alloc, site, book, client, plan, &success)?;
+    let prepared = answered(alloc, site, book, client, plan, success)?;
     Ok(prepared)
 }
 

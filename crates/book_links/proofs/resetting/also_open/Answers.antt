@@ -1,8 +1,8 @@
 use Rattle.book_links.proofs.Resets.{opens_sent}
 use Rattle.book_links.proofs.resetting.also_open.Goals as goal
 
-pub also_send-requires : goal.also_send-requires
-also_send-requires c =
+pub also_send-sent-requires : goal.also_send-sent-requires
+also_send-sent-requires c =
     let brief = c.in_ok-frame.ensures.brief in
     record { simple = brief.simple; readable = brief.readable; small = brief.small }
 
