@@ -1,13 +1,13 @@
 -- A table's answers, in words of names.
-use Rattle.std.proofs.Common.{◌≡◌, ℕ, ◌+◌, Bool, true, false, cond, ltb, not, List, [], ◌∷◌, ◌++◌, length, position, Option, Some, None, inl, inr, arith, refl, sym, ap, ◌∙◌}
+use Rattle.std.proofs.Common.{◌≡◌, ℕ, ◌+◌, Bool, true, false, cond, ltb, not, ◌||◌, List, [], ◌∷◌, ◌++◌, length, position, Option, Some, None, inl, inr, arith, refl, sym, ap, ◌∙◌}
 use Rattle.std.specs.Borrow.{Bor}
 use Rattle.std.specs.List.{list_any, position_or_len}
 use Rattle.std.specs.Str.{bytes_eq}
-use Rattle.std.proofs.lemmas.Bool.{cases_Bool, cases_lt, false_from_ne_true, both_ways, ltb-false}
+use Rattle.std.proofs.lemmas.Bool.{cases_Bool, cases_lt, false_from_ne_true, both_ways, le-ltb, lt-ltb, ltb-false}
 use Rattle.std.proofs.lemmas.List.{length-map, map-append}
 use Rattle.std.proofs.lemmas.List.Recursion.{is_position_or_len}
 use Rattle.std.proofs.lemmas.List.Sums.{prefix_len-le-length}
-use Rattle.std.specs.Prelude.{slice_get, option_map, unwrap_or}
+use Rattle.std.specs.Prelude.{slice_get, is_some, option_map, unwrap_or}
 use Rattle.std.proofs.lemmas.Option.{cond_some, get_or_from_slice_get, slice_get-map, unwrap_or-slice_get}
 use Rattle.std.proofs.lemmas.Slice.Eq.{bytes_eq-Decides}
 use Rattle.indexmap.specs.IndexSet.{insert_key}
@@ -75,3 +75,25 @@ found w ks i e is =
 
 pub not_found : (w : Word) (ks : List (Bor Word)) → false ≡ list_any (λ (k : Bor Word). bytes_eq w k.now) ks → None ≡ cond (is_among (words ks) w) (Some (number_in (words ks) w)) None
 not_found w ks is = let none : is_among (words ks) w ≡ false = sym (is ∙ among w ks) in rw none refl
+
+step : (b : Bool) (i n m : ℕ) (r : Bool) → m ≡ 1 + n → ltb i n ≡ r → ltb (cond (not b) (1 + i) 0) m ≡ (b || r)
+step true i n m r is e = lt-ltb 0 m (omega arith)
+step false i n m r is e = more ∙ e
+  where
+    more : ltb (1 + i) m ≡ ltb i n
+    more = elim (cases_lt i n) [
+      | inl under ↦ lt-ltb (1 + i) m (omega (arith, under)) ∙ sym (lt-ltb i n under)
+      | inr past ↦ le-ltb (1 + i) m (omega (arith, past)) ∙ sym (le-ltb i n past)
+    ]
+
+within : {A : Type 0} (p : A → Bool) (xs : List A) → ltb (position_or_len p xs) (length xs) ≡ list_any p xs
+within p [] = refl
+within p (x ∷ xs) = step (p x) (position_or_len p xs) (length xs) (length (x ∷ xs)) (list_any p xs) (omega arith) (within p xs)
+
+some_where : {A : Type 0} (b : Bool) (x : A) → is_some (cond b (Some x) None) ≡ b
+some_where true x = refl
+some_where false x = refl
+
+-- there is a place where an element passes
+pub placed : {A : Type 0} (p : A → Bool) (xs : List A) → is_some (position p xs) ≡ list_any p xs
+placed p xs = some_where (ltb (position_or_len p xs) (length xs)) (position_or_len p xs) ∙ within p xs

@@ -1,6 +1,7 @@
 //! Bytes cut at one of them.
 ghost use Rattle.std.specs.Prelude.{◌≡◌, ◌==◌, [], ◌∷◌, MatchOption, position};
 ghost use Rattle.std.specs.List.{slice_split};
+ghost use Rattle.std.specs.Str.{bytes_eq};
 ghost use Rattle.script_names.specs.Words.{cut_by};
 
 use std::marker::Model;
@@ -77,4 +78,12 @@ impl<'a> Parts<'a> {
             }
         }
     }
+}
+
+/// Whether a word is another. Their lengths are compared first and in place, since most words that are compared differ in
+/// it.
+pub fn is_word(word: &[u8], other: &[u8]) -> bool
+    ensures { result ≡ bytes_eq word.now other.now }
+{
+    word.len() == other.len() && word == other
 }

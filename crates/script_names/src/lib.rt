@@ -11,7 +11,7 @@ mod name_word;
 mod number;
 mod table;
 
-pub use cut::{Parts, cut_at};
+pub use cut::{Parts, cut_at, is_word};
 pub use law::{lists_read_back, numbers_read_back};
 pub use name_list::{NameList, list_word, mask_of};
 pub use name_word::{NameWord, has_name_bytes};

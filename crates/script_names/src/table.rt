@@ -1,11 +1,17 @@
 //! Names, numbered from 0 in their order, and found by a table.
-ghost use Rattle.std.specs.Prelude.{◌≡◌, ◌<◌, ◌^◌, [], ◌∷◌, ◌++◌, false, if◌then◌else◌, length, None, Some, OnErr, OnOk};
+ghost use Rattle.std.specs.Prelude.{◌≡◌, ◌<◌, ◌^◌, [], ◌∷◌, ◌++◌, false, if◌then◌else◌, is_some, length, position, None, Some, OnErr, OnOk};
+ghost use Rattle.std.specs.List.{list_any};
+ghost use Rattle.std.specs.Str.{bytes_eq};
 ghost use Rattle.script_names.specs.Names.{is_among, name_at, number_in, words};
 
+use crate::cut::is_word;
 use geo_base::Memory;
 use indexmap::IndexSet;
 use std::alloc::Global;
 use std::marker::Model;
+
+/// Names up to so many are compared one after another, which takes less than a look into the table (own).
+const FEW_NAMES: usize = 8;
 
 /// Names that stand in a text. Contracts see them as a list; a name is found without a walk.
 #[derive(Debug, Drop)]
@@ -59,7 +65,7 @@ impl<'a> NameTable<'a> {
     pub fn number(&self, word: &[u8]) -> u32
         ensures { result ≡ number_in self.now word.now }
     {
-        match self.names.get_index_of(word) {
+        match place_in(&self.names, word) {
             Some(place) => place as u32,
             None => self.names.len() as u32,
         }
@@ -70,7 +76,7 @@ impl<'a> NameTable<'a> {
     pub fn find(&self, word: &[u8]) -> Option<u32>
         ensures { result ≡ (if is_among self.now word.now then Some (number_in self.now word.now) else None) }
     {
-        match self.names.get_index_of(word) {
+        match place_in(&self.names, word) {
             Some(place) => Some(place as u32),
             None => None,
         }
@@ -99,4 +105,24 @@ impl<'a> NameTable<'a> {
             Err(_) => Err(Memory),
         }
     }
+}
+
+/// The place of a name in the table.
+#[tactic(auto, using(crate::proofs::Names::placed))]
+fn place_in(names: &IndexSet<&[u8]>, word: &[u8]) -> Option<usize>
+    ensures index { result ≡ position (λ k. bytes_eq word.now k.now) names.now.keys }
+    ensures found { is_some result ≡ list_any (λ k. bytes_eq word.now k.now) names.now.keys }
+{
+    if names.len() > FEW_NAMES {
+        names.get_index_of(word)
+    } else {
+        place_among(names.as_slice(), word)
+    }
+}
+
+/// The place of a name among a few.
+fn place_among(names: &[&[u8]], word: &[u8]) -> Option<usize>
+    ensures { result ≡ position (λ k. bytes_eq word.now k.now) names.now }
+{
+    names.iter().position(|name| is_word(word, *name))
 }

@@ -3,6 +3,7 @@ ghost use Rattle.std.specs.Prelude.{◌≡◌};
 ghost use Rattle.script_rows.specs.Rows.{act_built, act_columns, act_of_word, act_word, role_of};
 
 use crate::column::{Column, Menu, Role};
+use script_names::is_word;
 
 /// The kind of a client's line, by the words after `do C`.
 #[derive(Clone, Copy, Debug, Drop, PartialEq, Eq)]
@@ -75,7 +76,7 @@ impl ActKind {
         ensures { result ≡ act_of_word word.now }
     {
         for kind in ACT_KINDS {
-            if word == kind.word() {
+            if is_word(word, kind.word()) {
                 return Some(kind);
             }
         }

@@ -8,7 +8,7 @@ ghost use Rattle.script_rows.specs.declared.column.Menu.TheVariants as menu_word
 
 use crate::column::Menu;
 use geo_base::{Position, Targets};
-use script_names::{NameList, NameTable, NameWord, cut_at, mask_of, number_of};
+use script_names::{NameList, NameTable, NameWord, cut_at, is_word, mask_of, number_of};
 
 /// The number of a word among those of a choice.
 pub(crate) fn choice_of(menu: Menu, word: &[u8]) -> Option<u32>
@@ -23,11 +23,11 @@ pub(crate) fn choice_of(menu: Menu, word: &[u8]) -> Option<u32>
             }
         }
         Menu::Fate => {
-            if word == b"good".as_slice() {
+            if is_word(word, b"good") {
                 Some(0)
-            } else if word == b"lost".as_slice() {
+            } else if is_word(word, b"lost") {
                 Some(1)
-            } else if word == b"twice".as_slice() {
+            } else if is_word(word, b"twice") {
                 Some(2)
             } else {
                 None
@@ -44,9 +44,9 @@ fn one_of_two(word: &[u8], first: &[u8], second: &[u8]) -> Option<u32>
     ensures { result ≡ (if bytes_eq word.now first.now then Some 0
         else if bytes_eq word.now second.now then Some 1 else None) }
 {
-    if word == first {
+    if is_word(word, first) {
         Some(0)
-    } else if word == second {
+    } else if is_word(word, second) {
         Some(1)
     } else {
         None

@@ -3,6 +3,7 @@ ghost use Rattle.std.specs.Prelude.{◌≡◌};
 ghost use Rattle.script_rows.specs.Rows.{event_built, event_columns, event_of_word, event_word, may_halt};
 
 use crate::column::{Column, Menu};
+use script_names::is_word;
 
 /// The kind of an event.
 #[derive(Clone, Copy, Debug, Drop, PartialEq, Eq)]
@@ -83,7 +84,7 @@ impl EventKind {
         ensures { result ≡ event_of_word word.now }
     {
         for kind in EVENT_KINDS {
-            if word == kind.word() {
+            if is_word(word, kind.word()) {
                 return Some(kind);
             }
         }

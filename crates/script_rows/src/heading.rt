@@ -10,6 +10,7 @@ use crate::event_kind::EventKind;
 use crate::kind::Kind;
 use crate::line_kind::LineKind;
 use crate::words::{LineWords, Words};
+use script_names::is_word;
 
 /// Whether `halt` is read.
 const IS_HALT_BUILT: bool = true;
@@ -33,9 +34,9 @@ pub fn heading_of(line: &[u8]) -> Heading<'_>
     let Some(word) = words.next_word() else {
         return Heading::Unknown;
     };
-    if word == b"do".as_slice() {
+    if is_word(word, b"do") {
         do_heading(words)
-    } else if word == b"halt".as_slice() {
+    } else if is_word(word, b"halt") {
         if IS_HALT_BUILT {
             halt_heading(words)
         } else {

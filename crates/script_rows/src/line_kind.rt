@@ -3,6 +3,7 @@ ghost use Rattle.std.specs.Prelude.{◌≡◌};
 ghost use Rattle.script_rows.specs.Rows.{line_built, line_columns, line_of_word, line_word};
 
 use crate::column::{Column, Menu};
+use script_names::is_word;
 
 /// The kind of a line that neither is a client's nor schedules an event.
 #[derive(Clone, Copy, Debug, Drop, PartialEq, Eq)]
@@ -71,7 +72,7 @@ impl LineKind {
         ensures { result ≡ line_of_word word.now }
     {
         for kind in LINE_KINDS {
-            if word == kind.word() {
+            if is_word(word, kind.word()) {
                 return Some(kind);
             }
         }
