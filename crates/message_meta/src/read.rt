@@ -1,13 +1,14 @@
 //! Reading metadata.
 
-ghost use Rattle.std.specs.Prelude.{◌≡◌, map, List, IfOk, IfErr, Ok, Err};
-ghost use Rattle.std.specs.Option.{option_copied};
+ghost use Rattle.std.specs.Prelude.{◌≡◌, ◌≢◌, ℕ, false, is_none, map, List, IfOk, IfErr, IfSome, Ok, Err};
+ghost use Rattle.std.specs.Option.{option_map};
 ghost use Rattle.std.specs.List.{AllByRecursion};
 ghost use Rattle.pb_fields.specs.declared.field.Value.TheVariants as value;
 ghost use Rattle.pb_fields.specs.declared.message.Form.TheVariants as form;
+ghost use Rattle.pb_fields.specs.declared.message.Row.{Row};
 ghost use Rattle.pb_fields.specs.declared.message.MessageFault.{MessageFault};
 ghost use Rattle.pb_fields.specs.Faults.{Answers};
-ghost use Rattle.pb_fields.specs.Message.{HasForm, IsMessage, WrongMessage, IsWrongOrMemory, values};
+ghost use Rattle.pb_fields.specs.Message.{HasForm, IsMessage, WrongMessage, IsWrongOrMemory, last_value, row_of, unknown, values};
 ghost use Rattle.message_meta.specs.Table.{rows};
 ghost use Rattle.message_meta.specs.Metadata.{Metadata, IsMeta, IsMetaText};
 
@@ -18,10 +19,8 @@ use crate::table::{
     SEQUENCE_ID,
 };
 use geo_base::{Memory, Text};
-use pb_fields::message::{
-    keep_unknown, optional_text, optional_varint, read_message, required_text, required_varint,
-};
-use pb_fields::{Field, FieldList};
+use pb_fields::message::{keep_unknown, optional_varint, read_message, required_varint};
+use pb_fields::{Field, FieldList, take_last};
 use std::alloc::Global;
 
 impl Meta {
@@ -55,14 +54,17 @@ fn meta_of_fields(alloc: Global, fields: FieldList) -> Result<Meta, Memory>
     ensures { IfOk result (IsMeta fields) }
 {
     let known = fields.as_slice();
-    let producer = Text::from_str(alloc, required_text(&ROWS, known, PRODUCER_NAME))?;
     let seq = required_varint(&ROWS, known, SEQUENCE_ID);
     let publish_time = required_varint(&ROWS, known, PUBLISH_TIME);
-    let replicated_from = text_copy(alloc, optional_text(&ROWS, known, REPLICATED_FROM))?;
-    let key = text_copy(alloc, optional_text(&ROWS, known, PARTITION_KEY))?;
     let replicate_to = texts(alloc, known, REPLICATE_TO)?;
     let marker = optional_varint(&ROWS, known, MARKER_TYPE);
     let mut rest = fields;
+    let producer = match take_text(&mut rest, PRODUCER_NAME) {
+        Some(producer) => producer,
+        None => unreachable!(),
+    };
+    let replicated_from = take_text(&mut rest, REPLICATED_FROM);
+    let key = take_text(&mut rest, PARTITION_KEY);
     keep_unknown(&mut rest, &ROWS);
     Ok(Meta {
         producer,
@@ -76,13 +78,15 @@ fn meta_of_fields(alloc: Global, fields: FieldList) -> Result<Meta, Memory>
     })
 }
 
-fn text_copy(alloc: Global, text: Option<&str>) -> Result<Option<Text>, Memory>
-    ensures { IfOk result (λ copy. copy ≡ option_copied text.entry) }
+/// Takes the last text of a number out of the fields, where it stands there. What other numbers say stays, and so do the
+/// fields that a table with that number does not name.
+fn take_text(fields: &mut FieldList, number: u32) -> Option<Text>
+    requires { IfSome (last_value number fields.old) (λ v. HasForm v form.Text) }
+    ensures taken { last_value number fields.old ≡ option_map value.Bytes result }
+    ensures others { (n : ℕ) → n ≢ number → values n fields.new ≡ values n fields.old }
+    ensures unknown { (rows : List Row) → is_none (row_of rows number) ≡ false → unknown rows fields.new ≡ unknown rows fields.old }
 {
-    match text {
-        None => Ok(None),
-        Some(text) => Ok(Some(Text::from_str(alloc, text)?)),
-    }
+    take_last(fields, number)?.into_text()
 }
 
 /// The texts of a repeated field.

@@ -9,3 +9,4 @@ pub mod Nested
 pub mod LastValues
 pub mod Parts
 pub mod Order
+pub mod Takes

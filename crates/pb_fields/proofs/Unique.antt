@@ -181,7 +181,7 @@ behind_one {rest = rest} {a = x} (broken.value {w = v} small is above b) (broken
     broken_value_one (subst (λ (t : WireType). BrokenValue t rest x) (same_type v w (sym is ∙ is')) b) c
 
 -- the tag at the front of a field, and what comes after it
-tag_taken : (bytes : List ℕ) (f : Field) (x : List ℕ) (t : TakesField bytes f x) → TakesVarint bytes (8 * f.number + wire_number (wire_type f.value)) (t.field.value ++ x)
+pub tag_taken : (bytes : List ℕ) (f : Field) (x : List ℕ) (t : TakesField bytes f x) → TakesVarint bytes (8 * f.number + wire_number (wire_type f.value)) (t.field.value ++ x)
 tag_taken bytes f x t = record {
   text = t.field.tag.text;
   parts = t.parts ∙ ap (λ (k : List ℕ). k ++ x) t.field.tag.parts ∙ append_assoc t.field.tag.text t.field.value x;

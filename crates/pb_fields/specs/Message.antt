@@ -1,5 +1,5 @@
 -- Messages over fields: what the table of a message's fields asks, and the first thing that is wrong.
-use Rattle.std.specs.Prelude.{◌≡◌, ◌≢◌, ℕ, ◌==◌, min, Bool, ◌&&◌, not, List, ◌∷◌, Option, Some, None, is_none, map, filter, find, IsUtf8}
+use Rattle.std.specs.Prelude.{◌≡◌, ◌≢◌, ℕ, ◌<◌, ◌==◌, min, Bool, ◌&&◌, not, List, ◌∷◌, Option, Some, None, is_none, map, filter, find, length, slice_index_or, IsUtf8}
 use Rattle.std.specs.List.{AllByRecursion, list_any, last_or, reduce}
 use Rattle.pb_fields.specs.declared.field.Field.{Field}
 use Rattle.pb_fields.specs.declared.field.Value.{Value}
@@ -103,6 +103,12 @@ values n fields = map (λ f. f.value) (filter (λ f. f.number == n) fields)
 -- A field that is not repeated counts by its last value (Protocol Buffers encoding, "Last One Wins"), an embedded message too (own).
 abbrev pub last_value : ℕ → List Field → Option Value
 last_value n fields = last_or None (values n fields)
+
+-- The last of some fields with a number is that of an index among all of them.
+pub record IsLastAt (n : ℕ) (some all : List Field) (i : ℕ) : Type 0 where
+  pub within : i < length all
+  pub same : (d : Field) → (slice_index_or all i d).number ≡ n
+  pub value : (d : Field) → last_value n some ≡ Some (slice_index_or all i d).value
 
 -- the fields whose numbers are in no row
 abbrev pub unknown : List Row → List Field → List Field

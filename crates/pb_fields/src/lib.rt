@@ -13,6 +13,7 @@ mod memory;
 pub mod message;
 mod pair;
 mod read;
+mod taken;
 mod values;
 mod write;
 
@@ -23,4 +24,5 @@ pub use laws::{canonical_text, one_reading};
 pub use memory::Memory;
 pub use pair::{FieldPair, VarintPair, field_pair, varint_pair};
 pub use read::read_fields;
+pub use taken::take_last;
 pub use write::{write_bytes, write_field, write_fields, write_optional_varint, write_varint};
