@@ -34,14 +34,16 @@ pub(super) fn append_of_consumer(
             replicate_subscription_state,
         } => append_subscribe(
             out,
-            topic,
-            subscription,
-            *sub_type,
-            *consumer_id,
-            *request_id,
-            consumer_name,
-            *initial_position,
-            *replicate_subscription_state,
+            Subscribe {
+                topic,
+                subscription,
+                sub_type: *sub_type,
+                consumer_id: *consumer_id,
+                request_id: *request_id,
+                consumer_name,
+                initial_position: *initial_position,
+                replicate_subscription_state: *replicate_subscription_state,
+            },
         ),
         Command::Ack {
             consumer_id,
@@ -64,27 +66,30 @@ pub(super) fn append_of_consumer(
     }
 }
 
-fn append_subscribe(
-    out: &mut ByteList,
-    topic: &Text,
-    subscription: &Text,
+/// The parts of a SUBSCRIBE, where they stand.
+#[derive(Clone, Copy, Debug)]
+struct Subscribe<'a> {
+    topic: &'a Text,
+    subscription: &'a Text,
     sub_type: SubKind,
     consumer_id: u64,
     request_id: u64,
-    consumer_name: &Option<Text>,
+    consumer_name: &'a Option<Text>,
     initial_position: bool,
     replicate_subscription_state: bool,
-) -> Result<(), Memory>
-    ensures { OnOk result (Writes out.old (parts (command.Subscribe topic.now subscription.now sub_type consumer_id request_id consumer_name.now initial_position replicate_subscription_state)) out.new) }
+}
+
+fn append_subscribe(out: &mut ByteList, subscribe: Subscribe<'_>) -> Result<(), Memory>
+    ensures { OnOk result (Writes out.old (parts (command.Subscribe subscribe.entry.topic.now subscribe.entry.subscription.now subscribe.entry.sub_type subscribe.entry.consumer_id subscribe.entry.request_id subscribe.entry.consumer_name.now subscribe.entry.initial_position subscribe.entry.replicate_subscription_state)) out.new) }
 {
-    append_text(out, 1, topic)?;
-    append_text(out, 2, subscription)?;
-    append_number(out, 3, sub_type_number(sub_type))?;
-    append_number(out, 4, consumer_id)?;
-    append_number(out, 5, request_id)?;
-    append_optional_text(out, 6, consumer_name)?;
-    append_flag(out, 13, initial_position)?;
-    append_flag(out, 14, replicate_subscription_state)
+    append_text(out, 1, subscribe.topic)?;
+    append_text(out, 2, subscribe.subscription)?;
+    append_number(out, 3, sub_type_number(subscribe.sub_type))?;
+    append_number(out, 4, subscribe.consumer_id)?;
+    append_number(out, 5, subscribe.request_id)?;
+    append_optional_text(out, 6, subscribe.consumer_name)?;
+    append_flag(out, 13, subscribe.initial_position)?;
+    append_flag(out, 14, subscribe.replicate_subscription_state)
 }
 
 fn append_ack(
