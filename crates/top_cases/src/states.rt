@@ -16,10 +16,6 @@ do p produce\ndo p pub 0 * - hi\ndo p pub 1 * - ho\ndo q sub s exclusive earlies
 reconnect p\nserve a p\ngo p\nserve a p\ngo p\nserve a p\nget p\nget p\nget p\n\
 reset t a b\ntake t a b good\nreceipt t a b good\nread t a b\ntake t a b good\n";
 
-/// Steps that go on from there: its receipt was lost, and it goes once more.
-const MORE: &[u8] =
-    b"# behind the state\nreconnect p\nserve a p\nreset t a b\nreconnect q\nserve b q\nsettle\n";
-
 /// What a command does with an input.
 fn answer(alloc: Global, word: &str, input: &[u8], sink: &mut MemSink) -> Result<Status, Fail> {
     let words = vec![in alloc; Word::from_str(alloc, word)?]?;
@@ -29,42 +25,6 @@ fn answer(alloc: Global, word: &str, input: &[u8], sink: &mut MemSink) -> Result
 
 fn open_sink(alloc: Global) -> Result<MemSink, Fail> {
     Ok(MemSink::new(alloc, AT_ONCE, &[])?)
-}
-
-#[test]
-fn a_run_goes_on_from_its_state(rt: HostRuntime) -> Result<(), Fail> {
-    let mut file = open_sink(rt.alloc())?;
-    assert_eq!(rt; answer(rt.alloc(), "save", FIRST, &mut file)?, Status::Ok);
-
-    // in two runs
-    let mut input = Vec::new(rt.alloc());
-    input.extend_from_slice(file.bytes())?;
-    input.extend_from_slice(MORE)?;
-    let mut resumed = open_sink(rt.alloc())?;
-    assert_eq!(rt;
-        answer(rt.alloc(), "resume", input.as_slice(), &mut resumed)?,
-        Status::Ok
-    );
-
-    // in one
-    let mut script = Vec::new(rt.alloc());
-    script.extend_from_slice(FIRST)?;
-    script.extend_from_slice(b"stop\n")?;
-    script.extend_from_slice(MORE)?;
-    let mut whole = open_sink(rt.alloc())?;
-    assert_eq!(rt;
-        answer(rt.alloc(), "run", script.as_slice(), &mut whole)?,
-        Status::Ok
-    );
-    assert_eq!(rt; resumed.bytes(), whole.bytes());
-
-    // and with nothing behind the state
-    let mut alone = open_sink(rt.alloc())?;
-    assert_eq!(rt;
-        answer(rt.alloc(), "resume", file.bytes(), &mut alone)?,
-        Status::Ok
-    );
-    Ok(())
 }
 
 #[test]
