@@ -1,5 +1,5 @@
 //! Bytes and texts.
-use geo_base::bytes::{Blob, Text};
+use geo_base::{Blob, Text};
 use std::test::Fail;
 
 #[test]

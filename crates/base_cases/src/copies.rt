@@ -1,7 +1,5 @@
 //! Copies.
-use geo_base::position::Position;
-use geo_base::sequence::Sequence;
-use geo_base::snapshot::Cut;
+use geo_base::{Cut, Position, Sequence};
 use std::test::Fail;
 
 #[test]

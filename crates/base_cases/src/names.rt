@@ -1,5 +1,5 @@
 //! Names.
-use geo_base::name::{ClusterName, NameFault, ProducerName, TopicName};
+use geo_base::{ClusterName, NameFault, ProducerName, TopicName};
 use std::test::Fail;
 
 /// What a reader answers, as a word.

@@ -1,5 +1,5 @@
 //! Lists of items in order.
-use geo_base::sequence::Sequence;
+use geo_base::Sequence;
 use std::test::Fail;
 
 #[test]

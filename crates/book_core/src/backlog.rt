@@ -6,7 +6,7 @@ ghost use Rattle.topic_ledger.specs.Messages.{messages_before};
 use crate::book::Book;
 use book_subs::Sub;
 use cursor_acks::IndexRange;
-use geo_base::entry_store::EntryStore;
+use geo_base::EntryStore;
 use topic_ledger::TopicLedger;
 
 impl Book {

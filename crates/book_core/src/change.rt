@@ -1,7 +1,7 @@
 //! Changes in a broker's memory.
 
 use book_subs::SubChange;
-use geo_base::session::Session;
+use geo_base::Session;
 use snapshot_builder::Builder;
 
 /// One change in memory, with all the memory that it takes. The subscription that it is of is the prepared event's.

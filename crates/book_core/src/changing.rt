@@ -14,7 +14,7 @@ use crate::book::Book;
 use crate::change::BookChange;
 use crate::sender_row::SenderStep;
 use book_subs::SubChange;
-use geo_base::session::Session;
+use geo_base::Session;
 use replicator::Receiver;
 
 impl Book {

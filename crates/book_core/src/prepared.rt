@@ -6,9 +6,7 @@ ghost use Rattle.book_core.specs.Prepared.{PreparedBook, again_book, halted_book
 
 use crate::change::BookChange;
 use crate::write::BookWrite;
-use geo_base::bytes::Blob;
-use geo_base::memory::Memory;
-use geo_base::packet::Peer;
+use geo_base::{Blob, Memory, Peer};
 use std::alloc::Global;
 use std::collections::VecDeque;
 use std::marker::Model;

@@ -3,8 +3,7 @@ ghost use Rattle.std.specs.Prelude.{◌≡◌, ◌<◌, ◌≤◌, length, OnOk}
 ghost use Rattle.book_subs.specs.Table.{room_at};
 
 use crate::book::Book;
-use geo_base::entry_store::EntryStore;
-use geo_base::memory::Memory;
+use geo_base::{EntryStore, Memory};
 
 impl Book {
     /// Makes room for `n` more entries, each of a new stream, or ledgers.

@@ -6,7 +6,7 @@ ghost use Rattle.replicator.specs.Sending.{sending_of};
 ghost use Rattle.book_core.specs.Senders.{StepFits, room_needed, stepped};
 
 use cursor_acks::Cursor;
-use geo_base::memory::Memory;
+use geo_base::Memory;
 use replicator::Sender;
 use std::alloc::Global;
 use std::marker::Model;

@@ -4,7 +4,7 @@ ghost use Rattle.geo_base.specs.Sender.{new_sender, sender_restarted};
 ghost use Rattle.book_core.specs.Senders.{AllHaveRoom, StepFits, room_needed, row_restarted, senders_of, stepped};
 
 use crate::sender_row::{SenderRow, SenderStep};
-use geo_base::memory::Memory;
+use geo_base::Memory;
 use std::alloc::Global;
 use std::marker::Model;
 

@@ -10,7 +10,7 @@ use crate::book::{Book, closed_receivers, no_sessions};
 use crate::sender_row::SenderRow;
 use crate::senders::SenderTable;
 use book_subs::SubTable;
-use geo_base::memory::Memory;
+use geo_base::Memory;
 use restart::{Durable, DurableSender, DurableSenders, recover};
 use std::alloc::Global;
 
@@ -121,8 +121,6 @@ fn restored_senders(
 fn add<T: Drop>(items: &mut Vec<T>, item: T) -> Result<(), Memory>
     ensures { OnOk result (items.new.items ≡ items.old.items ++ item ∷ []) }
 {
-    match items.push(item) {
-        Ok(()) => Ok(()),
-        Err(_) => Err(Memory),
-    }
+    items.push(item)?;
+    Ok(())
 }

@@ -2,7 +2,7 @@
 
 use book_subs::{Sub, SubWrite};
 use dedup_table::Stream;
-use geo_base::entry::Entry;
+use geo_base::Entry;
 
 /// One durable write, with all the memory that it takes. The subscription that it is of is the prepared event's.
 #[derive(Debug, Drop)]

@@ -16,8 +16,7 @@ use crate::sender_row::SenderStep;
 use crate::write::BookWrite;
 use book_subs::{Sub, SubWrite};
 use dedup_table::Stream;
-use geo_base::entry::Entry;
-use geo_base::entry_store::EntryStore;
+use geo_base::{Entry, EntryStore};
 
 /// The producer of a cluster's own markers.
 const MARKER_PRODUCER: &[u8] = b"pulsar.marker";

@@ -9,10 +9,7 @@ ghost use Rattle.book_links.specs.declared.act.TakeAct.TheVariants as act;
 
 use book_core::Book;
 use book_site::Site;
-use geo_base::bytes::Text;
-use geo_base::entry::Entry;
-use geo_base::frame::Frame;
-use geo_base::marker::Place;
+use geo_base::{Entry, Frame, Place, Text};
 use wire_frames::is_within_limit;
 
 /// What a packet of a forward link does.

@@ -5,10 +5,7 @@ ghost use Rattle.book_links.specs.Answers.{AlsoAnswers, IsBrief, outs_of, receip
 
 use book_core::Prepared;
 use book_site::{Site, also_send};
-use geo_base::frame::Frame;
-use geo_base::memory::Memory;
-use geo_base::packet::Peer;
-use geo_base::position::Position;
+use geo_base::{Frame, Memory, Peer, Position};
 use std::alloc::Global;
 
 /// The position of what stands nowhere, -1:-1 as 64-bit numbers.

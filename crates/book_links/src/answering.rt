@@ -7,11 +7,7 @@ ghost use Rattle.book_site.specs.Prepared.{IsAt, IsPrepared, SameState};
 
 use book_core::{Book, BookChange, BookWrite, Prepared};
 use book_site::Site;
-use geo_base::event::Fate;
-use geo_base::frame::Frame;
-use geo_base::memory::Memory;
-use geo_base::packet::Packet;
-use geo_base::sender::SenderState;
+use geo_base::{Fate, Frame, Memory, Packet, SenderState};
 use std::alloc::Global;
 
 /// What the next packet of the back link from a cluster will do. Only room is made; an `Err` is want of memory.

@@ -12,10 +12,7 @@ ghost use Rattle.book_links.specs.Ready.{SessionFits};
 
 use book_core::{Book, BookChange, BookWrite, Prepared};
 use book_site::{Site, also_send};
-use geo_base::bytes::Text;
-use geo_base::frame::Frame;
-use geo_base::memory::Memory;
-use geo_base::packet::Peer;
+use geo_base::{Frame, Memory, Peer, Text};
 use std::alloc::Global;
 
 /// What the begin of a new session to a cluster will do; idle where that is no other cluster. It needs no room.

@@ -12,10 +12,7 @@ use crate::act::{TakeAct, act_of};
 use crate::answer::{Arrival, also_receipt, also_succeed};
 use book_core::{Book, BookChange, Prepared};
 use book_site::{Site, storing};
-use geo_base::entry::Entry;
-use geo_base::event::Fate;
-use geo_base::memory::Memory;
-use geo_base::packet::Packet;
+use geo_base::{Entry, Fate, Memory, Packet};
 use std::alloc::Global;
 
 /// What the next packet of the forward link from a cluster will do. Only room is made; an `Err` is want of memory.

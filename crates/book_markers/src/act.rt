@@ -7,8 +7,7 @@ ghost use Rattle.book_markers.specs.Reading.{IsReading, ReadRoom, handled_book};
 
 use book_core::{Book, BookChange, BookWrite, Prepared};
 use book_site::Site;
-use geo_base::memory::Memory;
-use geo_base::name::SubName;
+use geo_base::{Memory, SubName};
 use std::alloc::Global;
 
 /// The sender to a cluster reads the entry at an index.

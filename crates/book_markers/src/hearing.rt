@@ -17,12 +17,7 @@ use crate::markers::{or_first, request, response, snapshot};
 use crate::updating::read_update;
 use book_core::{Book, BookChange, Prepared};
 use book_site::{Site, appending};
-use geo_base::bytes::Text;
-use geo_base::entry::Entry;
-use geo_base::entry_store::EntryStore;
-use geo_base::marker::{ClusterPosition, Marker, Place};
-use geo_base::memory::Memory;
-use geo_base::snapshot::Progress;
+use geo_base::{ClusterPosition, Entry, EntryStore, Marker, Memory, Place, Progress, Text};
 use snapshot_builder::Builder;
 use std::alloc::Global;
 

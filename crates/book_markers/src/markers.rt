@@ -13,13 +13,9 @@ ghost use Rattle.book_markers.specs.Reading.{IsReady};
 
 use book_core::Book;
 use book_site::{Site, own_marker};
-use geo_base::bytes::Text;
-use geo_base::entry::{Entry, Targets};
-use geo_base::entry_store::EntryStore;
-use geo_base::marker::{ClusterPosition, Marker, Place};
-use geo_base::memory::Memory;
-use geo_base::position::Position;
-use geo_base::sequence::Sequence;
+use geo_base::{
+    ClusterPosition, Entry, EntryStore, Marker, Memory, Place, Position, Sequence, Targets, Text,
+};
 use snapshot_builder::Builder;
 use std::alloc::Global;
 use sub_update::named_positions;

@@ -18,10 +18,7 @@ use crate::hearing::read_marker;
 use crate::updating::passing;
 use book_core::{Book, BookChange, Outgoing, Prepared};
 use book_site::Site;
-use geo_base::entry::{Content, Entry};
-use geo_base::entry_store::EntryStore;
-use geo_base::memory::Memory;
-use geo_base::packet::Peer;
+use geo_base::{Content, Entry, EntryStore, Memory, Peer};
 use std::alloc::Global;
 
 /// What the next read of the sender to a cluster will do; it is not enabled where there is nothing to read, and where the cluster is

@@ -11,10 +11,7 @@ ghost use Rattle.book_site.specs.Storable.{most_id};
 use crate::markers::request;
 use book_core::{Book, BookChange, Prepared};
 use book_site::{Site, appending};
-use geo_base::bytes::Text;
-use geo_base::entry_store::EntryStore;
-use geo_base::memory::Memory;
-use geo_base::position::Position;
+use geo_base::{EntryStore, Memory, Position, Text};
 use snapshot_builder::Builder;
 use std::alloc::Global;
 

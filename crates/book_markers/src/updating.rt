@@ -20,13 +20,8 @@ use book_core::{Book, BookChange, BookWrite, Prepared};
 use book_site::{Site, begin_write, place_named, sub_at, update_after};
 use book_subs::{Sub, SubChange, SubWrite};
 use cursor_acks::Cursor;
-use geo_base::bytes::Text;
-use geo_base::frame::SubKind;
 use geo_base::limits::SUBSCRIPTIONS;
-use geo_base::marker::ClusterPosition;
-use geo_base::memory::Memory;
-use geo_base::name::{NameFault, SubName, name_text};
-use geo_base::position::Position;
+use geo_base::{ClusterPosition, Memory, NameFault, Position, SubKind, SubName, Text, name_text};
 use std::alloc::Global;
 
 /// What is to be done with an update. It has no effect unless it names exactly one position for the own cluster and that is stored, and

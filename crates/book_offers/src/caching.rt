@@ -8,12 +8,9 @@ ghost use Rattle.book_site.specs.Storable.{IsSnapshotOf};
 
 use book_core::Book;
 use book_site::{Site, sub_at};
-use geo_base::entry::{Content, Entry};
-use geo_base::marker::{ClusterPosition, Marker, Place};
-use geo_base::memory::Memory;
-use geo_base::position::Position;
-use geo_base::sequence::Sequence;
-use geo_base::snapshot::{CachedSnapshot, Cut};
+use geo_base::{
+    CachedSnapshot, ClusterPosition, Content, Cut, Entry, Marker, Memory, Place, Position, Sequence,
+};
 use std::alloc::Global;
 
 /// The snapshot that an entry brings to the subscription at a place, if it does.

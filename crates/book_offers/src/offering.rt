@@ -17,12 +17,7 @@ use crate::passing::passing;
 use book_core::{Book, BookChange, Outgoing, Prepared};
 use book_site::{Site, place_named, sub_at};
 use book_subs::{Sub, SubChange};
-use geo_base::consumer::Consumer;
-use geo_base::entry::{Content, Entry};
-use geo_base::entry_store::EntryStore;
-use geo_base::memory::Memory;
-use geo_base::packet::Peer;
-use geo_base::position::Position;
+use geo_base::{Consumer, Content, Entry, EntryStore, Memory, Peer, Position};
 use std::alloc::Global;
 
 /// The position of the first entry.

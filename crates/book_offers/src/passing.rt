@@ -14,9 +14,7 @@ ghost use Rattle.book_offers.specs.Offering.{cache_changes, cached_with, passing
 use book_core::{Book, BookChange, BookWrite, Prepared};
 use book_site::{Site, begin_write, sub_at, update_after};
 use book_subs::{SubChange, SubWrite};
-use geo_base::memory::Memory;
-use geo_base::sequence::Sequence;
-use geo_base::snapshot::CachedSnapshot;
+use geo_base::{CachedSnapshot, Memory, Sequence};
 use snapshot_cache::SnapshotCache;
 use std::alloc::Global;
 

@@ -16,9 +16,7 @@ ghost use Rattle.book_offers.specs.Seeking.{SeekFits};
 use book_core::{Book, BookChange, BookWrite, Prepared};
 use book_site::{Site, begin_write, place_named, sub_at, update_after};
 use book_subs::{SubChange, SubWrite};
-use geo_base::entry_store::EntryStore;
-use geo_base::memory::Memory;
-use geo_base::position::Position;
+use geo_base::{EntryStore, Memory, Position};
 use std::alloc::Global;
 
 /// What a seek of the subscription of a name will do, to a position or to the end; idle where there is no such subscription, and

@@ -17,10 +17,7 @@ use crate::answering::ignoring;
 use book_core::{Book, BookChange, Prepared};
 use book_site::{Site, begin_write, place_consumed, sub_at, update_after};
 use book_subs::{SubChange, SubWrite};
-use geo_base::frame::{AckKind, SubKind};
-use geo_base::memory::Memory;
-use geo_base::position::Position;
-use geo_base::sequence::Sequence;
+use geo_base::{AckKind, Memory, Position, Sequence, SubKind};
 use std::alloc::Global;
 
 /// What ACK names.

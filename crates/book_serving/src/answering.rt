@@ -13,10 +13,7 @@ ghost use Rattle.wire_frames.specs.Texts.{is_readable};
 
 use book_core::{Book, Prepared};
 use book_site::{Site, also_send};
-use geo_base::frame::Frame;
-use geo_base::memory::Memory;
-use geo_base::packet::Peer;
-use geo_base::session::{AttachedProducer, Session};
+use geo_base::{AttachedProducer, Frame, Memory, Peer, Session};
 use std::alloc::Global;
 
 /// UnknownError of ServerError in PulsarApi.proto.

@@ -14,8 +14,7 @@ use crate::answering::{CONSUMER_NOT_FOUND, UNKNOWN_ERROR, answered, ignoring, re
 use book_core::{Book, BookChange, BookWrite, Prepared};
 use book_site::{Site, place_consumed, sub_at};
 use book_subs::SubChange;
-use geo_base::frame::Frame;
-use geo_base::memory::Memory;
+use geo_base::{Frame, Memory};
 use std::alloc::Global;
 
 /// What FLOW will do: the consumer gains permits, if it is here.

@@ -16,12 +16,8 @@ use crate::answering::{
 };
 use book_core::{Book, BookChange, Prepared};
 use book_site::Site;
-use geo_base::bytes::Text;
-use geo_base::frame::Frame;
 use geo_base::limits::PRODUCER_NAME_BYTES;
-use geo_base::memory::Memory;
-use geo_base::sequence::Sequence;
-use geo_base::session::{AttachedProducer, Session};
+use geo_base::{AttachedProducer, Frame, Memory, Sequence, Session, Text};
 use std::alloc::Global;
 
 /// What PRODUCER asks for.

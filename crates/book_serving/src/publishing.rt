@@ -15,11 +15,7 @@ use crate::answering::{UNKNOWN_ERROR, answered, answering, open_producers};
 use crate::producing::name_with;
 use book_core::{Book, Prepared};
 use book_site::{Site, storing};
-use geo_base::bytes::Text;
-use geo_base::entry::{Content, Entry};
-use geo_base::frame::Frame;
-use geo_base::marker::Place;
-use geo_base::memory::Memory;
+use geo_base::{Content, Entry, Frame, Memory, Place, Text};
 use std::alloc::Global;
 use wire_frames::is_within_limit;
 

@@ -16,11 +16,7 @@ use crate::publishing::{Publish, serve_send};
 use crate::subscribing::{Joining, serve_subscribe};
 use book_core::{Book, BookChange, Prepared};
 use book_site::{Site, also_send};
-use geo_base::frame::Frame;
-use geo_base::memory::Memory;
-use geo_base::packet::{Packet, Peer};
-use geo_base::sequence::Sequence;
-use geo_base::session::Session;
+use geo_base::{Frame, Memory, Packet, Peer, Sequence, Session};
 use std::alloc::Global;
 
 /// What the next packet of a client will do. Only room is made; an `Err` is want of memory.

@@ -16,12 +16,8 @@ use crate::answering::{CONSUMER_BUSY, UNKNOWN_ERROR, answered, refusing};
 use book_core::{Book, BookChange, BookWrite, Prepared};
 use book_site::{Site, place_named, sub_at};
 use book_subs::{Sub, SubChange, SubWrite};
-use geo_base::bytes::Text;
-use geo_base::consumer::Consumer;
-use geo_base::frame::{Frame, SubKind};
 use geo_base::limits::SUBSCRIPTIONS;
-use geo_base::memory::Memory;
-use geo_base::name::{NameFault, SubName, name_text};
+use geo_base::{Consumer, Frame, Memory, NameFault, SubKind, SubName, Text, name_text};
 use std::alloc::Global;
 
 /// What SUBSCRIBE asks for.

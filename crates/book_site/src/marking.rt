@@ -7,12 +7,9 @@ ghost use Rattle.book_site.specs.Updates.{appending};
 use crate::site::Site;
 use book_core::{Book, BookWrite};
 use dedup_table::Stream;
-use geo_base::bytes::{Blob, Text};
-use geo_base::entry::{Content, Entry, Ident, Metadata, Targets};
-use geo_base::marker::Marker;
-use geo_base::memory::Memory;
-use geo_base::name::ProducerName;
-use geo_base::sequence::Sequence;
+use geo_base::{
+    Blob, Content, Entry, Ident, Marker, Memory, Metadata, ProducerName, Sequence, Targets, Text,
+};
 use std::alloc::Global;
 
 /// The name of the producer that a cluster writes its markers as (own).

@@ -10,12 +10,7 @@ ghost use Rattle.book_site.specs.Prepared.{IsSite};
 ghost use Rattle.book_site.specs.Storable.{IsStorable};
 
 use crate::site::Site;
-use geo_base::bytes::Blob;
-use geo_base::entry::Entry;
-use geo_base::frame::Frame;
-use geo_base::marker::Place;
-use geo_base::memory::Memory;
-use geo_base::position::Position;
+use geo_base::{Blob, Entry, Frame, Memory, Place, Position};
 use std::alloc::Global;
 use wire_frames::{write_message, write_send, write_value};
 

@@ -12,12 +12,7 @@ ghost use Rattle.book_site.specs.Storable.{IsStorable};
 use crate::site::Site;
 use book_core::{Book, BookWrite, Outgoing, Prepared};
 use dedup_table::Stream;
-use geo_base::entry::Entry;
-use geo_base::entry_store::EntryStore;
-use geo_base::frame::Frame;
-use geo_base::memory::Memory;
-use geo_base::packet::Peer;
-use geo_base::position::Position;
+use geo_base::{Entry, EntryStore, Frame, Memory, Peer, Position};
 use std::alloc::Global;
 
 /// The position of what stands nowhere, -1:-1 as 64-bit numbers: the receipt of a duplicate names it, as those of Pulsar's brokers do.

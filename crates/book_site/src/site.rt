@@ -5,9 +5,7 @@ ghost use Rattle.geo_base.specs.Broker.{cluster_name};
 ghost use Rattle.geo_base.specs.Forwarding.{is_remote, link_producer};
 ghost use Rattle.book_site.specs.Prepared.{IsNameLong, IsSite};
 
-use geo_base::bytes::Text;
-use geo_base::memory::Memory;
-use geo_base::name::{ClusterName, TopicName};
+use geo_base::{ClusterName, Memory, Text, TopicName};
 use std::alloc::Global;
 use std::marker::Model;
 

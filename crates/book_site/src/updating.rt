@@ -16,10 +16,7 @@ use crate::site::Site;
 use book_core::{Book, BookWrite, Prepared};
 use book_subs::{Sub, SubWrite};
 use cursor_acks::Cursor;
-use geo_base::entry::Targets;
-use geo_base::entry_store::EntryStore;
-use geo_base::memory::Memory;
-use geo_base::sequence::Sequence;
+use geo_base::{EntryStore, Memory, Sequence, Targets};
 use snapshot_cache::SnapshotCache;
 use std::alloc::Global;
 

@@ -7,8 +7,7 @@ ghost use Rattle.book_subs.specs.Steps.{SubChangeFits, room_needed, sub_changed}
 
 use crate::fresh::{Fresh, forget, hold};
 use crate::sub::Sub;
-use geo_base::consumer::Consumer;
-use geo_base::snapshot::CachedSnapshot;
+use geo_base::{CachedSnapshot, Consumer};
 
 /// A change in memory of a subscription, with all the memory that it takes.
 #[derive(Debug, Drop)]

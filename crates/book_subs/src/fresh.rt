@@ -6,7 +6,7 @@ ghost use Rattle.book_subs.specs.Fresh.{SubHolds, held, noted};
 
 use cursor_acks::Cursor;
 use dispatcher::Dispatcher;
-use geo_base::sequence::Sequence;
+use geo_base::Sequence;
 use key_shared::KeyPick;
 
 /// Which indexes the last write of a cursor added, that may still be out or due: an acknowledgement is forgotten at the cost of

@@ -6,7 +6,7 @@ ghost use Rattle.book_subs.specs.SubBook.{subs_of};
 
 use crate::sub::Sub;
 use crate::table::SubTable;
-use geo_base::memory::Memory;
+use geo_base::Memory;
 use restart::{DurableSub, DurableSubs};
 use std::alloc::Global;
 
@@ -45,8 +45,6 @@ fn restored_subs(alloc: Global, parts: Vec<DurableSub>) -> Result<Vec<Sub>, Memo
 fn add(subs: &mut Vec<Sub>, sub: Sub) -> Result<(), Memory>
     ensures { OnOk result (subs.new.items ≡ subs.old.items ++ sub ∷ []) }
 {
-    match subs.push(sub) {
-        Ok(()) => Ok(()),
-        Err(_) => Err(Memory),
-    }
+    subs.push(sub)?;
+    Ok(())
 }

@@ -12,8 +12,7 @@ ghost use Rattle.book_subs.specs.Table.{at_name, is_new, names_of, room_at, room
 use crate::changing::SubChange;
 use crate::sub::Sub;
 use crate::writing::SubWrite;
-use geo_base::entry_store::EntryStore;
-use geo_base::memory::Memory;
+use geo_base::{EntryStore, Memory};
 use std::alloc::Global;
 use std::marker::Model;
 

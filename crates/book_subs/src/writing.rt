@@ -10,9 +10,7 @@ ghost use Rattle.book_subs.specs.Steps.{SubWriteFits, acks_after, acks_needed, s
 use crate::fresh::{Fresh, note};
 use crate::sub::Sub;
 use cursor_acks::Cursor;
-use geo_base::entry_store::EntryStore;
-use geo_base::frame::SubKind;
-use geo_base::sequence::Sequence;
+use geo_base::{EntryStore, Sequence, SubKind};
 
 /// A durable write of a subscription that is here, with all the memory that it takes.
 #[derive(Debug, Drop)]

@@ -10,8 +10,7 @@ ghost use Rattle.client_node.specs.Site.{is_short_line};
 use crate::story::{Act, ROWS, Row, lines};
 use client_node::{Client, ClientSite, Incoming, Prepared};
 use geo_base::limits::{CLUSTERS, TEXT_BYTES};
-use geo_base::name::name_text;
-use geo_base::{ClusterName, Line, Memory, ProducerName, Text, TopicName};
+use geo_base::{ClusterName, Line, Memory, ProducerName, Text, TopicName, name_text};
 use std::alloc::Global;
 use std::test::Fail;
 

@@ -13,11 +13,7 @@ mod index;
 mod slots;
 
 use crate::held::slots::HeldSlots;
-use geo_base::client::Held;
-use geo_base::entry::Ident;
-use geo_base::memory::Memory;
-use geo_base::position::Position;
-use geo_base::sequence::Sequence;
+use geo_base::{Held, Ident, Memory, Position, Sequence};
 use std::alloc::Global;
 use std::marker::Model;
 

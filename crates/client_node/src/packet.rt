@@ -1,8 +1,7 @@
 //! Packets of bytes.
 ghost use Rattle.std.specs.Prelude.{◌≡◌};
 
-use geo_base::bytes::Blob;
-use geo_base::packet::Peer;
+use geo_base::{Blob, Peer};
 use std::marker::Model;
 
 /// The next packet of the link that a client takes from: the session that it was sent in, and the bytes of its frame.

@@ -6,9 +6,8 @@ ghost use Rattle.geo_base.specs.Name.{is_name};
 ghost use Rattle.geo_base.specs.Setup.{topic_name};
 ghost use Rattle.client_node.specs.Site.{is_short_line, known_setup};
 
-use geo_base::client::Line;
 use geo_base::limits::CLUSTERS;
-use geo_base::name::{ClusterName, ProducerName, TopicName};
+use geo_base::{ClusterName, Line, ProducerName, TopicName};
 use std::marker::Model;
 
 /// The clusters' and topics' names by their numbers, and what is declared of the client: its name, which is its producer's too,

@@ -60,10 +60,8 @@ impl Cursor {
             first: 0,
             last: len - 1,
         };
-        match RangeList::one(alloc, range) {
-            Ok(ranges) => Ok(Cursor { ranges }),
-            Err(_) => Err(Memory),
-        }
+        let ranges = RangeList::one(alloc, range)?;
+        Ok(Cursor { ranges })
     }
 
     /// Makes the spare at least `n`. This and `copy` and `all` are the calls that take memory; unchanged where it is wanting.
@@ -185,10 +183,8 @@ impl Cursor {
     pub fn copy(&self, alloc: Global) -> Result<Cursor, Memory>
         ensures { IfOk result (λ c. c.indexes ≡ self.now.indexes) }
     {
-        match self.ranges.copy(alloc) {
-            Ok(ranges) => Ok(Cursor { ranges }),
-            Err(_) => Err(Memory),
-        }
+        let ranges = self.ranges.copy(alloc)?;
+        Ok(Cursor { ranges })
     }
 }
 

@@ -56,20 +56,16 @@ impl RangeList {
         ensures { IfOk result (λ l. l.list ≡ range ∷ []) }
     {
         let mut items = Vec::new(alloc);
-        match items.push(range) {
-            Ok(()) => Ok(RangeList { items }),
-            Err(_) => Err(Memory),
-        }
+        items.push(range)?;
+        Ok(RangeList { items })
     }
 
     /// A copy of the list.
     pub(crate) fn copy(&self, alloc: Global) -> Result<RangeList, Memory>
         ensures { IfOk result (λ l. l.list ≡ self.now.list) }
     {
-        match self.items.to_vec(alloc) {
-            Ok(items) => Ok(RangeList { items }),
-            Err(_) => Err(Memory),
-        }
+        let items = self.items.to_vec(alloc)?;
+        Ok(RangeList { items })
     }
 
     /// Room for `n` more ranges; unchanged where memory is wanting.
@@ -79,9 +75,7 @@ impl RangeList {
         ensures more { self.old.spare ≤ self.new.spare }
         ensures err { OnErr result (self.new ≡ self.old) }
     {
-        match self.items.reserve(n) {
-            Ok(()) => Ok(()),
-            Err(_) => Err(Memory),
-        }
+        self.items.reserve(n)?;
+        Ok(())
     }
 }

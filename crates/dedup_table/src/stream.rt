@@ -7,9 +7,7 @@ ghost use Rattle.std.specs.Ordering.{eq_of_both, on};
 ghost use Rattle.std.specs.Str.{bytes_eq};
 ghost use Rattle.dedup_table.specs.Table.{stream_of};
 
-use geo_base::entry::Ident;
-use geo_base::memory::Memory;
-use geo_base::name::ProducerName;
+use geo_base::{Ident, Memory, ProducerName};
 use std::alloc::Global;
 use std::hash::{Hash, Hasher};
 

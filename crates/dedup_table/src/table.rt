@@ -4,9 +4,7 @@ ghost use Rattle.geo_base.specs.declared.entry.Entry.{Entry};
 ghost use Rattle.dedup_table.specs.Table.{noted, verdict, Tells};
 
 use crate::stream::Stream;
-use geo_base::entry::Entry;
-use geo_base::entry_store::EntryStore;
-use geo_base::memory::Memory;
+use geo_base::{Entry, EntryStore, Memory};
 use indexmap::IndexMap;
 use std::alloc::Global;
 use std::marker::Model;

@@ -4,8 +4,9 @@ ghost use Rattle.wire_frames.specs.Values.{IsContent, placed_cluster, placed_mar
 
 use crate::place::place_of;
 use geo_base::limits::CLUSTERS;
-use geo_base::marker::Marker as MachineMarker;
-use geo_base::{Blob, ClusterName, ClusterPosition, Content, Memory, Sequence};
+use geo_base::{
+    Blob, ClusterName, ClusterPosition, Content, Marker as MachineMarker, Memory, Sequence,
+};
 use marker_codec::{ClusterMessageId, Marker, MarkerFault};
 use std::alloc::Global;
 

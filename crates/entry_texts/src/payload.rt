@@ -9,8 +9,9 @@ ghost use Rattle.wire_frames.specs.Coded.{IsMarkerRight};
 ghost use Rattle.wire_frames.specs.Texts.{marker_number, payload_text};
 
 use crate::place::name_of;
-use geo_base::marker::Marker as MachineMarker;
-use geo_base::{Blob, ClusterName, ClusterPosition, Content, Memory, Sequence, Text};
+use geo_base::{
+    Blob, ClusterName, ClusterPosition, Content, Marker as MachineMarker, Memory, Sequence, Text,
+};
 use marker_codec::{ClusterMessageId, Marker};
 use pb_fields::ByteList;
 use std::alloc::Global;

@@ -9,8 +9,7 @@ ghost use Rattle.entry_texts.specs.Stored.{IsStored};
 use crate::content::content_of;
 use crate::place::targets_of;
 use geo_base::limits::CLUSTERS;
-use geo_base::name::ProducerName;
-use geo_base::{Blob, ClusterName, Entry, Ident, Memory, Metadata};
+use geo_base::{Blob, ClusterName, Entry, Ident, Memory, Metadata, ProducerName};
 use message_meta::Meta;
 use pb_fields::{ByteList, FieldList, write_fields};
 use std::alloc::Global;
@@ -55,8 +54,6 @@ fn fields_text(alloc: Global, fields: &FieldList) -> Result<Blob, Memory>
     ensures fields { OnOk result (AllByRecursion IsField fields.now) }
 {
     let mut bytes = ByteList::new(alloc);
-    match write_fields(&mut bytes, fields) {
-        Ok(()) => Ok(Blob::from_vec(bytes.into_vec())),
-        Err(_) => Err(Memory),
-    }
+    write_fields(&mut bytes, fields)?;
+    Ok(Blob::from_vec(bytes.into_vec()))
 }

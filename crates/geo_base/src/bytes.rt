@@ -33,10 +33,8 @@ impl Blob {
     pub fn from_slice(alloc: Global, bytes: &[u8]) -> Result<Blob, Memory>
         ensures { IfOk result (λ b. b ≡ bytes.now) }
     {
-        match bytes.to_vec(alloc) {
-            Ok(bytes) => Ok(Blob { bytes }),
-            Err(_) => Err(Memory),
-        }
+        let bytes = bytes.to_vec(alloc)?;
+        Ok(Blob { bytes })
     }
 
     /// The bytes of a vector; takes no memory.
@@ -58,10 +56,8 @@ impl Blob {
         ensures ok { OnOk result (self.new ≡ self.old ++ more.now) }
         ensures err { OnErr result (self.new ≡ self.old) }
     {
-        match self.bytes.extend_from_slice(more) {
-            Ok(()) => Ok(()),
-            Err(_) => Err(Memory),
-        }
+        self.bytes.extend_from_slice(more)?;
+        Ok(())
     }
 
     /// A copy.
@@ -91,10 +87,8 @@ impl Text {
     pub fn from_str(alloc: Global, text: &str) -> Result<Text, Memory>
         ensures { IfOk result (λ t. t ≡ text.now) }
     {
-        match String::from_str(alloc, text) {
-            Ok(text) => Ok(Text { text }),
-            Err(_) => Err(Memory),
-        }
+        let text = String::from_str(alloc, text)?;
+        Ok(Text { text })
     }
 
     /// The text of a string; takes no memory.

@@ -159,10 +159,7 @@ impl Sequence<Option<Position>> {
     pub fn copy(&self, alloc: Global) -> Result<Sequence<Option<Position>>, Memory>
         ensures { IfOk result (λ c. c ≡ self.now) }
     {
-        match self.as_slice().to_vec(alloc) {
-            Ok(positions) => Ok(Sequence::from_vec(positions)),
-            Err(_) => Err(Memory),
-        }
+        Ok(Sequence::from_vec(self.as_slice().to_vec(alloc)?))
     }
 }
 

@@ -8,7 +8,7 @@ ghost use Rattle.script_text.specs.Scenario.{IsStep};
 ghost use Rattle.state_file.specs.Known.{IsKnownState};
 ghost use Rattle.state_file.specs.State.{state_of};
 
-use geo_base::bytes::Blob;
+use geo_base::Blob;
 use geo_world::{RunFault, World};
 use script_text::{Scenario, StepList};
 use state_file::{Saved, save};

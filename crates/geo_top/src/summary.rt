@@ -6,9 +6,7 @@ ghost use Rattle.geo_top.specs.Summary.{big_line, stored_line, stored_lines, sum
 ghost use Rattle.geo_world.specs.World.{IsAt};
 
 use crate::world_report::add_head;
-use geo_base::EntryStore;
-use geo_base::bytes::Blob;
-use geo_base::memory::Memory;
+use geo_base::{Blob, EntryStore, Memory};
 use geo_world::World;
 use report_lines::add;
 use script_text::Scenario;

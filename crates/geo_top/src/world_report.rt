@@ -7,8 +7,7 @@ ghost use Rattle.geo_base.specs.Report.{client_lines, cluster_lines, head_line, 
 ghost use Rattle.geo_top.specs.Shown.{shown_world};
 ghost use Rattle.geo_world.specs.World.{IsAt};
 
-use geo_base::bytes::Blob;
-use geo_base::memory::Memory;
+use geo_base::{Blob, Memory};
 use geo_world::World;
 use node_report::{add_broker, add_client};
 use report_lines::{add, head_line, place_line};

@@ -12,7 +12,7 @@ ghost use Rattle.world_kept.specs.Reached.{Reached};
 
 use crate::fault::RunFault;
 use crate::world::World;
-use geo_base::event::Event;
+use geo_base::Event;
 use script_text::Scenario;
 use std::alloc::Global;
 

@@ -1,5 +1,5 @@
 //! Why a run does not come to its end.
-use geo_base::memory::Memory;
+use geo_base::Memory;
 use thiserror::Error;
 
 /// What was done before stays done.

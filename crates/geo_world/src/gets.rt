@@ -15,7 +15,7 @@ use crate::clients::site_of;
 use crate::fault::RunFault;
 use crate::world::World;
 use client_node::{ClientSite, Incoming};
-use geo_base::memory::Memory;
+use geo_base::Memory;
 use script_text::Scenario;
 use std::alloc::Global;
 use wire_links::LinkName;

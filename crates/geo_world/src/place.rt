@@ -5,7 +5,7 @@ ghost use Rattle.script_text.specs.Scenario.{IsEvent};
 ghost use Rattle.wire_links.specs.declared.name.Node.TheVariants as node;
 ghost use Rattle.world_kept.specs.Events.{IsBrokers};
 
-use geo_base::event::Event;
+use geo_base::Event;
 use script_text::Scenario;
 use wire_links::{LinkName, Node};
 

@@ -15,7 +15,7 @@ ghost use Rattle.world_kept.specs.Standing.{Stands};
 use crate::opening::{new_site, sub_names};
 use crate::world::{Counts, World};
 use client_node::{Client, ClientState};
-use geo_base::memory::Memory;
+use geo_base::Memory;
 use script_text::Scenario;
 use state_file::Saved;
 use state_parts::NodeParts;

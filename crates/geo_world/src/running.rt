@@ -10,7 +10,7 @@ ghost use Rattle.world_kept.specs.Reached.{Reached};
 
 use crate::fault::RunFault;
 use crate::world::World;
-use geo_base::event::Step;
+use geo_base::Step;
 use script_text::{Scenario, StepList};
 use std::alloc::Global;
 

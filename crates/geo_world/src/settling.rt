@@ -13,8 +13,7 @@ use crate::fault::RunFault;
 use crate::place::place_of;
 use crate::settling_events::SettlingEvents;
 use crate::world::{World, node_number};
-use geo_base::event::Event;
-use geo_base::memory::Memory;
+use geo_base::{Event, Memory};
 use script_text::Scenario;
 use std::alloc::Global;
 

@@ -4,9 +4,7 @@ ghost use Rattle.std.specs.List.{range_with_len};
 ghost use Rattle.geo_base.specs.Run.{pairs, pairs_from, pairs_to, resets_of, round_of};
 ghost use Rattle.geo_world.specs.Settling.{Adds};
 
-use geo_base::event::{Event, Fate};
-use geo_base::memory::Memory;
-use geo_base::sequence::Sequence;
+use geo_base::{Event, Fate, Memory, Sequence};
 use script_text::Scenario;
 use std::alloc::Global;
 

@@ -6,7 +6,7 @@ ghost use Rattle.geo_world.specs.World.{AreNodes, IsAt, kept_of, node_at};
 ghost use Rattle.world_kept.specs.Kept.{opening_kept};
 
 use client_node::Client;
-use geo_base::memory::Memory;
+use geo_base::Memory;
 use script_text::Scenario;
 use std::alloc::Global;
 use std::marker::Model;

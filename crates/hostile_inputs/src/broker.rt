@@ -5,10 +5,7 @@ ghost use Rattle.hostile_inputs.specs.Setting.{setting};
 use anyhow::{Result, bail};
 use book_core::Outgoing;
 use book_site::Site;
-use geo_base::entry_store::EntryStore;
-use geo_base::event::{Event, Fate};
-use geo_base::name::{ClusterName, TopicName};
-use geo_base::packet::Stamp;
+use geo_base::{ClusterName, EntryStore, Event, Fate, Stamp, TopicName};
 use std::alloc::Global;
 use topic_node::{LinkPacket, TopicNode};
 

@@ -3,8 +3,7 @@
 use crate::broker::{kept, node, stop, take};
 use anyhow::Result;
 use book_core::Outgoing;
-use geo_base::entry::Content;
-use geo_base::entry_store::EntryStore;
+use geo_base::{Content, EntryStore};
 use std::alloc::Global;
 use std::fmt;
 use topic_node::TopicNode;

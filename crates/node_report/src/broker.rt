@@ -6,8 +6,7 @@ ghost use Rattle.geo_base.specs.Report.{broker_lines, sender_line, sender_lines,
 ghost use Rattle.book_subs.specs.Table.{sub_at};
 
 use book_subs::Sub;
-use geo_base::bytes::Blob;
-use geo_base::memory::Memory;
+use geo_base::{Blob, Memory};
 use report_lines::{SubShown, add, add_entries, sender_line, sub_line};
 use std::alloc::Global;
 use topic_node::TopicNode;

@@ -3,9 +3,7 @@ ghost use Rattle.std.specs.Prelude.{◌≡◌, ◌==◌, ◌++◌, ◌∷◌, []
 ghost use Rattle.geo_base.specs.Report.{client_line, got_line, with_line_feeds};
 
 use client_node::{Client, ClientView};
-use geo_base::bytes::Blob;
-use geo_base::memory::Memory;
-use geo_base::name::ClusterName;
+use geo_base::{Blob, ClusterName, Memory};
 use report_lines::{ClientCounts, add, add_got, client_line};
 use script_text::{ClientDecl, Scenario};
 use std::alloc::Global;

@@ -1,6 +1,5 @@
 //! Snapshots in the making.
-use geo_base::position::Position;
-use geo_base::snapshot::Progress;
+use geo_base::{Position, Progress};
 use snapshot_builder::*;
 use std::alloc::{AllocError, Global};
 use std::test::Fail;

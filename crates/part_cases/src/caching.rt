@@ -1,8 +1,5 @@
 //! The cache of snapshots.
-use geo_base::memory::Memory;
-use geo_base::position::Position;
-use geo_base::sequence::Sequence;
-use geo_base::snapshot::Cut;
+use geo_base::{Cut, Memory, Position, Sequence};
 use snapshot_cache::*;
 use std::alloc::Global;
 use std::test::Fail;

@@ -1,13 +1,10 @@
 //! Dispatchers.
 use cursor_acks::Cursor;
 use dispatcher::*;
-use geo_base::bytes::Blob;
-use geo_base::entry::{Content, Entry, Ident, Metadata, Targets};
-use geo_base::entry_store::EntryStore;
-use geo_base::frame::{AckKind, SubKind};
-use geo_base::memory::Memory;
-use geo_base::name::ProducerName;
-use geo_base::sequence::Sequence;
+use geo_base::{
+    AckKind, Blob, Content, Entry, EntryStore, Ident, Memory, Metadata, ProducerName, Sequence,
+    SubKind, Targets,
+};
 use std::alloc::Global;
 use std::test::Fail;
 use topic_ledger::ListStore;

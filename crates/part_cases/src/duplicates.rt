@@ -1,11 +1,8 @@
 //! The table of duplicates.
 use dedup_table::*;
-use geo_base::bytes::Blob;
-use geo_base::entry::{Content, Entry, Ident, Metadata, Targets};
-use geo_base::entry_store::EntryStore;
-use geo_base::memory::Memory;
-use geo_base::name::ProducerName;
-use geo_base::sequence::Sequence;
+use geo_base::{
+    Blob, Content, Entry, EntryStore, Ident, Memory, Metadata, ProducerName, Sequence, Targets,
+};
 use rand_core::utils::NextWord;
 use rand_pcg::Pcg32;
 use std::alloc::Global;

@@ -1,13 +1,10 @@
 //! Key_Shared.
 use cursor_acks::Cursor;
 use dispatcher::{Dispatcher, Offer};
-use geo_base::bytes::{Blob, Text};
-use geo_base::entry::{Content, Entry, Ident, Metadata, Targets};
-use geo_base::entry_store::EntryStore;
-use geo_base::frame::SubKind;
-use geo_base::memory::Memory;
-use geo_base::name::ProducerName;
-use geo_base::sequence::Sequence;
+use geo_base::{
+    Blob, Content, Entry, EntryStore, Ident, Memory, Metadata, ProducerName, Sequence, SubKind,
+    Targets, Text,
+};
 use key_shared::*;
 use std::alloc::Global;
 use std::test::Fail;

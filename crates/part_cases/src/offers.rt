@@ -6,7 +6,7 @@ ghost use Rattle.book_site.specs.Storable.{IsWritable};
 use book_core::Book;
 use book_offers::*;
 use book_site::Site;
-use geo_base::name::{ClusterName, TopicName};
+use geo_base::{ClusterName, TopicName};
 use std::alloc::Global;
 use std::test::Fail;
 

@@ -2,14 +2,10 @@
 ghost use Rattle.std.specs.Prelude.{◌<◌};
 
 use cursor_acks::Cursor;
-use geo_base::bytes::{Blob, Text};
-use geo_base::entry::{Content, Entry, Ident, Metadata, Targets};
-use geo_base::entry_store::EntryStore;
-use geo_base::marker::{Marker, Place};
-use geo_base::memory::Memory;
-use geo_base::name::ProducerName;
-use geo_base::sender::{Pending, SenderState};
-use geo_base::sequence::Sequence;
+use geo_base::{
+    Blob, Content, Entry, EntryStore, Ident, Marker, Memory, Metadata, Pending, Place,
+    ProducerName, SenderState, Sequence, Targets, Text,
+};
 use rand_core::utils::NextWord;
 use rand_pcg::Pcg32;
 use replicator::*;

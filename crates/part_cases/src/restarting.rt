@@ -1,13 +1,10 @@
 //! Writes and restarts.
 use cursor_acks::Cursor;
 use dedup_table::{Stream, Verdict};
-use geo_base::bytes::Blob;
-use geo_base::entry::{Content, Entry, Ident, Metadata, Targets};
-use geo_base::entry_store::EntryStore;
-use geo_base::frame::SubKind;
-use geo_base::memory::Memory;
-use geo_base::name::{NameFault, ProducerName, SubName};
-use geo_base::sequence::Sequence;
+use geo_base::{
+    Blob, Content, Entry, EntryStore, Ident, Memory, Metadata, NameFault, ProducerName, Sequence,
+    SubKind, SubName, Targets,
+};
 use restart::*;
 use std::alloc::Global;
 use std::test::Fail;

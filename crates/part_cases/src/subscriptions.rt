@@ -2,14 +2,10 @@
 ghost use Rattle.std.specs.Prelude.{◌≡◌, length, IfOk};
 
 use book_subs::*;
-use geo_base::bytes::Blob;
-use geo_base::consumer::Consumer;
-use geo_base::entry::{Content, Entry, Ident, Metadata, Targets};
-use geo_base::entry_store::EntryStore;
-use geo_base::frame::SubKind;
-use geo_base::memory::Memory;
-use geo_base::name::{ProducerName, SubName};
-use geo_base::sequence::Sequence;
+use geo_base::{
+    Blob, Consumer, Content, Entry, EntryStore, Ident, Memory, Metadata, ProducerName, Sequence,
+    SubKind, SubName, Targets,
+};
 use std::alloc::Global;
 use std::test::Fail;
 use topic_ledger::ListStore;

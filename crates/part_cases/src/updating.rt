@@ -1,14 +1,9 @@
 //! Updates of subscriptions.
 use cursor_acks::{Cursor, PastEnd};
-use geo_base::bytes::Blob;
-use geo_base::entry::{Content, Entry, Ident, Metadata, Targets};
-use geo_base::entry_store::EntryStore;
-use geo_base::marker::{Marker, Place};
-use geo_base::memory::Memory;
-use geo_base::name::{ProducerName, SubName};
-use geo_base::position::Position;
-use geo_base::sequence::Sequence;
-use geo_base::snapshot::Cut;
+use geo_base::{
+    Blob, Content, Cut, Entry, EntryStore, Ident, Marker, Memory, Metadata, Place, Position,
+    ProducerName, Sequence, SubName, Targets,
+};
 use std::alloc::Global;
 use std::test::Fail;
 use sub_update::*;

@@ -5,7 +5,7 @@ ghost use Rattle.replicator.specs.Answering.{after_receipt, after_success, await
 ghost use Rattle.replicator.specs.Sending.{sender_with, sending_of};
 
 use crate::sender::Sender;
-use geo_base::sender::SenderState;
+use geo_base::SenderState;
 
 impl Sender {
     /// The next session begins, whose number is answered: everything that the cursor lacks is to be sent again, from number 0.

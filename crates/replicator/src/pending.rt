@@ -6,7 +6,7 @@ ghost use Rattle.geo_base.specs.Ascending.{IsGap, IsHere};
 ghost use Rattle.geo_base.specs.Sender.{pending_index, without_number};
 ghost use Rattle.replicator.specs.Sending.{number_of};
 
-use geo_base::sender::Pending;
+use geo_base::Pending;
 use std::alloc::{AllocError, Global};
 use std::collections::VecDeque;
 use std::marker::Model;

@@ -6,9 +6,7 @@ ghost use Rattle.replicator.specs.Sending.{sender_with, sending_of};
 
 use crate::sender::Sender;
 use cursor_acks::Cursor;
-use geo_base::entry::{Content, Entry};
-use geo_base::entry_store::EntryStore;
-use geo_base::sender::SenderState;
+use geo_base::{Content, Entry, EntryStore, SenderState};
 
 /// What a sender does with the entry that it reads next.
 #[derive(Clone, Copy, Debug, Drop, PartialEq, Eq)]

@@ -5,8 +5,7 @@ ghost use Rattle.geo_base.specs.Sender.{new_sender, pending_index, sender_reset,
 ghost use Rattle.replicator.specs.Sending.{sender_with, sending_of};
 
 use crate::pending::PendingTable;
-use geo_base::memory::Memory;
-use geo_base::sender::{Pending, SenderState};
+use geo_base::{Memory, Pending, SenderState};
 use std::alloc::Global;
 use std::marker::Model;
 

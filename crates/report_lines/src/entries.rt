@@ -7,13 +7,8 @@ ghost use Rattle.geo_base.specs.Report.{entry_line, entry_lines, got_line, with_
 ghost use Rattle.geo_base.specs.Topic.{position_at};
 
 use crate::words::{add_content, add_ident, add_position, add_targets};
-use geo_base::bytes::Blob;
-use geo_base::entry::{Entry, Ident};
-use geo_base::entry_store::EntryStore;
 use geo_base::limits::CLUSTERS;
-use geo_base::memory::Memory;
-use geo_base::name::ClusterName;
-use geo_base::position::Position;
+use geo_base::{Blob, ClusterName, Entry, EntryStore, Ident, Memory, Position};
 
 /// Appends one more line.
 pub fn add(lines: &mut Blob, line: String) -> Result<(), Memory>

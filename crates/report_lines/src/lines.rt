@@ -3,9 +3,7 @@ ghost use Rattle.std.specs.Prelude.{◌≡◌, ◌++◌, ◌∷◌, [], length, 
 ghost use Rattle.geo_base.specs.Report.{shown_kind, shown_replicated, shown_seeks, shown_state, words};
 
 use crate::words::{shown_done, shown_kind, shown_replicated, shown_state};
-use geo_base::frame::SubKind;
-use geo_base::memory::Memory;
-use geo_base::sender::SenderState;
+use geo_base::{Memory, SenderState, SubKind};
 use std::alloc::Global;
 
 /// What a subscription's line shows of it. `mark` is its mark-delete, `backlog` counts messages, `seeks` how often it was sought.

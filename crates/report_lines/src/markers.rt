@@ -5,11 +5,7 @@ ghost use Rattle.geo_base.specs.Sizes.{place_name};
 ghost use Rattle.report_lines.specs.Spaced.{spaced};
 
 use crate::words::{add_position, add_printed, cluster_name};
-use geo_base::bytes::Blob;
-use geo_base::marker::{ClusterPosition, Marker, Place};
-use geo_base::memory::Memory;
-use geo_base::name::ClusterName;
-use geo_base::position::Position;
+use geo_base::{Blob, ClusterName, ClusterPosition, Marker, Memory, Place, Position};
 
 /// What a marker says.
 #[tactic(auto, using(crate::proofs::Wholes::snapshot_whole, crate::proofs::Wholes::update_whole))]

@@ -6,14 +6,10 @@ ghost use Rattle.geo_base.specs.Report.{commas, printed, shown_content, shown_id
 ghost use Rattle.report_lines.specs.Printed.{is_shown};
 
 use crate::markers::add_marker;
-use geo_base::bytes::{Blob, Text};
-use geo_base::entry::{Content, Entry, Ident, Targets};
-use geo_base::frame::SubKind;
 use geo_base::limits::CLUSTERS;
-use geo_base::memory::Memory;
-use geo_base::name::ClusterName;
-use geo_base::position::Position;
-use geo_base::sender::SenderState;
+use geo_base::{
+    Blob, ClusterName, Content, Entry, Ident, Memory, Position, SenderState, SubKind, Targets, Text,
+};
 use itoa::Buffer;
 use std::alloc::Global;
 

@@ -12,9 +12,7 @@ ghost use Rattle.restart.specs.Parts.{sub_of};
 use crate::durable::{Durable, DurableSub, SubPart};
 use crate::write::Write;
 use cursor_acks::Cursor;
-use geo_base::entry::Entry;
-use geo_base::entry_store::EntryStore;
-use geo_base::memory::Memory;
+use geo_base::{Entry, EntryStore, Memory};
 use std::alloc::Global;
 
 /// Does one durable write. One that names a subscription or a cluster that is not here changes nothing, and neither does the

@@ -10,9 +10,7 @@ ghost use Rattle.restart.specs.Parts.{sender_of, sub_of};
 use crate::senders::DurableSenders;
 use crate::subs::DurableSubs;
 use cursor_acks::Cursor;
-use geo_base::frame::SubKind;
-use geo_base::memory::Memory;
-use geo_base::name::{NameFault, SubName};
+use geo_base::{Memory, NameFault, SubKind, SubName};
 use std::alloc::Global;
 use topic_ledger::TopicLedger;
 

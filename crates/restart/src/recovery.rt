@@ -6,9 +6,7 @@ ghost use Rattle.geo_base.specs.Topic.{next_marker};
 
 use crate::durable::Durable;
 use dedup_table::DedupTable;
-use geo_base::entry::Entry;
-use geo_base::entry_store::EntryStore;
-use geo_base::memory::Memory;
+use geo_base::{Entry, EntryStore, Memory};
 use std::alloc::Global;
 
 /// What a broker keeps in memory about the entries that its topic stores.

@@ -5,7 +5,7 @@ ghost use Rattle.restart.specs.Parts.{senders_of};
 
 use crate::durable::DurableSender;
 use cursor_acks::Cursor;
-use geo_base::memory::Memory;
+use geo_base::Memory;
 use std::alloc::Global;
 use std::marker::Model;
 

@@ -10,8 +10,7 @@ ghost use Rattle.restart.specs.Changed.{with_part};
 ghost use Rattle.restart.specs.Parts.{AreNamedApart, sub_of, subs_of};
 
 use crate::durable::{DurableSub, SubPart};
-use geo_base::memory::Memory;
-use geo_base::name::SubName;
+use geo_base::{Memory, SubName};
 use std::alloc::Global;
 use std::marker::Model;
 

@@ -1,8 +1,6 @@
 //! One durable write.
 use cursor_acks::Cursor;
-use geo_base::entry::Entry;
-use geo_base::frame::SubKind;
-use geo_base::name::SubName;
+use geo_base::{Entry, SubKind, SubName};
 
 /// One durable write. Those of cursors carry the whole cursor as it is then, as a managed ledger of Pulsar writes it; `Seek`
 /// carries the subscription's count of seeks too.

@@ -3,9 +3,9 @@ ghost use Rattle.std.specs.Prelude.{◌≡◌, ◌∷◌, [], ◌++◌, true, co
 ghost use Rattle.geo_base.specs.Name.{is_name};
 ghost use Rattle.schedule_gen.specs.Scenario.{consumer_lines, generated_clients, producer_lines, publishes, stays};
 
-use geo_base::name::Name;
 use geo_base::{
-    Blob, ClusterName, Line, Memory, ProducerName, Sequence, SubKind, Targets, Text, TopicName,
+    Blob, ClusterName, Line, Memory, Name, ProducerName, Sequence, SubKind, Targets, Text,
+    TopicName,
 };
 use script_text::ClientDecl;
 use std::alloc::Global;

@@ -100,10 +100,8 @@ impl<'a> NameTable<'a> {
         if self.names.len() >= u32::MAX as usize {
             return Err(Memory);
         }
-        match self.names.insert(name) {
-            Ok(_) => Ok(()),
-            Err(_) => Err(Memory),
-        }
+        self.names.insert(name)?;
+        Ok(())
     }
 }
 

@@ -205,10 +205,8 @@ impl<'a> Names<'a> {
         ensures { OnOk result (self.new ≡ with_topic self.old name.now) }
     {
         self.topics.push(name)?;
-        match self.subs.push(NameTable::new(alloc)) {
-            Ok(()) => Ok(()),
-            Err(_) => Err(Memory),
-        }
+        self.subs.push(NameTable::new(alloc))?;
+        Ok(())
     }
 
     /// One more client of a topic.
@@ -222,10 +220,8 @@ impl<'a> Names<'a> {
             produces: false,
             moves: false,
         };
-        match self.members.push(member) {
-            Ok(()) => Ok(()),
-            Err(_) => Err(Memory),
-        }
+        self.members.push(member)?;
+        Ok(())
     }
 
     /// What a line makes of its client.

@@ -8,8 +8,7 @@ ghost use Rattle.script_text.specs.Naming.{member_of, names_of};
 
 use crate::client::ClientDecl;
 use crate::declarations::Declarations;
-use geo_base::name::Name;
-use geo_base::{Line, Memory};
+use geo_base::{Line, Memory, Name};
 use script_names::NameTable;
 use script_rows::{Member, Names};
 use std::alloc::Global;

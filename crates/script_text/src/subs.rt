@@ -6,8 +6,7 @@ ghost use Rattle.script_names.specs.Names.{is_among};
 ghost use Rattle.script_text.specs.Subs.{sub_in};
 
 use crate::client::ClientDecl;
-use geo_base::name::Name;
-use geo_base::{Line, Memory, Sequence, SubName, Text};
+use geo_base::{Line, Memory, Name, Sequence, SubName, Text};
 use std::alloc::Global;
 use std::marker::Model;
 

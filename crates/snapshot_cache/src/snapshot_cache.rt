@@ -5,8 +5,7 @@ ghost use Rattle.std.specs.VecDeque.{deque_capacity, deque_len};
 ghost use Rattle.geo_base.specs.Cache.{cached, last_passed, not_passed};
 ghost use Rattle.snapshot_cache.specs.Counting.{cut_of_last, passed_count};
 
-use geo_base::memory::Memory;
-use geo_base::snapshot::{CachedSnapshot, Cut};
+use geo_base::{CachedSnapshot, Cut, Memory};
 use std::alloc::Global;
 use std::collections::VecDeque;
 use std::marker::Model;

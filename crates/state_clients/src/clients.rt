@@ -8,9 +8,7 @@ ghost use Rattle.state_clients.specs.Clients.{client_at, ident_at, place_at, tal
 
 use crate::force::{force_at, unanswered_at};
 use client_node::ClientState;
-use geo_base::client::Line;
-use geo_base::entry::Ident;
-use geo_base::name::ProducerName;
+use geo_base::{Ident, Line, ProducerName};
 use state_items::{ItemFault, MOST_COUNT, Rule, judge, number_at, number_within, text_at};
 use std::alloc::Global;
 

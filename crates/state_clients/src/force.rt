@@ -3,7 +3,7 @@ ghost use Rattle.std.specs.Prelude.{◌≡◌, ℕ, List, []};
 ghost use Rattle.state_items.specs.Reading.{Gives, many};
 ghost use Rattle.state_clients.specs.Clients.{force_at, index_at, index_of, is_done, is_in_force, kind_test, publish_at, unanswered_at};
 
-use geo_base::client::Line;
+use geo_base::Line;
 use geo_base::limits::UNANSWERED;
 use state_items::{ItemFault, Rule, judge, number_at};
 use std::alloc::Global;

@@ -6,9 +6,7 @@ ghost use Rattle.state_items.specs.Texts.{list, number};
 ghost use Rattle.state_clients.specs.Clients.{client_text, force_text, ident_text, index_text, place_text, tally_text};
 
 use client_node::ClientState;
-use geo_base::bytes::Blob;
-use geo_base::entry::Ident;
-use geo_base::memory::Memory;
+use geo_base::{Blob, Ident, Memory};
 use state_items::{put_number, put_text};
 
 /// Appends what a stop left of a client.

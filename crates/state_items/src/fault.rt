@@ -4,7 +4,7 @@ ghost use Rattle.state_items.specs.declared.fault.ItemFault.TheVariants as item_
 ghost use Rattle.state_items.specs.Reading.{broken};
 
 use crate::rule::Rule;
-use geo_base::memory::Memory;
+use geo_base::Memory;
 use std::alloc::{AllocError, AllocFailed};
 
 /// The first item that breaks a rule, and the lowest rule that it breaks. The item is told by how many bytes there are from its

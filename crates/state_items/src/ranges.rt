@@ -10,7 +10,7 @@ use crate::fault::ItemFault;
 use crate::items::{judge, number_at};
 use crate::rule::Rule;
 use cursor_acks::{Cursor, IndexRange};
-use geo_base::memory::Memory;
+use geo_base::Memory;
 use std::alloc::Global;
 
 /// A cursor over a topic of `entries` entries. It takes as many steps as it has indexes, and memory for as many ranges as the

@@ -5,8 +5,7 @@ ghost use Rattle.cursor_acks.specs.Acks.{AreBelow};
 ghost use Rattle.state_items.specs.Texts.{cursor, number, range, text, word};
 
 use cursor_acks::{Cursor, IndexRange};
-use geo_base::bytes::Blob;
-use geo_base::memory::Memory;
+use geo_base::{Blob, Memory};
 
 /// Appends a number as eight bytes.
 #[tactic(auto, unfolding(crate::specs::Texts::number))]

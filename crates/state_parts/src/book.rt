@@ -6,8 +6,7 @@ ghost use Rattle.state_parts.specs.Entries.{is_in_turn, is_next};
 ghost use Rattle.state_parts.specs.Book.{is_new, is_turn, last_with};
 
 use dedup_table::{DedupTable, Stream, Verdict};
-use geo_base::entry::{Entry, Ident};
-use geo_base::memory::Memory;
+use geo_base::{Entry, Ident, Memory};
 use std::alloc::Global;
 use std::marker::Model;
 

@@ -5,7 +5,7 @@ ghost use Rattle.restart.specs.Durable as restart;
 ghost use Rattle.state_parts.specs.Nodes.{broker_of};
 
 use crate::nodes::NodeParts;
-use geo_base::memory::Memory;
+use geo_base::Memory;
 use restart::Durable;
 use std::alloc::Global;
 use topic_ledger::TopicLedger;

@@ -9,10 +9,8 @@ ghost use Rattle.state_parts.specs.Entries.{AreEntries, IsEntry, IsPayload, iden
 use crate::book::EntryBook;
 use crate::heading::{Heading, heading_of};
 use entry_texts::read_entry;
-use geo_base::bytes::Blob;
-use geo_base::entry::Entry;
 use geo_base::limits::CLUSTERS;
-use geo_base::name::ClusterName;
+use geo_base::{Blob, ClusterName, Entry};
 use state_items::{ItemFault, Rule, text_at};
 use std::alloc::Global;
 use wire_frames::is_within_limit;

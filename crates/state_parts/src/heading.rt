@@ -9,10 +9,8 @@ ghost use Rattle.state_parts.specs.Entries.{IsHeading, Says, ident_of, is_next};
 
 use crate::book::EntryBook;
 use entry_texts::origin_of;
-use geo_base::entry::Ident;
 use geo_base::limits::CLUSTERS;
-use geo_base::memory::Memory;
-use geo_base::name::{ClusterName, ProducerName};
+use geo_base::{ClusterName, Ident, Memory, ProducerName};
 use message_meta::{Meta, MetaFault};
 use state_items::{ItemFault, Rule};
 use std::alloc::Global;

@@ -6,10 +6,8 @@ ghost use Rattle.geo_base.specs.Name.{is_name};
 ghost use Rattle.state_items.specs.Reading.{Gives, many};
 ghost use Rattle.state_parts.specs.Subs.{byte_within, kind_of, name_at, seeks_at, sub_at, subs_at};
 
-use geo_base::frame::SubKind;
 use geo_base::limits::SUBSCRIPTIONS;
-use geo_base::memory::Memory;
-use geo_base::name::{NameFault, SubName, name_text};
+use geo_base::{Memory, NameFault, SubKind, SubName, name_text};
 use restart::{DurableSub, DurableSubs};
 use state_items::{
     ItemFault, MOST_COUNT, Rule, byte_at, cursor_at, judge, number_at, number_within, text_at,

@@ -3,13 +3,7 @@ ghost use Rattle.std.specs.Prelude.{◌≡◌, [], ◌∷◌, ◌++◌, IfOk, On
 ghost use Rattle.geo_base.specs.declared.marker.Marker.TheVariants as marker;
 ghost use Rattle.geo_base.specs.Builder.{named, named_from};
 
-use geo_base::bytes::Text;
-use geo_base::marker::{ClusterPosition, Marker, Place};
-use geo_base::memory::Memory;
-use geo_base::name::SubName;
-use geo_base::position::Position;
-use geo_base::sequence::Sequence;
-use geo_base::snapshot::Cut;
+use geo_base::{ClusterPosition, Cut, Marker, Memory, Place, Position, Sequence, SubName, Text};
 use std::alloc::Global;
 
 /// The marker that tells the other clusters that a subscription has passed a snapshot: its name, and each remote position of

@@ -6,8 +6,7 @@ ghost use Rattle.geo_base.specs.Updating.{passed_over, passes};
 ghost use Rattle.sub_update.specs.Alone.{alone, passes_some, reaches_none};
 
 use cursor_acks::{Cursor, PastEnd};
-use geo_base::entry::{Content, Entry};
-use geo_base::entry_store::EntryStore;
+use geo_base::{Content, Entry, EntryStore};
 
 /// How many places `apply` takes in the cursor: the indexes that it passes over and that stand alone when their turn comes,
 /// neither they nor a neighbour being acknowledged by then.

@@ -5,8 +5,7 @@ ghost use Rattle.geo_base.specs.Topic.{grown, index_of, next_position, position_
 ghost use Rattle.topic_ledger.specs.Firsts.{lengths_of, AreFirsts, IsLedgerOf, NeverFall};
 
 use crate::entry_of::entry_of;
-use geo_base::memory::Memory;
-use geo_base::position::Position;
+use geo_base::{Memory, Position};
 use std::alloc::Global;
 
 /// The first index of each ledger, from the ledgers' lengths.

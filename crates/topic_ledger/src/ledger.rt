@@ -4,10 +4,7 @@ ghost use Rattle.std.specs.List.{sum};
 ghost use Rattle.topic_ledger.specs.Messages.{CountMessages, is_message, messages_before};
 
 use crate::firsts;
-use geo_base::entry::{Content, Entry};
-use geo_base::entry_store::EntryStore;
-use geo_base::memory::Memory;
-use geo_base::position::Position;
+use geo_base::{Content, Entry, EntryStore, Memory, Position};
 use std::alloc::Global;
 use std::marker::Model;
 

@@ -4,10 +4,7 @@ ghost use Rattle.std.specs.List.{sum};
 ghost use Rattle.geo_base.specs.Topic.{grown, index_of, next_position, position_of};
 
 use crate::entry_of::entry_of;
-use geo_base::entry::Entry;
-use geo_base::entry_store::EntryStore;
-use geo_base::memory::Memory;
-use geo_base::position::Position;
+use geo_base::{Entry, EntryStore, Memory, Position};
 use std::alloc::Global;
 use std::marker::Model;
 

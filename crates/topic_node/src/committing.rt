@@ -11,8 +11,7 @@ ghost use Rattle.topic_node.specs.Node.{IsDone, IsReady, SameNode};
 use crate::node::TopicNode;
 use crate::packet::LinkPacket;
 use book_core::{Outgoing, Prepared};
-use geo_base::event::Event;
-use geo_base::memory::Memory;
+use geo_base::{Event, Memory};
 use std::alloc::Global;
 
 /// What an event did: whether it was not enabled, and the packets to send.

@@ -8,7 +8,7 @@ ghost use Rattle.topic_node.specs.Events.{IsClients, IsHere, IsLink, IsOfNode, N
 use crate::node::TopicNode;
 use crate::preparing::name_at;
 use book_site::{place_named, sub_at};
-use geo_base::event::Event;
+use geo_base::Event;
 
 /// How far a session's number may rise.
 const SESSIONS: u64 = 9_223_372_036_854_775_808;

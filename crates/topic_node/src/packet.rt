@@ -1,7 +1,7 @@
 //! A packet as a link carries it.
 ghost use Rattle.std.specs.Prelude.{◌≡◌};
 
-use geo_base::packet::Stamp;
+use geo_base::Stamp;
 use std::marker::Model;
 
 /// The next packet of a link: the session, or a client's connection, that it was sent in, the stamp of the event that sent it, and

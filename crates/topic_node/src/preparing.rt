@@ -19,10 +19,7 @@ use book_markers::{prepare_read, prepare_snap};
 use book_offers::{prepare_offer, prepare_restart, prepare_seek};
 use book_serving::{prepare_drop, prepare_serve};
 use book_site::Site;
-use geo_base::event::Event;
-use geo_base::memory::Memory;
-use geo_base::name::SubName;
-use geo_base::packet::Packet;
+use geo_base::{Event, Memory, Packet, SubName};
 use std::alloc::Global;
 
 impl TopicNode {

@@ -6,8 +6,7 @@ ghost use Rattle.topic_node.specs.Input.{ReadsInput, ReadsPacket};
 
 use crate::packet::LinkPacket;
 use book_site::Site;
-use geo_base::memory::Memory;
-use geo_base::packet::Packet;
+use geo_base::{Memory, Packet};
 use std::alloc::Global;
 use wire_frames::read_value;
 

@@ -6,8 +6,7 @@ ghost use Rattle.topic_node.specs.Node.{IsDurableOf};
 use crate::node::TopicNode;
 use book_core::Book;
 use book_site::Site;
-use geo_base::memory::Memory;
-use geo_base::name::SubName;
+use geo_base::{Memory, SubName};
 use restart::Durable;
 use std::alloc::Global;
 

@@ -11,8 +11,10 @@ ghost use Rattle.wire_frames.specs.Values.{IsContent, place_of, placed_cluster, 
 
 use crate::place::{name_of, place_of};
 use geo_base::limits::CLUSTERS;
-use geo_base::marker::Marker as MachineMarker;
-use geo_base::{Blob, ClusterName, ClusterPosition, Content, Memory, Place, Sequence, Text};
+use geo_base::{
+    Blob, ClusterName, ClusterPosition, Content, Marker as MachineMarker, Memory, Place, Sequence,
+    Text,
+};
 use marker_codec::{ClusterMessageId, Marker, MarkerFault};
 use pb_fields::ByteList;
 use std::alloc::Global;

@@ -6,8 +6,7 @@ ghost use Rattle.pulsar_frames.specs.Counted.{counted};
 use crate::content::marker_number;
 use crate::place::name_of;
 use geo_base::limits::ENTRY_BYTES;
-use geo_base::marker::Marker;
-use geo_base::{Blob, ClusterName, ClusterPosition, Content, Entry, Position, Text};
+use geo_base::{Blob, ClusterName, ClusterPosition, Content, Entry, Marker, Position, Text};
 
 /// Whether an entry is small enough to be stored: Pulsar's largest message, 5 MiB. Its size is that of its metadata without
 /// `replicated_from` and of its payload as they are written; `names` are those of the clusters, by their numbers.

@@ -8,12 +8,8 @@ use crate::client::Client;
 use crate::client::change::ClientChange;
 use crate::client::commands::id_of;
 use crate::client::plan::Plan;
-use geo_base::entry::Ident;
-use geo_base::frame::{AckKind, Frame};
 use geo_base::limits::ACKED_AT_ONCE;
-use geo_base::memory::Memory;
-use geo_base::position::Position;
-use geo_base::sequence::Sequence;
+use geo_base::{AckKind, Frame, Ident, Memory, Position, Sequence};
 use std::alloc::Global;
 
 impl Client {

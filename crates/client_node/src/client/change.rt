@@ -1,6 +1,5 @@
 //! What an event changes at a client.
-use geo_base::entry::Ident;
-use geo_base::position::Position;
+use geo_base::{Ident, Position};
 
 /// What an event changes at a client. All but the last do its next line.
 #[derive(Debug, Drop)]

@@ -9,16 +9,32 @@ ghost use Rattle.client_node.specs.Changing.{as_connected};
 use crate::client::Client;
 use crate::client::outgoing::{ClientOut, Connection, add};
 use crate::site::ClientSite;
-use geo_base::bytes::{Blob, Text};
-use geo_base::client::Line;
-use geo_base::copy::optional_text_copy;
-use geo_base::entry::{Content, Entry, Ident, Metadata, Targets};
-use geo_base::frame::Frame;
 use geo_base::limits::CLUSTERS;
-use geo_base::memory::Memory;
-use geo_base::name::ClusterName;
-use geo_base::sequence::Sequence;
+use geo_base::{
+    Blob, ClusterName, Content, Entry, Frame, Ident, Line, Memory, Metadata, Sequence, Targets,
+    Text, optional_text_copy,
+};
 use std::alloc::Global;
+
+/// What a `pub` line says, where it stands.
+#[derive(Clone, Copy, Debug)]
+struct PubLine<'a> {
+    seq: u64,
+    to: Targets,
+    key: &'a Option<Text>,
+    text: &'a Blob,
+}
+
+impl<'a> PubLine<'a> {
+    fn new(seq: u64, to: Targets, key: &'a Option<Text>, text: &'a Blob) -> PubLine<'a>
+        ensures seq { result.seq ≡ seq }
+        ensures to { result.to ≡ to }
+        ensures key { result.key.now ≡ key.now }
+        ensures text { result.text.now ≡ text.now }
+    {
+        PubLine { seq, to, key, text }
+    }
+}
 
 impl Client {
     /// Adds what is sent on a connection for a line that is in force or unanswered; other lines are sent once. A line's index is
@@ -47,7 +63,7 @@ impl Client {
                 id: id_of(self.produce),
                 seq: *seq,
                 source: None,
-                entry: self.published(alloc, site, connection, *seq, *to, key, text)?,
+                entry: self.published(alloc, site, connection, PubLine::new(*seq, *to, key, text))?,
             },
             Line::Sub {
                 sub,
@@ -68,14 +84,8 @@ impl Client {
                 id: id_of(self.sub),
                 permits: *permits as u64,
             },
-            Line::Ack { .. }
-            | Line::AckTo { .. }
-            | Line::AckAll
-            | Line::Unsub
-            | Line::Close
-            | Line::CloseProducer
-            | Line::Ping
-            | Line::Move { .. } => return Ok(()),
+            // the others are sent once
+            _ => return Ok(()),
         };
         add(sent, connection.to_broker(frame))
     }
@@ -86,31 +96,28 @@ impl Client {
         alloc: Global,
         site: &ClientSite,
         connection: Connection,
-        seq: u64,
-        to: Targets,
-        key: &Option<Text>,
-        text: &Blob,
+        line: PubLine<'_>,
     ) -> Result<Entry, Memory>
-        requires key { is_optional_name key.now ≡ true }
-        requires text { length text.now ≤ 1024 }
-        ensures entry { IfOk result (λ e. e ≡ published site.now.setup site.now.declared (as_connected connection self.now) seq to key.now text.now) }
+        requires key { is_optional_name line.key.now ≡ true }
+        requires text { length line.text.now ≤ 1024 }
+        ensures entry { IfOk result (λ e. e ≡ published site.now.setup site.now.declared (as_connected connection self.now) line.entry.seq line.entry.to line.entry.key.now line.entry.text.now) }
         ensures message { IfOk result (λ e. is_message e ≡ true) }
     {
         Ok(Entry {
             ident: Ident {
                 origin: connection.cluster,
                 producer: site.name().copy(alloc)?,
-                seq,
+                seq: line.seq,
             },
             content: Content::Data,
-            to,
+            to: line.to,
             meta: Metadata {
                 publish_time: 0,
-                key: optional_text_copy(alloc, key)?,
-                names: target_names(alloc, site.clusters(), to)?,
+                key: optional_text_copy(alloc, line.key)?,
+                names: target_names(alloc, site.clusters(), line.to)?,
                 rest: Blob::new(alloc),
             },
-            payload: text.copy(alloc)?,
+            payload: line.text.copy(alloc)?,
         })
     }
 }

@@ -12,8 +12,7 @@ use crate::client::outgoing::{ClientOut, Connection, add};
 use crate::client::plan::Plan;
 use crate::client::prepared::Prepared;
 use crate::site::ClientSite;
-use geo_base::frame::Frame;
-use geo_base::memory::Memory;
+use geo_base::{Frame, Memory};
 use std::alloc::Global;
 
 impl Client {

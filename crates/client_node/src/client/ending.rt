@@ -9,8 +9,7 @@ use crate::client::Client;
 use crate::client::change::ClientChange;
 use crate::client::commands::id_of;
 use crate::client::plan::Plan;
-use geo_base::frame::Frame;
-use geo_base::memory::Memory;
+use geo_base::{Frame, Memory};
 use std::alloc::Global;
 
 impl Client {

@@ -10,12 +10,7 @@ ghost use Rattle.client_node.specs.Packets.{IsDiscarded, StandsFor, StandsForNex
 use crate::client::Client;
 use crate::packet::Incoming;
 use crate::site::ClientSite;
-use geo_base::client::{Held, Line};
-use geo_base::entry::{Entry, Ident};
-use geo_base::frame::Frame;
-use geo_base::marker::Place;
-use geo_base::memory::Memory;
-use geo_base::position::Position;
+use geo_base::{Entry, Frame, Held, Ident, Line, Memory, Place, Position};
 use std::alloc::Global;
 use wire_frames::read_value;
 

@@ -12,9 +12,8 @@ use crate::client::change::ClientChange;
 use crate::client::plan::Plan;
 use crate::client::prepared::Prepared;
 use crate::site::ClientSite;
-use geo_base::client::Line;
 use geo_base::limits::UNANSWERED;
-use geo_base::memory::Memory;
+use geo_base::{Line, Memory};
 use std::alloc::Global;
 
 impl Client {

@@ -4,10 +4,7 @@ ghost use Rattle.client_node.specs.Packets.{AreWritten, IsWrittenOut};
 ghost use Rattle.client_node.specs.Sent.{IsSent};
 
 use crate::packet::Outgoing;
-use geo_base::frame::Frame;
-use geo_base::memory::Memory;
-use geo_base::name::ClusterName;
-use geo_base::packet::{Out, Peer};
+use geo_base::{ClusterName, Frame, Memory, Out, Peer};
 use std::alloc::Global;
 use std::marker::Model;
 use wire_frames::write_value;

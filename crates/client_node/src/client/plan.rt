@@ -3,7 +3,7 @@ ghost use Rattle.std.specs.Prelude.{◌≡◌, [], ◌∷◌, IfOk, None, Some};
 
 use crate::client::change::ClientChange;
 use crate::client::outgoing::{ClientOut, add};
-use geo_base::memory::Memory;
+use geo_base::Memory;
 use std::alloc::Global;
 use std::marker::Model;
 

@@ -6,8 +6,7 @@ use crate::client::change::ClientChange;
 use crate::client::outgoing::write_all;
 use crate::client::plan::Plan;
 use crate::packet::Outgoing;
-use geo_base::memory::Memory;
-use geo_base::name::ClusterName;
+use geo_base::{ClusterName, Memory};
 use std::alloc::Global;
 use std::marker::Model;
 

@@ -4,9 +4,8 @@ ghost use Rattle.client_node.specs.State.{stopped, viewed};
 
 use crate::client::Client;
 use crate::held::HeldTable;
-use geo_base::entry::Ident;
 use geo_base::limits::UNANSWERED;
-use geo_base::memory::Memory;
+use geo_base::{Ident, Memory};
 use std::alloc::Global;
 
 /// A client as a report and a state file read it: the cluster that it is at, the number of its connection and whether it has

@@ -3,7 +3,7 @@ ghost use Rattle.std.specs.Prelude.{◌≡◌, ℕ, ◌≤◌, false, not, ◌&&
 ghost use Rattle.std.specs.BTreeMap.Range.{IsLeBy};
 ghost use Rattle.client_node.specs.SlotIndex.{has, key_cmp, same_key};
 
-use geo_base::memory::Memory;
+use geo_base::Memory;
 use std::alloc::Global;
 use std::collections::BTreeSet;
 use std::marker::Model;

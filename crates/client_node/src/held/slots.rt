@@ -6,10 +6,7 @@ ghost use Rattle.std.specs.Option.{option_copied, option_map};
 ghost use Rattle.client_node.specs.HeldSlots.{IsFirstOf, empty_before, held_in, ident_numbers, is_of, is_up_to, key_of, position_numbers, stream_sum};
 
 use crate::held::index::{SlotIndex, SlotKey};
-use geo_base::client::Held;
-use geo_base::entry::Ident;
-use geo_base::memory::Memory;
-use geo_base::position::Position;
+use geo_base::{Held, Ident, Memory, Position};
 use std::alloc::Global;
 use std::marker::Model;
 

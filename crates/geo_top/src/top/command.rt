@@ -3,7 +3,7 @@ ghost use Rattle.std.specs.Prelude.{◌≡◌};
 ghost use Rattle.geo_top.specs.Commands.{alone_of, big_of, command_of, most_number};
 ghost use Rattle.script_names.specs.Numbers.{number_of};
 
-use geo_base::bytes::Text;
+use geo_base::Text;
 use script_names::number_of;
 
 /// A word of the command line.
