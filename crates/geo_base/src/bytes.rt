@@ -51,6 +51,13 @@ impl Blob {
         self.bytes.as_slice()
     }
 
+    /// The bytes as a vector; takes no memory.
+    pub fn into_vec(self) -> Vec<u8>
+        ensures { result.items ≡ self }
+    {
+        self.bytes
+    }
+
     /// More bytes at the end; unchanged where memory is wanting.
     pub fn append(&mut self, more: &[u8]) -> Result<(), Memory>
         ensures ok { OnOk result (self.new ≡ self.old ++ more.now) }

@@ -38,7 +38,7 @@ pub use frame::{AckKind, Frame, SubKind};
 pub use marker::{ClusterPosition, Marker, Place};
 pub use memory::Memory;
 pub use name::{ClusterName, Name, NameFault, ProducerName, SubName, TopicName, name_text};
-pub use packet::{Out, Packet, Peer, Stamp};
+pub use packet::{Out, Packet, Peer, Stamp, WireOut};
 pub use pick::{Pick, first_permitted, if_permitted};
 pub use position::Position;
 pub use sender::{Pending, SenderState};

@@ -1,6 +1,7 @@
 //! What crosses a link.
 ghost use Rattle.std.specs.Prelude.{◌≡◌};
 
+use crate::bytes::Blob;
 use crate::frame::Frame;
 use std::marker::Model;
 
@@ -60,4 +61,12 @@ pub struct Out {
     pub to: Peer,
     pub session: u64,
     pub frame: Frame,
+}
+
+/// What a node sends in an event, as links carry it: the bytes of a frame.
+#[derive(Debug, Drop)]
+pub struct WireOut {
+    pub to: Peer,
+    pub session: u64,
+    pub frame: Blob,
 }
