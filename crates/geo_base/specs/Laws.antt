@@ -24,7 +24,7 @@ use Rattle.geo_base.specs.Run.{Limits, Ran, all_settle, budget, is_quiet, no_lim
 use Rattle.geo_base.specs.Safe.{AllOnce, IsEntry, IsSub, NothingForgotten, OnlySettled, is_out}
 use Rattle.geo_base.specs.Scripted.{IsScripted}
 use Rattle.geo_base.specs.Settled.{IsSettled, SettledSoFar, settled, settled_at, settled_under}
-use Rattle.geo_base.specs.Setup.{Setup, sub_name}
+use Rattle.geo_base.specs.Setup.{Setup, sub_name, sub_names}
 use Rattle.geo_base.specs.Subscription.{Subscription}
 use Rattle.geo_base.specs.Topic.{index_of}
 use Rattle.geo_base.specs.Updating.{positions_for}
@@ -202,7 +202,7 @@ pub record IsAllOut (b : Broker) (n : List ℕ) : Type 0 where
   pub out : (i : ℕ) (e : Entry) → IsEntry b i e → is_data e.content ≡ true → has sub.cursor i ≡ false → is_out sub i ≡ true
 
 abbrev pub IsServed : Setup → World → Type 0
-IsServed s w = (t x n : ℕ) (v : Subscription) (end : World) → t < length s.topics → x < length s.clusters
+IsServed s w = (t x n : ℕ) (v : Subscription) (end : World) → t < length s.topics → x < length s.clusters → n < length (sub_names s t)
     → sub_named (topic_at s w t x).subs (sub_name s t n) ≡ Some v → 0 < length v.consumers
     → has_permits v.kind v.consumers (due_from v 0 (topic_at s w t x).entries) ≡ true
     → Offered s t x n end (2 * length (topic_at s w t x).entries + 10) w → IsAllOut (topic_at s end t x) (sub_name s t n)

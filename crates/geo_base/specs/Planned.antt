@@ -11,7 +11,7 @@ use Rattle.geo_base.specs.Plan.{Plan, idle_plan}
 use Rattle.geo_base.specs.Reading.{read}
 use Rattle.geo_base.specs.Seeking.{restart, seek}
 use Rattle.geo_base.specs.Serving.{drop_client, serve}
-use Rattle.geo_base.specs.Setup.{Setup, declared_at, sub_name}
+use Rattle.geo_base.specs.Setup.{Setup, declared_at, sub_name, sub_names}
 use Rattle.geo_base.specs.World.{Back, Forward, LinkName, ToBroker, World, link_at, node, site, topic_at}
 
 pub record Planned : Type 0 where
@@ -68,8 +68,11 @@ has_client s c = nat_lt c (length s.clients)
 abbrev pub has_pair : Setup → ℕ → ℕ → ℕ → Bool
 has_pair s t x y = has_node s t x && nat_lt y (length s.clusters)
 
--- the topics, clusters and clients that an event names are in the setup. A subscription's number past the end is that of an
--- empty name, which no subscription has
+-- whether the topic has a subscription's name of that number at a cluster
+abbrev pub has_sub : Setup → ℕ → ℕ → ℕ → Bool
+has_sub s t x n = has_node s t x && nat_lt n (length (sub_names s t))
+
+-- the topics, clusters, clients and names of subscriptions that an event names are in the setup
 abbrev pub in_range : Setup → Event → Bool
 in_range s (event.Serve x c) = nat_lt x (length s.clusters) && has_client s c
 in_range s (event.Drop x c) = nat_lt x (length s.clusters) && has_client s c
@@ -78,8 +81,8 @@ in_range s (event.Read t x y) = has_pair s t x y
 in_range s (event.Take t x y f) = has_pair s t x y
 in_range s (event.Receipt t x y f) = has_pair s t x y
 in_range s (event.Snap t x) = has_node s t x
-in_range s (event.Offer t x n) = has_node s t x
-in_range s (event.Seek t x n to) = has_node s t x
+in_range s (event.Offer t x n) = has_sub s t x n
+in_range s (event.Seek t x n to) = has_sub s t x n
 in_range s (event.Restart t x) = has_node s t x
 in_range s (event.Go c) = has_client s c
 in_range s (event.Get c) = has_client s c

@@ -11,7 +11,7 @@ use Rattle.geo_base.specs.Broker.{Broker, Site, no_broker, sub_named}
 use Rattle.geo_base.specs.Planned.{in_range}
 use Rattle.geo_base.specs.Run.{most_events}
 use Rattle.geo_base.specs.Scripted.{IsScripted, is_declared}
-use Rattle.geo_base.specs.Setup.{Setup, declared_at, nobody}
+use Rattle.geo_base.specs.Setup.{Setup, declared_at, nobody, sub_names}
 use Rattle.geo_base.specs.Subscription.{Subscription}
 use Rattle.geo_base.specs.Topic.{next_marker}
 use Rattle.geo_base.specs.World.{World, broker_at}
@@ -92,8 +92,8 @@ in_range_is s (event.Read t x y) h = has_three t (length s.topics) x (length s.c
 in_range_is s (event.Take t x y f) h = has_three t (length s.topics) x (length s.clusters) y (length s.clusters) h.0.topic_in h.0.source_in h.0.target_in
 in_range_is s (event.Receipt t x y f) h = has_three t (length s.topics) x (length s.clusters) y (length s.clusters) h.0.topic_in h.0.source_in h.0.target_in
 in_range_is s (event.Snap t x) h = has_two t (length s.topics) x (length s.clusters) h.0 h.1
-in_range_is s (event.Offer t x n) h = has_two t (length s.topics) x (length s.clusters) h.0.0 h.0.1
-in_range_is s (event.Seek t x n to) h = has_two t (length s.topics) x (length s.clusters) h.0.0.0 h.0.0.1
+in_range_is s (event.Offer t x n) h = has_three t (length s.topics) x (length s.clusters) n (length (sub_names s t)) h.0.0 h.0.1 h.1
+in_range_is s (event.Seek t x n to) h = has_three t (length s.topics) x (length s.clusters) n (length (sub_names s t)) h.0.0.0 h.0.0.1 h.0.1
 in_range_is s (event.Restart t x) h = has_two t (length s.topics) x (length s.clusters) h.0 h.1
 in_range_is s (event.Go c) h = below c (length s.clients) h
 in_range_is s (event.Get c) h = below c (length s.clients) h

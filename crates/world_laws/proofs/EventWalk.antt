@@ -7,9 +7,9 @@ use Rattle.geo_base.specs.Broker.{session_at}
 use Rattle.geo_base.specs.Forwarding.{is_remote, receipt, reset, take_packet}
 use Rattle.geo_base.specs.Link.{next_packet}
 use Rattle.geo_base.specs.Plan.{Plan}
-use Rattle.geo_base.specs.Planned.{Planned, has_client, has_node, has_pair, in_range, planned, planned_in}
+use Rattle.geo_base.specs.Planned.{Planned, has_client, has_node, has_pair, has_sub, in_range, planned, planned_in}
 use Rattle.geo_base.specs.Serving.{drop_client, drop_session, serve}
-use Rattle.geo_base.specs.Setup.{Setup, declared_at, sub_name}
+use Rattle.geo_base.specs.Setup.{Setup, declared_at, sub_name, sub_names}
 use Rattle.geo_base.specs.World.{Back, Forward, LinkName, ToBroker, World, link_at, node, site, topic_at}
 use Rattle.world_laws.proofs.LinkWalk.{fate_answered, fate_taken}
 use Rattle.world_laws.proofs.OfferWalk.{offer_shape, seek_shape, snap_shape}
@@ -24,6 +24,9 @@ of_node s t x h = right (nat_lt t (length s.topics)) (nat_lt x (length s.cluster
 
 pub of_pair : (s : Setup) (t x y : ℕ) → has_pair s t x y ≡ true → has_node s t x ≡ true
 of_pair s t x y h = left (has_node s t x) (nat_lt y (length s.clusters)) h
+
+pub of_sub : (s : Setup) (t x n : ℕ) → has_sub s t x n ≡ true → has_node s t x ≡ true
+of_sub s t x n h = left (has_node s t x) (nat_lt n (length (sub_names s t))) h
 
 pub of_target : (s : Setup) (t x y : ℕ) → has_pair s t x y ≡ true → nat_lt y (length s.clusters) ≡ true
 of_target s t x y h = right (has_node s t x) (nat_lt y (length s.clusters)) h
@@ -75,8 +78,8 @@ in_range_shape s w (event.Read t x y) within = Shape.Read t x y _ within (read_s
 in_range_shape s w (event.Take t x y f) within = take_planned s w t x y f _ within refl
 in_range_shape s w (event.Receipt t x y f) within = receipt_planned s w t x y f _ within refl
 in_range_shape s w (event.Snap t x) within = Shape.Snap t x _ within (snap_shape (site s t x) (topic_at s w t x))
-in_range_shape s w (event.Offer t x n) within = Shape.Offer t x n _ within (offer_shape (site s t x) (topic_at s w t x) (sub_name s t n))
-in_range_shape s w (event.Seek t x n to) within = Shape.Seek t x n to _ within (seek_shape (site s t x) (topic_at s w t x) (sub_name s t n) to)
+in_range_shape s w (event.Offer t x n) within = Shape.Offer t x n _ (of_sub s t x n within) (offer_shape (site s t x) (topic_at s w t x) (sub_name s t n))
+in_range_shape s w (event.Seek t x n to) within = Shape.Seek t x n to _ (of_sub s t x n within) (seek_shape (site s t x) (topic_at s w t x) (sub_name s t n) to)
 in_range_shape s w (event.Restart t x) within = Shape.Restart t x within
 in_range_shape s w (event.Go c) within = tt
 in_range_shape s w (event.Get c) within = tt

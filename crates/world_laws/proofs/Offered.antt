@@ -18,9 +18,9 @@ use Rattle.geo_base.specs.Happening.{broker_does, broker_halts, client_does, doe
 use Rattle.geo_base.specs.Laws.{IsAllOut, IsServed, LawOffers, Offered, is_elsewhere}
 use Rattle.geo_base.specs.Offering.{offer, offer_entry, own_snapshot, passes_by}
 use Rattle.geo_base.specs.Plan.{Plan, done, idle_plan, plan_of}
-use Rattle.geo_base.specs.Planned.{Planned, has_client, in_range, planned, plan_at}
+use Rattle.geo_base.specs.Planned.{Planned, has_client, has_node, in_range, planned, plan_at}
 use Rattle.geo_base.specs.Safe.{is_out}
-use Rattle.geo_base.specs.Setup.{Setup, sub_name}
+use Rattle.geo_base.specs.Setup.{Setup, sub_name, sub_names}
 use Rattle.geo_base.specs.Storing.{update_after, update_marker}
 use Rattle.geo_base.specs.Subscription.{Subscription, after_acks, with_acks}
 use Rattle.geo_base.specs.World.{LinkName, World, node, site, topic_at}
@@ -205,11 +205,11 @@ does_at s w p n v named =
     either_world s p.topic p.cluster p.plan.idle _ _ _ _ refl
     (set_here w.brokers (node s p.topic p.cluster) (done s.per_ledger (topic_at s w p.topic p.cluster) p.plan) n v named)
 
-offer_at : (s : Setup) (w : World) (t x n : ℕ) (v : Subscription) → t < length s.topics → x < length s.clusters → sub_named (topic_at s w t x).subs (sub_name s t n) ≡ Some v
+offer_at : (s : Setup) (w : World) (t x n : ℕ) (v : Subscription) → t < length s.topics → x < length s.clusters → n < length (sub_names s t) → sub_named (topic_at s w t x).subs (sub_name s t n) ≡ Some v
     → topic_at s (happens s w (event.Offer t x n)) t x ≡ offered (site s t x) (topic_at s w t x) (offer (site s t x) (topic_at s w t x) (sub_name s t n))
 unfolding happens planned
-offer_at s w t x n v small within named =
-    let is : in_range s (event.Offer t x n) ≡ true = both (nat_lt t (length s.topics)) (nat_lt x (length s.clusters)) (lt-ltb _ _ small) (lt-ltb _ _ within) in
+offer_at s w t x n v small within known named =
+    let is : in_range s (event.Offer t x n) ≡ true = both (has_node s t x) (nat_lt n (length (sub_names s t))) (both (nat_lt t (length s.topics)) (nat_lt x (length s.clusters)) (lt-ltb _ _ small) (lt-ltb _ _ within)) (lt-ltb _ _ known) in
     ap (λ (o : Option Planned). topic_at s (does_planned s w o) t x) (on_true (in_range s (event.Offer t x n)) (Some (plan_at s w t x (event.Offer t x n))) None is)
     ∙ does_at s w (plan_at s w t x (event.Offer t x n)) (sub_name s t n) v named
   where
@@ -261,23 +261,23 @@ elsewhere_happens s w t x (event.Get c) within far =
 elsewhere_happens s w t x e within far = elsewhere_does s w t x (planned s w e) (planned_shape s w e) within far
 
 -- so many offers
-offers_served : (s : Setup) (t x n m : ℕ) (end : World) (j k : ℕ) (w : World) → t < length s.topics → x < length s.clusters → Offered s t x n end k w → Remembering w
+offers_served : (s : Setup) (t x n m : ℕ) (end : World) (j k : ℕ) (w : World) → t < length s.topics → x < length s.clusters → n < length (sub_names s t) → Offered s t x n end k w → Remembering w
     → Served m j (sub_name s t n) (topic_at s w t x) → Remembering end × Served m (j + k) (sub_name s t n) (topic_at s end t x)
-offers_served s t x n m end j k w small within Offered.Ends all served =
+offers_served s t x n m end j k w small within known Offered.Ends all served =
     let is : j ≡ j + 0 = omega arith in (all, subst (λ i. Served m i (sub_name s t n) (topic_at s end t x)) is served)
-offers_served s t x n m end j k w small within (Offered.Offers k' w' o) all served =
+offers_served s t x n m end j k w small within known (Offered.Offers k' w' o) all served =
     let nm = sub_name s t n in
     let next = offer_served (site s t x) (topic_at s w t x) nm m j served.0 served.1 in
     let now : Served m (suc j) nm (topic_at s (happens s w (event.Offer t x n)) t x) =
-    subst (Served m (suc j) nm) (sym (offer_at s w t x n served.0 small within served.1.named)) next.served in
-    let r = offers_served s t x n m end (suc j) k' (happens s w (event.Offer t x n)) small within o (event_done s Remembering (remembering_kept s) w (event.Offer t x n) all) now in
+    subst (Served m (suc j) nm) (sym (offer_at s w t x n served.0 small within known served.1.named)) next.served in
+    let r = offers_served s t x n m end (suc j) k' (happens s w (event.Offer t x n)) small within known o (event_done s Remembering (remembering_kept s) w (event.Offer t x n) all) now in
     let is : suc j + k' ≡ j + suc k' = omega arith in
     (r.0, subst (λ i. Served m i nm (topic_at s end t x)) is r.1)
-offers_served s t x n m end j k w small within (Offered.Happens k' w' e far o) all served =
-    offers_served s t x n m end j k (happens s w e) small within o (event_done s Remembering (remembering_kept s) w e all)
+offers_served s t x n m end j k w small within known (Offered.Happens k' w' e far o) all served =
+    offers_served s t x n m end j k (happens s w e) small within known o (event_done s Remembering (remembering_kept s) w e all)
     (subst (Served m j (sub_name s t n)) (sym (elsewhere_happens s w t x e within far)) served)
-offers_served s t x n m end j k w small within (Offered.Halts k' w' i e far o) all served =
-    offers_served s t x n m end j k (halts_planned s w i (planned s w e)) small within o
+offers_served s t x n m end j k w small within known (Offered.Halts k' w' i e far o) all served =
+    offers_served s t x n m end j k (halts_planned s w i (planned s w e)) small within known o
     (plan_halted s Remembering (remembering_kept s) w i (planned s w e) (planned_shape s w e) all)
     (subst (Served m j (sub_name s t n)) (sym (elsewhere_halts s w t x i (planned s w e) (planned_shape s w e) within far)) served)
 
@@ -303,7 +303,7 @@ all_out b n m k le keep served = record {
     by i lacks none (Kept.Ahead ahead) = absurd (due_not (has served.0.cursor i) _ lacks none (or_right (has served.0.due i) _ ahead))
 
 served_at : (s : Setup) (w : World) → Remembering w → IsServed s w
-served_at s w all t x n v end small within named some permits o =
+served_at s w all t x n v end small within known named some permits o =
     let b = topic_at s w t x in
     let m = length b.entries in
     let nm = sub_name s t n in
@@ -315,7 +315,7 @@ served_at s w all t x n v end small within named some permits o =
       late = λ i e le at. let lt = slice_get_within b.entries i e at in absurd (omega (arith, le, lt));
       clear = λ j lt small. absurd (omega (arith, lt));
     } in
-    let r = offers_served s t x n m end 0 (2 * m + 10) w small within o all (v, start) in
+    let r = offers_served s t x n m end 0 (2 * m + 10) w small within known o all (v, start) in
     all_out (topic_at s end t x) nm m (0 + (2 * m + 10)) (omega arith) (r.0 (node s t x)) r.1
 
 pub offers_between : LawOffers
