@@ -146,3 +146,4 @@ pub mod AlikeRuns
 pub mod Loaded
 pub mod ResumedRuns
 pub mod SavedRuns
+pub mod NodeCarries

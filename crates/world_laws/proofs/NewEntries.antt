@@ -83,7 +83,7 @@ stored_fits h x id seq source e f is may =
     leb-true (entry_size h.clusters e) most_entry_size
     (right (is_from x source) (nat_le (entry_size h.clusters e) most_entry_size) (subst (λ (g : Frame). may_store h x g ≡ true) is may))
 
-served_new : (B : Type 0) (h : Site) (b : Broker) (c : ℕ) (p : Packet) (q : Plan) → Brief B h b → Served h b c p q → Each (NewWrite B h (Carries p.frame)) q.writes
+pub served_new : (B : Type 0) (h : Site) (b : Broker) (c : ℕ) (p : Packet) (q : Plan) → Brief B h b → Served h b c p q → Each (NewWrite B h (Carries p.frame)) q.writes
 served_new B h b c p q f Served.Ignores = tt
 served_new B h b c p q f Served.Disconnects = tt
 served_new B h b c p q f (Served.Connects s is new) = tt
@@ -100,7 +100,7 @@ served_new B h b c p q f (Served.Acknowledges s id kind ps v i is ws at sent by 
 served_new B h b c p q f (Served.Unsubscribes s id request v at is by last) = (tt, tt)
 served_new B h b c p q f (Served.ClosesConsumer s id request v at is by) = tt
 
-taken_new : (B : Type 0) (h : Site) (b : Broker) (x : ℕ) (p : Packet) (q : Plan) → x < length h.clusters → Taken h b x p q → Each (NewWrite B h (Carries p.frame)) q.writes
+pub taken_new : (B : Type 0) (h : Site) (b : Broker) (x : ℕ) (p : Packet) (q : Plan) → x < length h.clusters → Taken h b x p q → Each (NewWrite B h (Carries p.frame)) q.writes
 taken_new B h b x p q lt (Taken.Stores id seq source e is at may new) = (NewEntry.Carried e x lt (id, seq, source, is) (stored_fits h x id seq source e p.frame is may), tt)
 taken_new B h b x p q lt (Taken.Unreadable is) = tt
 taken_new B h b x p q lt (Taken.Opens topic id request name is opening) = tt
@@ -108,7 +108,7 @@ taken_new B h b x p q lt (Taken.Discards other shut) = tt
 taken_new B h b x p q lt (Taken.Refuses other at may) = tt
 taken_new B h b x p q lt (Taken.Repeats id seq source e is at may old) = tt
 
-answered_new : (F : Write → Type 0) → ((z i : ℕ) → F (write.SenderAck z i)) → (b : Broker) (y : ℕ) (p : Packet) (q : Plan) → Answered b y p q → Each F q.writes
+pub answered_new : (F : Write → Type 0) → ((z i : ℕ) → F (write.SenderAck z i)) → (b : Broker) (y : ℕ) (p : Packet) (q : Plan) → Answered b y p q → Each F q.writes
 answered_new F acks b y p q (Answered.Stale other) = tt
 answered_new F acks b y p q (Answered.Other at other) = tt
 answered_new F acks b y p q (Answered.Opened request name at is state) = tt
@@ -117,7 +117,7 @@ answered_new F acks b y p q (Answered.ClosedBefore request name at is state) = t
 answered_new F acks b y p q (Answered.Received id n i position at is pending) = (acks y i, tt)
 answered_new F acks b y p q (Answered.ReceivedBefore id n position at is pending) = tt
 
-fated_new : (F : Write → Type 0) (per : ℕ) (b : Broker) (Acts : Broker → Plan → Type 0) (lost q : Plan) → ((c : Broker) (r : Plan) → Acts c r → Each F r.writes)
+pub fated_new : (F : Write → Type 0) (per : ℕ) (b : Broker) (Acts : Broker → Plan → Type 0) (lost q : Plan) → ((c : Broker) (r : Plan) → Acts c r → Each F r.writes)
     → Each F lost.writes → Fated per b Acts lost q → Each F q.writes
 fated_new F per b Acts lost q acts none (Fated.Once r t) = acts b r t
 fated_new F per b Acts lost q acts none Fated.Lost = none
@@ -131,7 +131,7 @@ goes_on_wide : (B : Type 0) (h : Site) (b : Broker) (y i : ℕ) (id : List ℕ) 
     → Hears b y i id answer u g u' → length u'.cut.remote ≡ length h.clusters
 goes_on_wide B h b y i id answer u g u' f is heard = (hears_same b y i id answer u g u' heard).places ∙ f.wide.builder u is
 
-reads_new : (B : Type 0) (h : Site) (C : Entry → Type 0) (b : Broker) (y : ℕ) (q : Plan) → y < length h.clusters → Brief B h b → Reads h b y q → Each (NewWrite B h C) q.writes
+pub reads_new : (B : Type 0) (h : Site) (C : Entry → Type 0) (b : Broker) (y : ℕ) (q : Plan) → y < length h.clusters → Brief B h b → Reads h b y q → Each (NewWrite B h C) q.writes
 reads_new B h C b y q lt f Reads.NothingToRead = tt
 reads_new B h C b y q lt f (Reads.Forwards i e next out) = tt
 reads_new B h C b y q lt f (Reads.Skips i e next other) = (tt, tt)
@@ -153,13 +153,13 @@ reads_new B h C b y q lt f (Reads.PassesOver i j e n remote v ws next is named a
           (updates_new B h C b _ ws f (found_is Named _ b.subs v named f.wide.names).0 (found_cached (Wide (length h.clusters)) _ b.subs v named f.wide.caches) after) (tt, tt),
     )
 
-snaps_new : (B : Type 0) (h : Site) (C : Entry → Type 0) (b : Broker) (q : Plan) → Brief B h b → Snaps h b q → Each (NewWrite B h C) q.writes
+pub snaps_new : (B : Type 0) (h : Site) (C : Entry → Type 0) (b : Broker) (q : Plan) → Brief B h b → Snaps h b q → Each (NewWrite B h C) q.writes
 snaps_new B h C b q f Snaps.NothingToAsk = tt
 snaps_new B h C b q f (Snaps.Asks any none) =
     let p = next_position h.per_ledger b.ledgers in
     (NewEntry.Own b _ _ _ (IsOwn.Request (snapshot_id (cluster_name h h.own) p) (λ t. let l = id_short (cluster_name h h.own) p (f.names h.own) (f.next t) in omega (arith, l))), tt)
 
-offers_new : (B : Type 0) (h : Site) (C : Entry → Type 0) (b : Broker) (n : List ℕ) (q : Plan) → Brief B h b → Offers h b n q → Each (NewWrite B h C) q.writes
+pub offers_new : (B : Type 0) (h : Site) (C : Entry → Type 0) (b : Broker) (n : List ℕ) (q : Plan) → Brief B h b → Offers h b n q → Each (NewWrite B h C) q.writes
 offers_new B h C b n q f Offers.NothingToOffer = tt
 offers_new B h C b n q f (Offers.Gives v i at e due is picked) = tt
 offers_new B h C b n q f (Offers.PassesBy v i e ws due is after) =
@@ -171,7 +171,7 @@ offers_new B h C b n q f (Offers.Caches v i j e c ws due is after) =
           (cached_all W v.cache c (found_cached W _ b.subs v due.0 f.wide.caches) (snapshot_wide h b v e j c is)) after,
     )
 
-seeks_new : (B : Type 0) (h : Site) (C : Entry → Type 0) (b : Broker) (n : List ℕ) (to : Option Position) (q : Plan) → Brief B h b → Seeks h b n to q → Each (NewWrite B h C) q.writes
+pub seeks_new : (B : Type 0) (h : Site) (C : Entry → Type 0) (b : Broker) (n : List ℕ) (to : Option Position) (q : Plan) → Brief B h b → Seeks h b n to q → Each (NewWrite B h C) q.writes
 seeks_new B h C b n to q f Seeks.NothingToSeek = tt
 seeks_new B h C b n to q f (Seeks.SeeksTo v i ws named at after) =
     (tt, updates_new B h C b _ ws f (found_is Named _ b.subs v named f.wide.names).0 (found_cached (Wide (length h.clusters)) _ b.subs v named f.wide.caches) after)
@@ -185,7 +185,7 @@ new_more : (B : Type 0) (h : Site) (C D : Entry → Type 0) → ((e : Entry) →
 new_more B h C D f e (NewEntry.Carried a z lt c fit) = NewEntry.Carried a z lt (f a c) fit
 new_more B h C D f e (NewEntry.Own b m to names own) = NewEntry.Own b m to names own
 
-write_more : (B : Type 0) (h : Site) (C D : Entry → Type 0) → ((e : Entry) → C e → D e) → (w : Write) → NewWrite B h C w → NewWrite B h D w
+pub write_more : (B : Type 0) (h : Site) (C D : Entry → Type 0) → ((e : Entry) → C e → D e) → (w : Write) → NewWrite B h C w → NewWrite B h D w
 write_more B h C D f (write.Append e) n = new_more B h C D f e n
 write_more B h C D f w n = tt
 

@@ -57,7 +57,7 @@ reply_sent B E names (frame.SendError id seq code) h = record { carried = tt; sm
 reply_sent B E names frame.Pong h = record { carried = tt; small = λ b. tt }
 reply_sent B E names f h = absurd h
 
-served_sends : (B : Type 0) (E : Entry → Type 0) (h : Site) (b : Broker) (c : ℕ) (p : Packet) (q : Plan) → Served h b c p q → Each (SentOut B E h.clusters) q.sent
+pub served_sends : (B : Type 0) (E : Entry → Type 0) (h : Site) (b : Broker) (c : ℕ) (p : Packet) (q : Plan) → Served h b c p q → Each (SentOut B E h.clusters) q.sent
 served_sends B E h b c p q Served.Ignores = tt
 served_sends B E h b c p q Served.Disconnects = tt
 served_sends B E h b c p q (Served.Connects s is new) = (record { carried = tt; small = λ b. tt }, tt)
@@ -73,7 +73,7 @@ served_sends B E h b c p q (Served.Acknowledges s id kind ps v i is ws at sent b
 served_sends B E h b c p q (Served.Unsubscribes s id request v at is by last) = (record { carried = tt; small = λ b. tt }, tt)
 served_sends B E h b c p q (Served.ClosesConsumer s id request v at is by) = (record { carried = tt; small = λ b. tt }, tt)
 
-taken_sends : (B : Type 0) (E : Entry → Type 0) (h : Site) (b : Broker) (x : ℕ) (p : Packet) (q : Plan) → AreShort h.clusters → Taken h b x p q → Each (SentOut B E h.clusters) q.sent
+pub taken_sends : (B : Type 0) (E : Entry → Type 0) (h : Site) (b : Broker) (x : ℕ) (p : Packet) (q : Plan) → AreShort h.clusters → Taken h b x p q → Each (SentOut B E h.clusters) q.sent
 taken_sends B E h b x p q short (Taken.Stores id seq source e is at may new) = (record { carried = tt; small = λ b. tt }, tt)
 taken_sends B E h b x p q short (Taken.Unreadable is) = tt
 taken_sends B E h b x p q short (Taken.Opens topic id request name is opening) = (record { carried = tt; small = λ b. link_name_short h x short }, tt)
@@ -81,7 +81,7 @@ taken_sends B E h b x p q short (Taken.Discards other shut) = tt
 taken_sends B E h b x p q short (Taken.Refuses other at may) = tt
 taken_sends B E h b x p q short (Taken.Repeats id seq source e is at may old) = (record { carried = tt; small = λ b. tt }, tt)
 
-answered_sends : (F : Out → Type 0) (b : Broker) (y : ℕ) (p : Packet) (q : Plan) → Answered b y p q → Each F q.sent
+pub answered_sends : (F : Out → Type 0) (b : Broker) (y : ℕ) (p : Packet) (q : Plan) → Answered b y p q → Each F q.sent
 answered_sends F b y p q (Answered.Stale other) = tt
 answered_sends F b y p q (Answered.Other at other) = tt
 answered_sends F b y p q (Answered.Opened request name at is state) = tt
@@ -90,13 +90,13 @@ answered_sends F b y p q (Answered.ClosedBefore request name at is state) = tt
 answered_sends F b y p q (Answered.Received id n i position at is pending) = tt
 answered_sends F b y p q (Answered.ReceivedBefore id n position at is pending) = tt
 
-fated_sends : (F : Out → Type 0) (per : ℕ) (b : Broker) (Acts : Broker → Plan → Type 0) (lost q : Plan) → ((c : Broker) (r : Plan) → Acts c r → Each F r.sent) → Each F lost.sent
+pub fated_sends : (F : Out → Type 0) (per : ℕ) (b : Broker) (Acts : Broker → Plan → Type 0) (lost q : Plan) → ((c : Broker) (r : Plan) → Acts c r → Each F r.sent) → Each F lost.sent
     → Fated per b Acts lost q → Each F q.sent
 fated_sends F per b Acts lost q acts none (Fated.Once r t) = acts b r t
 fated_sends F per b Acts lost q acts none Fated.Lost = none
 fated_sends F per b Acts lost q acts none (Fated.Twice r r' t t') = each_both F r.sent r'.sent (acts b r t) (acts _ r' t')
 
-reads_sends : (B : Type 0) (E : Entry → Type 0) (h : Site) (b : Broker) (y : ℕ) (q : Plan) → Stock B E h b → Reads h b y q → Each (SentOut B E h.clusters) q.sent
+pub reads_sends : (B : Type 0) (E : Entry → Type 0) (h : Site) (b : Broker) (y : ℕ) (q : Plan) → Stock B E h b → Reads h b y q → Each (SentOut B E h.clusters) q.sent
 reads_sends B E h b y q k Reads.NothingToRead = tt
 reads_sends B E h b y q k (Reads.Forwards i e next out) = (
   record {
@@ -124,17 +124,17 @@ message_sent B E h b i e id p k at =
       small = λ b. record { entry = k.fit b i e at; from = short_source h.clusters e.ident.origin k.names };
     })
 
-offers_sends : (B : Type 0) (E : Entry → Type 0) (h : Site) (b : Broker) (n : List ℕ) (q : Plan) → Stock B E h b → Offers h b n q → Each (SentOut B E h.clusters) q.sent
+pub offers_sends : (B : Type 0) (E : Entry → Type 0) (h : Site) (b : Broker) (n : List ℕ) (q : Plan) → Stock B E h b → Offers h b n q → Each (SentOut B E h.clusters) q.sent
 offers_sends B E h b n q k Offers.NothingToOffer = tt
 offers_sends B E h b n q k (Offers.Gives v i at e due is picked) = (message_sent B E h b i e _ (position_at b.ledgers i) k due.2, tt)
 offers_sends B E h b n q k (Offers.PassesBy v i e ws due is after) = tt
 offers_sends B E h b n q k (Offers.Caches v i j e c ws due is after) = tt
 
-snaps_sends : (F : Out → Type 0) (h : Site) (b : Broker) (q : Plan) → Snaps h b q → Each F q.sent
+pub snaps_sends : (F : Out → Type 0) (h : Site) (b : Broker) (q : Plan) → Snaps h b q → Each F q.sent
 snaps_sends F h b q Snaps.NothingToAsk = tt
 snaps_sends F h b q (Snaps.Asks any none) = tt
 
-seeks_sends : (F : Out → Type 0) (h : Site) (b : Broker) (n : List ℕ) (to : Option Position) (q : Plan) → Seeks h b n to q → Each F q.sent
+pub seeks_sends : (F : Out → Type 0) (h : Site) (b : Broker) (n : List ℕ) (to : Option Position) (q : Plan) → Seeks h b n to q → Each F q.sent
 seeks_sends F h b n to q Seeks.NothingToSeek = tt
 seeks_sends F h b n to q (Seeks.SeeksTo v i ws named at after) = tt
 

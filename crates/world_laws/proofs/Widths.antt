@@ -195,7 +195,7 @@ after_good : (h : Site) (b : Broker) (v : Subscription) (ws : List Write) → Up
 after_good h b v ws Updates.NoUpdate = tt
 after_good h b v ws (Updates.Update cut replicated passed) = (tt, tt)
 
-served_wide : (n : ℕ) (h : Site) (b : Broker) (c : ℕ) (p : Packet) (q : Plan) → Served h b c p q → WidePlan n q
+pub served_wide : (n : ℕ) (h : Site) (b : Broker) (c : ℕ) (p : Packet) (q : Plan) → Served h b c p q → WidePlan n q
 served_wide n h b c p q Served.Ignores = record { names = tt; changes = tt }
 served_wide n h b c p q Served.Disconnects = record { names = tt; changes = (tt, (tt, tt)) }
 served_wide n h b c p q (Served.Connects s is new) = record { names = tt; changes = (tt, (tt, tt)) }
@@ -212,7 +212,7 @@ served_wide n h b c p q (Served.Acknowledges s id kind ps v i is ws at sent by o
 served_wide n h b c p q (Served.Unsubscribes s id request v at is by last) = record { names = (tt, tt); changes = tt }
 served_wide n h b c p q (Served.ClosesConsumer s id request v at is by) = record { names = tt; changes = (tt, tt) }
 
-taken_wide : (n : ℕ) (h : Site) (b : Broker) (x : ℕ) (p : Packet) (q : Plan) → Taken h b x p q → WidePlan n q
+pub taken_wide : (n : ℕ) (h : Site) (b : Broker) (x : ℕ) (p : Packet) (q : Plan) → Taken h b x p q → WidePlan n q
 taken_wide n h b x p q (Taken.Unreadable is) = record { names = tt; changes = (tt, tt) }
 taken_wide n h b x p q (Taken.Opens topic id request name is opening) = record { names = tt; changes = (tt, tt) }
 taken_wide n h b x p q (Taken.Discards other shut) = record { names = tt; changes = tt }
@@ -220,7 +220,7 @@ taken_wide n h b x p q (Taken.Refuses other at may) = record { names = tt; chang
 taken_wide n h b x p q (Taken.Stores id seq source e is at may new) = record { names = (tt, tt); changes = tt }
 taken_wide n h b x p q (Taken.Repeats id seq source e is at may old) = record { names = tt; changes = tt }
 
-answered_wide : (n : ℕ) (b : Broker) (y : ℕ) (p : Packet) (q : Plan) → Answered b y p q → WidePlan n q
+pub answered_wide : (n : ℕ) (b : Broker) (y : ℕ) (p : Packet) (q : Plan) → Answered b y p q → WidePlan n q
 answered_wide n b y p q (Answered.Stale other) = record { names = tt; changes = tt }
 answered_wide n b y p q (Answered.Other at other) = record { names = tt; changes = tt }
 answered_wide n b y p q (Answered.Opened request name at is state) = record { names = tt; changes = (tt, tt) }
@@ -229,7 +229,7 @@ answered_wide n b y p q (Answered.ClosedBefore request name at is state) = recor
 answered_wide n b y p q (Answered.Received id k i position at is pending) = record { names = (tt, tt); changes = (tt, tt) }
 answered_wide n b y p q (Answered.ReceivedBefore id k position at is pending) = record { names = tt; changes = tt }
 
-fated_wide : (n per : ℕ) (b : Broker) (Acts : Broker → Plan → Type 0) (lost q : Plan) → ((c : Broker) (r : Plan) → Acts c r → WidePlan n r) → WidePlan n lost
+pub fated_wide : (n per : ℕ) (b : Broker) (Acts : Broker → Plan → Type 0) (lost q : Plan) → ((c : Broker) (r : Plan) → Acts c r → WidePlan n r) → WidePlan n lost
     → Fated per b Acts lost q → WidePlan n q
 fated_wide n per b Acts lost q acts none (Fated.Once r t) = acts b r t
 fated_wide n per b Acts lost q acts none Fated.Lost = none
@@ -243,7 +243,7 @@ goes_on : (n : ℕ) (b : Broker) (y i : ℕ) (id : List ℕ) (answer : ClusterPo
 goes_on n b y i id answer u g u' h is heard v same =
     ap (λ (k : Builder). length k.cut.remote) (sym (same_Some u' v same)) ∙ (hears_same b y i id answer u g u' heard).places ∙ h.builder u is
 
-reads_wide : (h : Site) (b : Broker) (y : ℕ) (q : Plan) → WideAt (length h.clusters) b → Reads h b y q → WidePlan (length h.clusters) q
+pub reads_wide : (h : Site) (b : Broker) (y : ℕ) (q : Plan) → WideAt (length h.clusters) b → Reads h b y q → WidePlan (length h.clusters) q
 reads_wide h b y q w Reads.NothingToRead = record { names = tt; changes = tt }
 reads_wide h b y q w (Reads.Forwards i e next out) = record { names = tt; changes = (tt, tt) }
 reads_wide h b y q w (Reads.Skips i e next other) = record { names = (tt, tt); changes = (tt, tt) }
@@ -257,20 +257,20 @@ reads_wide h b y q w (Reads.CreatesAt i j e n remote next is named) = record { n
 reads_wide h b y q w (Reads.PassesOver i j e n remote v ws next is named after) =
     record { names = (tt, each_both GoodName ws (write.SenderAck y i ∷ []) (after_good h b _ ws after) (tt, tt)); changes = (tt, (tt, tt)) }
 
-snaps_wide : (h : Site) (b : Broker) (q : Plan) → Snaps h b q → WidePlan (length h.clusters) q
+pub snaps_wide : (h : Site) (b : Broker) (q : Plan) → Snaps h b q → WidePlan (length h.clusters) q
 snaps_wide h b q Snaps.NothingToAsk = record { names = tt; changes = tt }
 snaps_wide h b q (Snaps.Asks any none) =
     let n = length h.clusters in
     record { names = (tt, tt); changes = ((λ u is. ap (λ (k : Builder). length k.cut.remote) (sym (same_Some _ u is)) ∙ length-replicate n None), tt) }
 
-offers_wide : (h : Site) (b : Broker) (n : List ℕ) (q : Plan) → Offers h b n q → WidePlan (length h.clusters) q
+pub offers_wide : (h : Site) (b : Broker) (n : List ℕ) (q : Plan) → Offers h b n q → WidePlan (length h.clusters) q
 offers_wide h b n q Offers.NothingToOffer = record { names = tt; changes = tt }
 offers_wide h b n q (Offers.Gives v i at e due is picked) = record { names = tt; changes = (tt, tt) }
 offers_wide h b n q (Offers.PassesBy v i e ws due is after) = record { names = (tt, after_good h b _ ws after); changes = (tt, (tt, tt)) }
 offers_wide h b n q (Offers.Caches v i j e c ws due is after) =
     record { names = (tt, after_good h b _ ws after); changes = (snapshot_wide h b v e j c is, (tt, (tt, tt))) }
 
-seeks_wide : (n : ℕ) (h : Site) (b : Broker) (m : List ℕ) (to : Option Position) (q : Plan) → Seeks h b m to q → WidePlan n q
+pub seeks_wide : (n : ℕ) (h : Site) (b : Broker) (m : List ℕ) (to : Option Position) (q : Plan) → Seeks h b m to q → WidePlan n q
 seeks_wide n h b m to q Seeks.NothingToSeek = record { names = tt; changes = tt }
 seeks_wide n h b m to q (Seeks.SeeksTo v i ws named at after) = record { names = (tt, after_good h b _ ws after); changes = (tt, tt) }
 
