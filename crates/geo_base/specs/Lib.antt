@@ -40,6 +40,11 @@ pub mod Report
 pub mod Moments
 pub mod Settled
 pub mod Safe
+pub mod TraceItems
+pub mod Traced
+pub mod Mirror
+pub mod Audit
+pub mod TraceText
 pub mod Cuts
 pub mod Scripted
 pub mod Laws

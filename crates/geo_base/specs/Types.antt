@@ -34,6 +34,8 @@ pub use Rattle.geo_base.specs.declared.packet.Out.{Out}
 pub use Rattle.geo_base.specs.declared.packet.Packet.{Packet}
 pub use Rattle.geo_base.specs.declared.packet.Peer.{Peer}
 pub use Rattle.geo_base.specs.declared.packet.Peer.TheVariants as peer
+pub use Rattle.geo_base.specs.declared.planned.Cause.{Cause}
+pub use Rattle.geo_base.specs.declared.planned.Cause.TheVariants as cause
 pub use Rattle.geo_base.specs.declared.position.Position.{Position}
 pub use Rattle.geo_base.specs.declared.sender.Pending.{Pending}
 pub use Rattle.geo_base.specs.declared.sender.SenderState.{SenderState}
