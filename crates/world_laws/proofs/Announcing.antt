@@ -195,7 +195,7 @@ moved_last F h b v u w ws stands name moves cursor cached after =
     subst (λ (vs : List Write). Announcing F h b (w ∷ vs)) (append-nil ws) (moved F h b v u w ws [] stands name moves cursor cached tt tt after)
 
 -- what is found is of the list, and passes the test
-find_stands : {X : Type 0} (p : X → Bool) (xs : List X) (x : X) → find p xs ≡ Some x → Stands xs x × (p x ≡ true)
+pub find_stands : {X : Type 0} (p : X → Bool) (xs : List X) (x : X) → find p xs ≡ Some x → Stands xs x × (p x ≡ true)
 find_stands p [] x e = absurd (none-some x e)
 find_stands p (a ∷ xs) x e = by (p a) refl e (find_stands p xs x)
   where

@@ -1,3 +1,4 @@
+-- Types, the walk through the branches of every event, and the shapes that it finds.
 pub mod Types
 pub mod Walk
 pub mod Shapes
@@ -6,12 +7,18 @@ pub mod LinkWalk
 pub mod ReadWalk
 pub mod OfferWalk
 pub mod EventWalk
+-- The induction over runs, and what an event leaves alone.
 pub mod Runs
 pub mod Frames
+pub mod Layers
+pub mod Reaching
+pub mod Short
+-- Once and in order.
 pub mod Members
 pub mod Appends
 pub mod Fresh
 pub mod Once
+-- Two clusters of a pair: what stands at the one of the other's topic, and what a receipt means.
 pub mod Prefixes
 pub mod Cursors
 pub mod Packets
@@ -31,9 +38,16 @@ pub mod Sizes
 pub mod PairWorlds
 pub mod PairMoments
 pub mod Pairs
+-- Numbers and counts: what rises with events, and by how much.
 pub mod Calm
 pub mod Places
 pub mod Bounds
+pub mod Counts
+pub mod Slow
+pub mod Rising
+pub mod OwnNumbers
+pub mod MarkerRuns
+-- Nodes, their peers, and the merge of what each of them records.
 pub mod LinkTables
 pub mod TwoLists
 pub mod NodeEvents
@@ -54,21 +68,20 @@ pub mod HistoryPush
 pub mod Agreeing
 pub mod ByteHistories
 pub mod Origins
+-- Positions, and the order between the topics of clusters.
 pub mod Ledgers
 pub mod NoSelf
 pub mod Order
 pub mod Added
-pub mod Layers
 pub mod Ordered
+pub mod NextPosition
+-- Snapshots: answers, the second round, and the cut.
 pub mod Answering
 pub mod Positions
-pub mod Short
 pub mod SnapshotFacts
 pub mod Hearing
 pub mod Everyone
 pub mod Ids
-pub mod NextPosition
-pub mod Counts
 pub mod Building
 pub mod Making
 pub mod MakingEvents
@@ -79,6 +92,7 @@ pub mod WrittenCuts
 pub mod Grows
 pub mod Caches
 pub mod Cuts
+-- Settling ends, and within its budget.
 pub mod Rounds
 pub mod Tails
 pub mod Weights
@@ -90,6 +104,7 @@ pub mod LinkWeights
 pub mod Lowering
 pub mod WeightBounds
 pub mod InTime
+-- Behind settling all has come over.
 pub mod Fitting
 pub mod Awaited
 pub mod Waiting
@@ -102,6 +117,7 @@ pub mod LiveStarts
 pub mod Quiet
 pub mod FittingRuns
 pub mod Complete
+-- Subscriptions: nothing due is forgotten, and offers bring all of it out.
 pub mod SubFrames
 pub mod Remembers
 pub mod Dispatched
@@ -110,6 +126,7 @@ pub mod Keeping
 pub mod DueCounts
 pub mod Serving
 pub mod Offered
+-- What is in a frame and in a topic: sizes, plain entries, and what a node's bytes tell.
 pub mod OwnSizes
 pub mod Widths
 pub mod NewEntries
@@ -119,6 +136,8 @@ pub mod Sending
 pub mod ClientSends
 pub mod Carrying
 pub mod PlainRuns
+pub mod NodeCarries
+-- Settled: only what is told is acknowledged, and updates name only that.
 pub mod Passing
 pub mod Told
 pub mod OnlyTold
@@ -129,16 +148,13 @@ pub mod QuietTells
 pub mod ToldRuns
 pub mod ToldWorlds
 pub mod ToldLaws
+-- Runs under the program's limits.
 pub mod LimitedRuns
-pub mod Slow
-pub mod Rising
-pub mod OwnNumbers
-pub mod MarkerRuns
+-- Runs that begin from what was kept of another one.
 pub mod KeptIndexes
 pub mod IndexRuns
 pub mod Starting
 pub mod TurnRuns
-pub mod Reaching
 pub mod KeptStarts
 pub mod AlikeLinks
 pub mod AlikeWorlds
@@ -146,4 +162,3 @@ pub mod AlikeRuns
 pub mod Loaded
 pub mod ResumedRuns
 pub mod SavedRuns
-pub mod NodeCarries

@@ -235,7 +235,7 @@ history_leads n (d ∷ ds) bs r above_n lead = (
     own [] h = tt
     own (e ∷ es) h = ((λ _. h.0), own es h.1)
 
-all_lead : (n : ℕ) (hs : List (List RecordedEvent)) → ((i : ℕ) → Rises (history_of hs i)) → AllLead (all_from n hs)
+pub all_lead : (n : ℕ) (hs : List (List RecordedEvent)) → ((i : ℕ) → Rises (history_of hs i)) → AllLead (all_from n hs)
 all_lead n [] r = tt
 all_lead n (h ∷ hs) r = history_leads n h (all_from (n + 1) hs) (r 0) (nodes_from (n + 1) hs) (all_lead (n + 1) hs (λ i. r (suc i)))
 

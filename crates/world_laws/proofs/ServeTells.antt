@@ -45,7 +45,7 @@ use Rattle.world_laws.proofs.Walk.{both, by_test, left, on_if, on_true, right}
 -- TESTS
 
 -- a name finds a subscription of that name
-named_is : (vs : List Subscription) (n : List ℕ) (v : Subscription) → sub_named vs n ≡ Some v → bytes_eq v.name n ≡ true
+pub named_is : (vs : List Subscription) (n : List ℕ) (v : Subscription) → sub_named vs n ≡ Some v → bytes_eq v.name n ≡ true
 named_is [] n v h = absurd (none-some v h)
 named_is (a ∷ vs) n v h = by (bytes_eq a.name n) refl h (named_is vs n v)
   where

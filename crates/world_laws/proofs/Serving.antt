@@ -27,7 +27,7 @@ use Rattle.world_laws.proofs.SubFrames.{at_name, named_same}
 use Rattle.world_laws.proofs.Walk.{by_test}
 
 -- a name finds the same subscription again
-named_map : (f : Subscription → Subscription) → ((u : Subscription) → (f u).name ≡ u.name) → (vs : List Subscription) (n : List ℕ) (v : Subscription) → sub_named vs n ≡ Some v
+pub named_map : (f : Subscription → Subscription) → ((u : Subscription) → (f u).name ≡ u.name) → (vs : List Subscription) (n : List ℕ) (v : Subscription) → sub_named vs n ≡ Some v
     → sub_named (map f vs) n ≡ Some (f v)
 named_map f same [] n v e = absurd (none-some v e)
 named_map f same (u ∷ vs) n v e = by (bytes_eq u.name n) refl e (named_map f same vs n v)

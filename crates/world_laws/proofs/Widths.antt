@@ -274,7 +274,7 @@ pub seeks_wide : (n : ℕ) (h : Site) (b : Broker) (m : List ℕ) (to : Option P
 seeks_wide n h b m to q Seeks.NothingToSeek = record { names = tt; changes = tt }
 seeks_wide n h b m to q (Seeks.SeeksTo v i ws named at after) = record { names = (tt, after_good h b _ ws after); changes = (tt, tt) }
 
-shape_wide : (s : Setup) (w : World) (p : Planned) → Shape s w p → WideAt (length s.clusters) (topic_at s w p.topic p.cluster) → WidePlan (length s.clusters) p.plan
+pub shape_wide : (s : Setup) (w : World) (p : Planned) → Shape s w p → WideAt (length s.clusters) (topic_at s w p.topic p.cluster) → WidePlan (length s.clusters) p.plan
 unfolding restart
 shape_wide s w p (Shape.Idle t x within) h = record { names = tt; changes = tt }
 shape_wide s w p (Shape.Empty t x k within next) h = record { names = tt; changes = tt }
