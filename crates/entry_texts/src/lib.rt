@@ -5,9 +5,7 @@
 //! two differ.
 #![tactic(auto)]
 
-mod content;
 mod laws;
-mod payload;
 mod place;
 mod reading;
 mod writing;

@@ -1,18 +1,13 @@
 //! An entry from its metadata and its payload.
-ghost use Rattle.std.specs.Prelude.{◌≡◌, ◌≤◌, length, IfOk, OnOk};
-ghost use Rattle.std.specs.List.{AllByRecursion};
+ghost use Rattle.std.specs.Prelude.{◌≤◌, length, IfOk};
 ghost use Rattle.message_meta.specs.Known.{IsRest};
-ghost use Rattle.pb_fields.specs.Canonical.{text};
-ghost use Rattle.pb_fields.specs.Field.{IsField};
 ghost use Rattle.entry_texts.specs.Stored.{IsStored};
 
-use crate::content::content_of;
-use crate::place::targets_of;
 use geo_base::limits::CLUSTERS;
 use geo_base::{Blob, ClusterName, Entry, Ident, Memory, Metadata, ProducerName};
 use message_meta::Meta;
-use pb_fields::{ByteList, FieldList, write_fields};
 use std::alloc::Global;
+use wire_frames::{content_of, fields_text, targets_of};
 
 /// The entry that metadata and a payload are, where the cluster of a number stored it first.
 pub fn read_entry(
@@ -46,14 +41,4 @@ pub fn read_entry(
         },
         payload,
     })
-}
-
-/// The bytes of fields that nobody reads.
-fn fields_text(alloc: Global, fields: &FieldList) -> Result<Blob, Memory>
-    ensures text { IfOk result (λ b. b ≡ text fields.now) }
-    ensures fields { OnOk result (AllByRecursion IsField fields.now) }
-{
-    let mut bytes = ByteList::new(alloc);
-    write_fields(&mut bytes, fields)?;
-    Ok(Blob::from_vec(bytes.into_vec()))
 }

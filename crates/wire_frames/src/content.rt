@@ -20,7 +20,7 @@ use pb_fields::ByteList;
 use std::alloc::Global;
 
 /// What an entry of a marker type and a payload is, and the payload that it keeps: none where that is the marker's canonical text.
-pub(crate) fn content_of(
+pub fn content_of(
     alloc: Global,
     names: &[ClusterName],
     number: Option<u64>,
@@ -136,7 +136,7 @@ fn placed_clusters(
 
 /// The number in the metadata of an entry: none of a message (marker_type of PulsarMarkers.proto, with this project's own
 /// numbers).
-pub(crate) fn marker_number(content: &Content) -> Option<u64>
+pub fn marker_number(content: &Content) -> Option<u64>
     ensures { result ≡ marker_number content.now }
 {
     match content {
@@ -153,7 +153,7 @@ pub(crate) fn marker_number(content: &Content) -> Option<u64>
 
 /// The canonical text of a marker that keeps no payload; None where the payload is written as it is kept.
 #[tactic(auto, using(crate::proofs::Writing::unkept_text, crate::proofs::Writing::unkept_right, crate::proofs::Writing::kept_text, crate::proofs::Writing::kept_right))]
-pub(crate) fn canonical_payload(
+pub fn canonical_payload(
     alloc: Global,
     names: &[ClusterName],
     content: &Content,

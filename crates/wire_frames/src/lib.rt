@@ -14,7 +14,10 @@ mod read;
 mod size;
 mod write;
 
+pub use content::{canonical_payload, content_of, marker_number};
+pub use entry::{fields_text, known_of};
 pub use laws::{canonical_value, one_value, text_sizes};
+pub use place::{number_of, targets_of};
 pub use read::read_value;
 pub use size::is_within_limit;
 pub use write::{is_readable, try_write_value, write_message, write_send, write_value};

@@ -1,6 +1,0 @@
-use Rattle.std.proofs.Common.{◌≡◌, map, take}
-use Rattle.wire_frames.specs.Values.{placed_cluster}
-use Rattle.entry_texts.proofs.content.placed_clusters.Given as goal
-
-abbrev pub invariant-loop-cluster : goal.invariant-loop-cluster
-invariant-loop-cluster l = l.placed ≡ map (λ c. placed_cluster l.names c) (take l.cluster-index l.clusters)

@@ -1,5 +1,0 @@
-use Rattle.std.proofs.Common.{length}
-use Rattle.entry_texts.proofs.place.+bits_of.Given as goal
-
-abbrev pub decreases-bits_of : goal.decreases-bits_of
-decreases-bits_of l = length l.names.now
