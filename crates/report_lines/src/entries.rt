@@ -32,8 +32,8 @@ pub fn add_entries<S: EntryStore>(
     Ok(())
 }
 
-/// The entry at an index.
-fn add_entry<S: EntryStore>(
+/// Appends the entry of a topic at an index, at its position.
+pub fn add_entry<S: EntryStore>(
     lines: &mut Blob,
     clusters: &[ClusterName],
     store: &S,
@@ -45,14 +45,14 @@ fn add_entry<S: EntryStore>(
 {
     let position = place(store, index);
     match store.get(index) {
-        Some(entry) => add_line(lines, clusters, position, entry),
+        Some(entry) => add_entry_line(lines, clusters, position, entry),
         None => unreachable!(),
     }
 }
 
-/// An entry at its position: a message, a marker, or a marker that nobody reads.
+/// Appends an entry at a position: a message, a marker, or a marker that nobody reads.
 #[tactic(auto, using(crate::proofs::Wholes::line_whole))]
-fn add_line(
+pub fn add_entry_line(
     lines: &mut Blob,
     clusters: &[ClusterName],
     position: Position,

@@ -1,5 +1,5 @@
 //! Items as texts.
-ghost use Rattle.std.specs.Prelude.{◌≡◌, ◌++◌, ◌∷◌, [], length, OnOk};
+ghost use Rattle.std.specs.Prelude.{◌≡◌, ◌<◌, ◌^◌, ◌++◌, ◌∷◌, [], length, OnOk};
 ghost use Rattle.std.specs.List.{flat_map};
 ghost use Rattle.cursor_acks.specs.Acks.{AreBelow};
 ghost use Rattle.state_items.specs.Texts.{cursor, number, range, text, word};
@@ -32,7 +32,8 @@ pub fn put_word(out: &mut Blob, n: u32) -> Result<(), Memory>
 
 /// Appends a text behind its length. A text of 2^32 bytes, whose length has no four bytes, counts as want of memory.
 pub fn put_text(out: &mut Blob, content: &[u8]) -> Result<(), Memory>
-    ensures { OnOk result (out.new ≡ out.old ++ text content.now) }
+    ensures text { OnOk result (out.new ≡ out.old ++ text content.now) }
+    ensures short { OnOk result (length content.now < 2 ^ 32) }
 {
     let Ok(len) = u32::try_from(content.len()) else {
         return Err(Memory);

@@ -8,9 +8,9 @@ use crate::entry_of::entry_of;
 use geo_base::{Memory, Position};
 use std::alloc::Global;
 
-/// The first index of each ledger, from the ledgers' lengths.
+/// The first index of each ledger, from the ledgers' lengths. An `Err` is want of memory.
 #[tactic(auto, using(crate::proofs::Parts::one_ledger, crate::proofs::Parts::one_length))]
-pub(crate) fn firsts_of(alloc: Global, lengths: &[u64]) -> Result<Vec<u64>, Memory>
+pub fn firsts_of(alloc: Global, lengths: &[u64]) -> Result<Vec<u64>, Memory>
     requires opened { 0 < length lengths.now }
     requires fits { sum lengths.now < 2 ^ 64 }
     ensures firsts { IfOk result (λ v. AreFirsts v.items (sum lengths.now)) }
@@ -27,9 +27,9 @@ pub(crate) fn firsts_of(alloc: Global, lengths: &[u64]) -> Result<Vec<u64>, Memo
     Ok(firsts)
 }
 
-/// The ledgers' lengths in a topic of `len` entries.
+/// The ledgers' lengths in a topic of `len` entries, from the first index of each. An `Err` is want of memory.
 #[tactic(auto, using(crate::proofs::Parts::end_above, crate::proofs::Parts::length_more, crate::proofs::Parts::all_lengths))]
-pub(crate) fn lengths_of(alloc: Global, firsts: &[u64], len: u64) -> Result<Vec<u64>, Memory>
+pub fn lengths_of(alloc: Global, firsts: &[u64], len: u64) -> Result<Vec<u64>, Memory>
     requires { AreFirsts firsts.now len }
     ensures { IfOk result (λ v. v.items ≡ lengths_of firsts.now len) }
 {
@@ -102,9 +102,9 @@ pub(crate) fn open(firsts: &mut Vec<u64>, len: u64)
     firsts.push_reserved(len); // also where the last one is empty
 }
 
-/// The position of the entry at an index.
+/// The position of the entry at an index, from the first index of each ledger; None exactly where nothing stands there.
 #[tactic(auto, using(crate::proofs::Found::position_found, crate::proofs::Found::no_position))]
-pub(crate) fn position_of(firsts: &[u64], len: u64, index: u64) -> Option<Position>
+pub fn position_of(firsts: &[u64], len: u64, index: u64) -> Option<Position>
     requires { AreFirsts firsts.now len }
     ensures { result ≡ position_of (lengths_of firsts.now len) index }
 {

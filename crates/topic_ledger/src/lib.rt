@@ -6,7 +6,7 @@
 #![tactic(auto)]
 
 mod entry_of;
-mod firsts;
+pub mod firsts;
 mod ledger;
 mod list_store;
 
