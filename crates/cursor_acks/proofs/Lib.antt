@@ -4,4 +4,5 @@ pub mod OneList
 pub mod Places
 pub mod Edited
 pub mod Added
+pub mod AddedRange
 pub mod Reading

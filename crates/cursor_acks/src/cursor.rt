@@ -1,7 +1,7 @@
 //! A cursor.
 ghost use Rattle.std.specs.Prelude.{◌≡◌, ◌≤◌, ◌<◌, ◌+◌, ◌-◌, ℕ, [], true, false, length, IfOk, OnOk, IfErr, OnErr};
 ghost use Rattle.geo_base.specs.Cursor.{below, has, mark, next_open, with_index, with_indexes};
-ghost use Rattle.cursor_acks.specs.Acks.{IsFirstOpen, if_below, stands_alone};
+ghost use Rattle.cursor_acks.specs.Acks.{IsFirstOpen, are_free, from_to, if_below, stands_alone};
 ghost use Rattle.cursor_acks.specs.Ranges.{AreRangesOf, IsToldByRanges};
 
 use crate::range::{IndexRange, RangeList};
@@ -105,6 +105,23 @@ impl Cursor {
         Ok(())
     }
 
+    /// Acknowledges all indexes from one to another, none of which is acknowledged, of a topic of `len` entries; `PastEnd`
+    /// exactly where `last >= len`, with no change. It needs a spare of at least 1, and lowers it by at most 1.
+    pub fn ack_range(&mut self, first: u64, last: u64, len: u64) -> Result<(), PastEnd>
+        requires order { first ≤ last }
+        requires new { are_free self.old.indexes first last ≡ true }
+        requires room { 0 < self.old.spare }
+        ensures ok { OnOk result (last < len) }
+        ensures indexes { OnOk result (self.new.indexes ≡ with_indexes self.old.indexes (from_to first last)) }
+        ensures spare { self.old.spare ≤ self.new.spare + 1 }
+        ensures past_end { IfErr result (λ e. (len ≤ last) × (e ≡ record { index = last; len = len })) }
+        ensures err { OnErr result (self.new ≡ self.old) }
+    {
+        test_below(last, len)?;
+        self.ranges.add_range(first, last);
+        Ok(())
+    }
+
     /// Acknowledges all indexes below one and no other, in a topic of `len` entries, so that reading begins at `index`: where
     /// an operator resets the cursor. `index == len` is the topic's end; `PastEnd` exactly where `index > len`, with no
     /// change. It needs a spare of at least 1, and lowers it by at most 1.
@@ -148,6 +165,16 @@ impl Cursor {
     {
         let ranges = self.ranges.as_slice();
         holds(ranges, place_of(ranges, index), index)
+    }
+
+    /// Whether no index from one to another is acknowledged.
+    pub fn are_free(&self, first: u64, last: u64) -> bool
+        requires { first ≤ last }
+        ensures { result ≡ are_free self.now.indexes first last }
+    {
+        let ranges = self.ranges.as_slice();
+        let at = place_of(ranges, first);
+        at >= ranges.len() || ranges[at].first > last
     }
 
     /// The least index at or after `from` that is not acknowledged; it may be the topic's length or past it. To acknowledge

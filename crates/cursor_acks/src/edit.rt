@@ -1,7 +1,7 @@
 //! How the ranges change when indexes are acknowledged.
 ghost use Rattle.std.specs.Prelude.{◌≡◌, ◌≤◌, ◌<◌, ◌+◌, ◌^◌, ◌∷◌, ◌++◌, true, false, take, drop, length};
 ghost use Rattle.geo_base.specs.Cursor.{below, has, with_index, with_indexes};
-ghost use Rattle.cursor_acks.specs.Acks.{stands_alone};
+ghost use Rattle.cursor_acks.specs.Acks.{are_free, from_to, stands_alone};
 ghost use Rattle.cursor_acks.specs.Ranges.{covers, indexes_of};
 ghost use Rattle.cursor_acks.specs.Places.{AreKept, Begins, Ends, IsPlace};
 
@@ -89,6 +89,32 @@ impl RangeList {
         let at = place_of(ranges, index + 1);
         let (to, last) = end(ranges, at, index);
         self.replace(0, to, IndexRange { first: 0, last });
+    }
+
+    /// All indexes from one to another, none of which is there.
+    pub(crate) fn add_range(&mut self, first: u64, last: u64)
+        requires below { last + 1 < 2 ^ 64 }
+        requires order { first ≤ last }
+        requires new { are_free (indexes_of self.old.list) first last ≡ true }
+        requires kept { AreKept self.old.list }
+        requires room { 0 < self.old.spare }
+        ensures kept { AreKept self.new.list }
+        ensures indexes { indexes_of self.new.list ≡ with_indexes (indexes_of self.old.list) (from_to first last) }
+        ensures spare { self.old.spare ≤ self.new.spare + 1 }
+    {
+        let ranges = self.as_slice();
+        let at = place_of(ranges, first);
+        let (from, low) = begin(ranges, at, first);
+        let behind = place_of(ranges, last + 1);
+        let (to, high) = end(ranges, behind, last);
+        self.replace(
+            from,
+            to,
+            IndexRange {
+                first: low,
+                last: high,
+            },
+        );
     }
 
     /// All indexes below an end, and no other.
