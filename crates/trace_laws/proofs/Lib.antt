@@ -1,0 +1,15 @@
+pub mod Lists
+pub mod Same
+pub mod Kept
+pub mod Safe
+pub mod Stems
+pub mod Places
+pub mod Marks
+pub mod Snapshots
+pub mod Gained
+pub mod Writes
+pub mod Lines
+pub mod Told
+pub mod Shaped
+pub mod Events
+pub mod Traced
