@@ -21,11 +21,11 @@ use Rattle.world_laws.proofs.Walk.{on_if}
 
 -- ---- the form of the tables of links never changes
 
-abbrev empty_row : List (List Packet) → List (List Packet)
+abbrev pub empty_row : List (List Packet) → List (List Packet)
 empty_row r = map (λ (ps : List Packet). []) r
 
 -- how many links there are, and in which rows
-abbrev form : List (List Link) → Waits
+abbrev pub form : List (List Link) → Waits
 form m = empty_form (waiting_on m)
 
 set_empty : (r : List (List Packet)) (j : ℕ) (ps : List Packet) → empty_row (slice_set r j ps) ≡ empty_row r
@@ -41,14 +41,14 @@ with_form m i j l =
     ∙ ap (λ (e : List (List Packet)). slice_set (empty_form W) i e) (set_empty r j (waiting l) ∙ get_map empty_row W i [])
     ∙ set-get_or (empty_form W) i []
 
-record FormAs (ks ls : Links) : Type 0 where
-  forward : form ks.forward ≡ form ls.forward
-  back : form ks.back ≡ form ls.back
-  to_broker : form ks.to_broker ≡ form ls.to_broker
-  to_client : form ks.to_client ≡ form ls.to_client
+pub record FormAs (ks ls : Links) : Type 0 where
+  pub forward : form ks.forward ≡ form ls.forward
+  pub back : form ks.back ≡ form ls.back
+  pub to_broker : form ks.to_broker ≡ form ls.to_broker
+  pub to_client : form ks.to_client ≡ form ls.to_client
 
 -- the form that a setup's tables have
-abbrev AreTables : Setup → Links → Type 0
+abbrev pub AreTables : Setup → Links → Type 0
 AreTables s ls = FormAs ls (opening_world s).links
 
 link_form : (s : Setup) (ls : Links) (k : LinkName) (l : Link) → AreTables s ls → AreTables s (with_link ls k l)
@@ -81,7 +81,7 @@ stopped_form s ls h = record {
   to_client = ap empty_form (all_empty ls.to_client) ∙ twice_empty (waiting_on ls.to_client) ∙ h.to_client;
 }
 
-abbrev Tables : Setup → World → Type 0
+abbrev pub Tables : Setup → World → Type 0
 Tables s w = AreTables s w.links
 
 does_form : (s : Setup) (w : World) (p : Planned) → Tables s w → Tables s (broker_does s w p)
@@ -103,7 +103,7 @@ stops_form s w h = stopped_form s w.links h
 same_form : (ls : Links) → FormAs ls ls
 same_form ls = record { forward = refl; back = refl; to_broker = refl; to_client = refl }
 
-form_kept : (s : Setup) → IsKept s (Tables s)
+pub form_kept : (s : Setup) → IsKept s (Tables s)
 form_kept s = record {
   opening = same_form (opening_world s).links;
   idle = λ w n h. h;

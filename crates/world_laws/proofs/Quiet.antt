@@ -70,7 +70,7 @@ counted : (b : Bool) (u v : World) (n : ℕ) → v.events ≡ n + 1 → ((if b t
 counted true u v n more h = refl
 counted false u v n more h = let is = eqb-true v.events n h in absurd (omega (arith, more, is))
 
-plan_idles : (s : Setup) (w : World) (p : Planned) → ((broker_does s w p).events == w.events) ≡ true → p.plan.idle ≡ true
+pub plan_idles : (s : Setup) (w : World) (p : Planned) → ((broker_does s w p).events == w.events) ≡ true → p.plan.idle ≡ true
 unfolding broker_does
 plan_idles s w p h = counted p.plan.idle (idles w) _ w.events refl h
 

@@ -235,7 +235,7 @@ served_tells told t per h b c p q (Served.Permits s id permits v at is by) numbe
 served_tells told t per h b c p q (Served.Unsubscribes s id request v at is by last) numbered all = (tt, tt)
 served_tells told t per h b c p q (Served.ClosesConsumer s id request v at is by) numbered all = tt
 
-next_tells : (told : SettledSoFar) (t per : ℕ) (h : Site) (b : Broker) (c : ℕ) (o : Option Packet) → Numbered b.entries b.ledgers
+pub next_tells : (told : SettledSoFar) (t per : ℕ) (h : Site) (b : Broker) (c : ℕ) (o : Option Packet) → Numbered b.entries b.ledgers
     → PacketTold told t b h.topic c o → Tells told t per b (serve h b c o).writes
 unfolding serve
 next_tells told t per h b c None numbered all = tt
@@ -252,7 +252,7 @@ seek_within : (b : Broker) (to : Option Position) (i : ℕ) → Numbered b.entri
 seek_within b None i numbered at = let same = same_Some (length b.entries) i at in omega (arith, same)
 seek_within b (Some p) i numbered at = let lt = index_within b.entries b.ledgers p i numbered at in omega (arith, lt)
 
-seeks_tell : (told : SettledSoFar) (t per : ℕ) (h : Site) (b : Broker) (n : List ℕ) (to : Option Position) (q : Plan) → Seeks h b n to q → Numbered b.entries b.ledgers
+pub seeks_tell : (told : SettledSoFar) (t per : ℕ) (h : Site) (b : Broker) (n : List ℕ) (to : Option Position) (q : Plan) → Seeks h b n to q → Numbered b.entries b.ledgers
     → ((i : ℕ) → has (settled_by_seek b to (sub_named b.subs n)) i ≡ true → i < length b.entries → IsTold told t n b.entries i) → Tells told t per b q.writes
 seeks_tell told t per h b n to q Seeks.NothingToSeek numbered all = tt
 seeks_tell told t per h b n to q (Seeks.SeeksTo v i ws named at after) numbered all = (
@@ -266,12 +266,12 @@ seeks_tell told t per h b n to q (Seeks.SeeksTo v i ws named at after) numbered 
 
 -- WORLDS
 
-serve_settles : (s : Setup) (w : World) (x c : ℕ) (n : List ℕ) → let t = (declared_at s c).topic in let b = topic_at s w t x in
+pub serve_settles : (s : Setup) (w : World) (x c : ℕ) (n : List ℕ) → let t = (declared_at s c).topic in let b = topic_at s w t x in
     settled_event s w t n (event.Serve x c) ≡ messages_at b.entries (settled_by_packet n b (topic_name s t) c (next_packet (link_at w.links (ToBroker c x))))
 unfolding settled_event
 serve_settles s w x c n = let t = (declared_at s c).topic in on_true (t == t) _ [] (eq-eqb t t refl)
 
-seek_settles : (s : Setup) (w : World) (t x m : ℕ) (to : Option Position) → IsThere s t x → let b = topic_at s w t x in
+pub seek_settles : (s : Setup) (w : World) (t x m : ℕ) (to : Option Position) → IsThere s t x → let b = topic_at s w t x in
     settled_event s w t (sub_name s t m) (event.Seek t x m to) ≡ messages_at b.entries (settled_by_seek b to (sub_named b.subs (sub_name s t m)))
 unfolding settled_event
 seek_settles s w t x m to there =

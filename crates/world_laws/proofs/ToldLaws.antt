@@ -38,11 +38,11 @@ event_tells s told w (event.Serve x c) h = serve_tells s told w x c h
 event_tells s told w (event.Seek t x m to) h = seek_tells s told w t x m to h
 event_tells s told w e h = with_none s w told (λ t n. settled_event s w t n e) (planned s w e) (quiet_tells s w told e refl h)
 
-told_kept : (s : Setup) → Named s → IsToldKept s (ToldOver s)
+pub told_kept : (s : Setup) → Named s → IsToldKept s (ToldOver s)
 told_kept s names = told_over_kept s names (λ told w e h. event_tells s told w e h)
 
 -- only what is settled is acknowledged; in a topic that is not there nobody subscribes
-only_settled : (s : Setup) (w : World) (told : SettledSoFar) → Knows s w → HasTold s w told → OnlySettled s w told
+pub only_settled : (s : Setup) (w : World) (told : SettledSoFar) → Knows s w → HasTold s w told → OnlySettled s w told
 only_settled s w told k kept t x v small sub = by (nat_lt t (length s.topics)) refl
   where
     by : (b : Bool) → nat_lt t (length s.topics) ≡ b → OnlySettledOn told t (topic_at s w t x) v

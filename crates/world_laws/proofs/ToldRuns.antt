@@ -42,11 +42,11 @@ nothing_more told s w e none t n x h =
     subst R (append-nil (told t n)) (subst N (none_settled s w t n e none) h)
 
 -- the events of settling are such
-resets_none : (ps : List Pair) → Each (λ e. settles_none e ≡ true) (resets_of ps)
+pub resets_none : (ps : List Pair) → Each (λ e. settles_none e ≡ true) (resets_of ps)
 resets_none [] = tt
 resets_none (p ∷ ps) = (refl, resets_none ps)
 
-rounds_none : (ps : List Pair) → Each (λ e. settles_none e ≡ true) (round_of ps)
+pub rounds_none : (ps : List Pair) → Each (λ e. settles_none e ≡ true) (round_of ps)
 rounds_none [] = tt
 rounds_none (p ∷ ps) = (refl, (refl, (refl, rounds_none ps)))
 
@@ -155,7 +155,7 @@ settling_done l s P k told r (InRound m n) p =
 -- STEPS
 
 -- a step that passes a limit is not done and settles nothing
-abbrev After : (SettledSoFar → World → Type 0) → SettledSoFar → SettledSoFar → Ran → Type 0
+abbrev pub After : (SettledSoFar → World → Type 0) → SettledSoFar → SettledSoFar → Ran → Type 0
 After P told new r = P (told_too told (λ t n. if is_some r.ended then [] else new t n)) r.world
 
 step_ended : (s : Setup) (P : SettledSoFar → World → Type 0) (k : IsToldKept s P) (told new : SettledSoFar) (r : Ran) (w : World) (o : Option ℕ) → P told r.world
@@ -169,7 +169,7 @@ step_gone l s P k told new r w p q =
     on_if (After P told new) (is_some r.ended) _ _ (with_more s P k told (λ t n. if is_some r.ended then [] else new t n) r.world p)
     (step_ended s P k told new r w (l w) p q)
 
-step_done : (l : Limits) (s : Setup) (P : SettledSoFar → World → Type 0) (k : IsToldKept s P) (told : SettledSoFar) (r : Ran) (e : Step) → P told r.world
+pub step_done : (l : Limits) (s : Setup) (P : SettledSoFar → World → Type 0) (k : IsToldKept s P) (told : SettledSoFar) (r : Ran) (e : Step) → P told r.world
     → After P told (λ t n. settled_step s r.world t n e) (steps l s r e)
 unfolding steps settled_world
 step_done l s P k told r (step.Plain e) p = step_gone l s P k told (λ t n. settled_event s r.world t n e) r _ p (event_done s P k told r.world e p)
