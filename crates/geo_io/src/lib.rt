@@ -31,6 +31,7 @@ pub use byte_buf::ByteBuf;
 pub use fault::{Failed, Memory};
 pub use mem_sink::MemSink;
 pub use mem_source::MemSource;
+pub use planned_faults::PlannedFaults;
 pub use sink::Sink;
 pub use source::Source;
 pub use std_ends::{StdSink, StdSource};

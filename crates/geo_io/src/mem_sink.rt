@@ -28,7 +28,7 @@ impl Model for MemSink {
     ghost view = { λ s. record {
       held = s.bytes.items;
       most = s.most;
-      fails = s.plan.fails.items;
+      fails = s.plan.fails;
       calls = s.plan.calls;
       faults = s.plan.faults;
     } };

@@ -29,7 +29,7 @@ impl Model for MemSource {
     ghost view = { λ s. record {
       left = drop s.taken s.bytes.items;
       most = s.most;
-      fails = s.plan.fails.items;
+      fails = s.plan.fails;
       calls = s.plan.calls;
       faults = s.plan.faults;
     } };
