@@ -1,0 +1,4 @@
+pub mod Cutting
+pub mod Joining
+mod Rows
+pub mod Walks
