@@ -2,13 +2,14 @@
 # Runs the program:
 #
 #   ./geo run < SCRIPT      the program's own words; it reads standard input
-#   ./geo run SCRIPT        this wrapper reads a file that stands behind run, save or resume in place of standard input
-#   ./geo run SCRIPT ..     and behind run and resume several, each answer under a line `== SCRIPT`
+#   ./geo run SCRIPT        this wrapper reads a file that stands behind run, save or resume in place of standard input;
+#   ./geo run SCRIPT ..     several behind run are several runs, each answer under a line `== SCRIPT`,
+#   ./geo resume STATE ..   and several behind resume are read one behind the other, as a state and the events behind it
 #
 # Where tools/build has made the program (.built/geo) and no source is newer, that is what runs. Else the source is compiled and
-# run without its proof, by the toolchain's `rt try`, which keeps nothing from one call to the next; several files are compiled for once.
+# run without its proof, by the toolchain's `rt try`, which keeps nothing from one call to the next; several runs are compiled for once.
 #
-# The status is the program's own (docs/REPORT.md), of several files the first one that is not 0, or
+# The status is the program's own (docs/REPORT.md), of several runs the first one that is not 0, or
 #   66  a file that is named can't be read
 #   69  there is no build of this source, and no toolchain
 #   70  the toolchain failed; what it said is on standard error
@@ -30,6 +31,7 @@ for file in ${files+"${files[@]}"}; do
     fi
 done
 
+is_several() { [ "${words[*]:0:1}" = run ] && [ ${#files[@]} -gt 1 ]; }
 # The first status of several that is not 0.
 status=0
 note() {
@@ -37,10 +39,13 @@ note() {
 }
 
 if [ -x "$program" ] && [ -z "$(find "$top"/crates/*/src "$top/crates.txt" -newer "$program" -print -quit)" ]; then
-    case ${#files[@]} in
-    0) exec "$program" ${words+"${words[@]}"} ;;
-    1) exec "$program" "${words[@]}" <"${files[0]}" ;;
-    esac
+    if ! is_several; then
+        case ${#files[@]} in
+        0) exec "$program" ${words+"${words[@]}"} ;;
+        1) exec "$program" "${words[@]}" <"${files[0]}" ;;
+        *) exec "$program" "${words[@]}" < <(exec cat "${files[@]}") ;;
+        esac
+    fi
     for file in "${files[@]}"; do
         echo "== $file" 2>/dev/null || exit 5
         "$program" "${words[@]}" <"$file" || note $?
@@ -70,7 +75,7 @@ failed() {
     exit 70
 }
 
-if [ ${#files[@]} -gt 1 ]; then
+if is_several; then
     mkdir "$room/cases"
     printf '%s\n' "${files[@]}" >"$room/names"
     number=0
@@ -97,12 +102,11 @@ fi
 
 # `rt try` does not wait for a pipe to end, so what the program reads is read here
 input=/dev/null
-case "${1:-}:$#" in
-run:[12] | save:[12] | resume:[12])
+case "${words[*]-}" in
+run | save | resume)
     input=$room/input
-    if [ ${#files[@]} = 1 ]; then exec <"${files[0]}"; fi
     # what the program says of a directory and of a standard input that is closed
-    if ! cat >"$input" 2>/dev/null; then
+    if ! cat ${files+"${files[@]}"} >"$input" 2>/dev/null; then
         echo "read fault" 2>/dev/null || exit 5
         exit 4
     fi
