@@ -113,7 +113,7 @@ step_open s r (step.Halt k e) h = gone_open r _ h
 step_open s r step.Settle h = rounds_open (budget s r.world + 1) s (all_settle no_limits s r (resets_of (pairs s))) (settle_open s r (resets_of (pairs s)) h)
 step_open s r step.Stop h = gone_open r _ h
 
-run_open : (s : Setup) (r : Ran) (es : List Step) → GoesOn r → GoesOn (run_from no_limits s r es)
+pub run_open : (s : Setup) (r : Ran) (es : List Step) → GoesOn r → GoesOn (run_from no_limits s r es)
 run_open s r [] h = h
 run_open s r (e ∷ es) h = run_open s (steps no_limits s r e) es (step_open s r e h)
 
@@ -128,7 +128,7 @@ script_alike s before es = (kept_alike s before es).world
 -- ---- what is claimed of a run
 
 -- of a run that goes on from a world that is alike to the one to which a script's run came, between any two events
-between_alike : (s : Setup) (v : World) (before es : List Step) (at : Settling) → AreAlike (run s before) v
+pub between_alike : (s : Setup) (v : World) (before es : List Step) (at : Settling) → AreAlike (run s before) v
     → AreAlike (settling_so_far no_limits s (run_from no_limits s (begun (opening_world s)) (before ++ es)) at).world (world_on s v es at)
 between_alike s v before es at h =
     let came : RunsAlike (run_from no_limits s (begun (opening_world s)) before) (begun v) = record { world = h; ended = run_open s (begun (opening_world s)) before refl } in

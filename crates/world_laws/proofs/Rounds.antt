@@ -138,7 +138,7 @@ round_busy s M P R h all w p busy =
     by w' (Round.Less more less as_many q) = more
 
 -- no limit ends a run without limits
-goes_on_for_ever : (s : Setup) (es : List Event) (w : World) → all_settle no_limits s (at w) es ≡ at (all_settle no_limits s (at w) es).world
+pub goes_on_for_ever : (s : Setup) (es : List Event) (w : World) → all_settle no_limits s (at w) es ≡ at (all_settle no_limits s (at w) es).world
 goes_on_for_ever s [] w = refl
 goes_on_for_ever s (e ∷ es) w = goes_on_for_ever s es (after s w e)
 
