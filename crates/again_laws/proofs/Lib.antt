@@ -1,0 +1,20 @@
+pub mod Lasting
+pub mod Passed
+pub mod Given
+pub mod Proved
+pub mod Running
+pub mod SameIds
+pub mod Traced
+pub mod TracedRuns
+pub mod Behind
+pub mod Passing
+pub mod Settling
+pub mod Never
+pub mod Consumers
+pub mod CalmWalk
+pub mod ClientSends
+pub mod ClientLinks
+pub mod Meeting
+pub mod Getting
+pub mod GotLines
+mod Example
