@@ -1,8 +1,8 @@
 #!/usr/bin/env python3
 """Makes the input and the expected output of crates/geo_examples from the scripts of the repository.
 
-The input has each script NAME.geo of examples/, runs/, edges/ and states/ behind a line `== DIRECTORY/NAME`, the output has that line and the
-report NAME.report that lies beside the script. Behind them stand each case of refused/cases.txt as `== refused/LINE`, by its line in that
+The input has each script NAME.geo of examples/, drills/, runs/, edges/ and states/ behind a line `== DIRECTORY/NAME`, the output has that
+line and the report NAME.report that lies beside the script. Behind them stand each case of refused/cases.txt as `== refused/LINE`, by its line in that
 file, with the line that refuses it; each script with a `stop` line as `== stop DIRECTORY/NAME`, which the program saves there and resumes,
 with its report once more; and the state files of tools/state_files.py. The program's own output is never read.
 
@@ -16,7 +16,7 @@ import sys
 import state_files
 
 ROOT = os.path.dirname(os.path.dirname(os.path.abspath(__file__)))
-DIRECTORIES = ('examples', 'runs', 'edges', 'states')
+DIRECTORIES = ('examples', 'drills', 'runs', 'edges', 'states')
 CRATE = os.path.join(ROOT, 'crates', 'geo_examples')
 HEADING = b'== '
 
