@@ -1,24 +1,9 @@
--- What two calls moved, one after the other, and the parts of lists that a call moves.
-use Rattle.std.proofs.Common.{◌≡◌, ℕ, ◌+◌, ◌-◌, ◌≤◌, min, List, ◌++◌, take, drop, length, sym, ◌∙◌, append_assoc, ap, subst, arith}
+-- The parts of lists that a call moves.
+use Rattle.std.proofs.Common.{◌≡◌, ℕ, ◌+◌, ◌-◌, ◌<◌, ◌≤◌, min, List, [], ◌++◌, take, drop, length, sym, ◌∙◌, append-nil, ap, subst, arith}
+use Rattle.std.specs.Io.KnownBytes.{Consumes, Keeps}
 use Rattle.std.specs.Prelude.{Option, Some, None, Result, Ok, Err, OnErr}
 use Rattle.std.proofs.Math.Seq.{take-append-add}
 use Rattle.std.proofs.lemmas.List.{length-append, length-take, length-take-le, take-append-drop, take-append-le, take-take, take_min, drop-drop}
-use Rattle.std.specs.Io.KnownBytes.{Consumes}
-use Rattle.geo_io.specs.Sink.{Gains}
-
-pub Consumes-again : (a b c : Option (List ℕ)) (xs ys : List ℕ) → Consumes a b xs → Consumes b c ys → Consumes a c (xs ++ ys)
-Consumes-again None b c xs ys first second = tt
-Consumes-again (Some a) None c xs ys first second = absurd first
-Consumes-again (Some a) (Some b) None xs ys first second = absurd second
-Consumes-again (Some a) (Some b) (Some c) xs ys first second =
-    first ∙ (ap (λ l. xs ++ l) second ∙ sym (append_assoc xs ys c))
-
-pub Gains-again : (a b c : Option (List ℕ)) (xs ys : List ℕ) → Gains a b xs → Gains b c ys → Gains a c (xs ++ ys)
-Gains-again a b None xs ys first second = tt
-Gains-again a None (Some c) xs ys first second = absurd second
-Gains-again None (Some b) (Some c) xs ys first second = absurd first
-Gains-again (Some a) (Some b) (Some c) xs ys first second =
-    second ∙ (ap (λ l. l ++ ys) first ∙ append_assoc a xs ys)
 
 -- the n bytes that were copied from the first m of what is left, and then the rest
 pub drop_copied : (bytes to : List ℕ) (taken n m : ℕ) → n ≤ m → take n to ≡ take n (take m (drop taken bytes)) → drop taken bytes ≡ take n to ++ drop (taken + n) bytes
@@ -47,3 +32,22 @@ pub within : (xs ys : List ℕ) (n most : ℕ) → length xs ≤ most → n ≤ 
 within xs ys n most short room =
     let len : length (xs ++ take n ys) ≡ length xs + length (take n ys) = length-append xs (take n ys) in
     omega (arith, len, length-take n ys)
+
+pub over : (xs ys : List ℕ) (n most : ℕ) → length xs ≤ most → n ≤ length ys → most - length xs < n → most < length (xs ++ take n ys)
+over xs ys n most short all more =
+    let len : length (xs ++ take n ys) ≡ length xs + length (take n ys) = length-append xs (take n ys) in
+    let taken : length (take n ys) ≡ n = length-take-le n ys all in omega (arith, len, taken, short, more)
+
+-- what held of some bytes holds of them with none behind
+pub with_none : (P : List ℕ → Type 0) (xs : List ℕ) → P (xs ++ []) → P xs
+with_none P xs p = subst P (append-nil xs) p
+
+pub none_taken : (P : List ℕ → Type 0) (n : ℕ) (xs : List ℕ) → n ≡ 0 → P (take n xs) → P []
+none_taken P n xs is p = subst (λ (k : ℕ). P (take k xs)) is p
+
+-- a call that failed took nothing from what was left
+pub consumed_still : (a b c : Option (List ℕ)) (xs : List ℕ) → Consumes a b xs → Keeps b c → Consumes a c xs
+consumed_still None b c xs first same = tt
+consumed_still (Some a) None c xs first same = absurd first
+consumed_still (Some a) (Some b) None xs first same = absurd same
+consumed_still (Some a) (Some b) (Some c) xs first same = first ∙ ap (λ (l : List ℕ). xs ++ l) (sym same)

@@ -3,11 +3,12 @@
 //! The program reads one whole input and writes one whole output. This crate has the two traits
 //! that it does so through, [`Source`] and [`Sink`], and the two calls that do it, [`read_all`] and
 //! [`write_all`]. A source may tell contracts which bytes it has left, and a sink which bytes it
-//! holds: then the clauses of the two calls say which bytes were read and written. Both count
-//! their faults, so that a call may answer a fault only where that count rose.
+//! holds: then the clauses of the two calls say which bytes were read and written. Of any source they
+//! name the bytes that its calls gave one after the other, and of any sink those that its calls took. Both
+//! count their faults, so that a call may answer a fault only where that count rose.
 //!
 //! - [`StdSource`] and [`StdSink`] are over the readers and writers of std, such as the standard
-//!   input and output. Nothing is known of their bytes.
+//!   input and output. Nothing is known of what these hold.
 //! - [`SteadySource`] and [`SteadySink`] are over memory of the caller's, and never fail.
 //! - [`MemSource`] and [`MemSink`] are for tests: they move few bytes in a call and fail at stated
 //!   calls.

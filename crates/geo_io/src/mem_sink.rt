@@ -2,7 +2,7 @@
 ghost use Rattle.std.specs.Prelude.{◌≡◌, ◌≤◌, ◌<◌, Ok, Some, IfOk, OnOk, OnErr, IsErr, Contains, length, min, [], if◌then◌else◌, is_ok};
 ghost use Rattle.std.specs.Io.{WritesAtMost};
 ghost use Rattle.geo_io.specs.Faults.{one_more, Rose, Stood};
-ghost use Rattle.geo_io.specs.Sink.{WriteGains};
+ghost use Rattle.geo_io.specs.Sink.{Gains, Gains-more, Gains-none, WriteGains, WriteTakes};
 
 use crate::fault::{Failed, Memory};
 use crate::planned_faults::PlannedFaults;
@@ -67,11 +67,18 @@ impl MemSink {
 impl Sink for MemSink {
     ghost held = { λ s. Some s.held };
 
+    ghost taken = { λ a b bytes. Gains (Some a.held) (Some b.held) bytes };
+
     ghost faults = { λ s. s.faults };
+
+    ghost taken_none = { λ a. Gains-none (Some a.held) };
+
+    ghost taken_more = { λ a b c xs ys first second. Gains-more (Some a.held) (Some b.held) (Some c.held) xs ys first second };
 
     fn write(&mut self, piece: &[u8]) -> Result<usize, Failed>
         ensures within { WritesAtMost result piece.now }
         ensures bytes { WriteGains (Some self.old.held) (Some self.new.held) result piece.now }
+        ensures taken { WriteTakes (λ bytes. Gains (Some self.old.held) (Some self.new.held) bytes) result piece.now }
         ensures later { self.old.faults ≤ self.new.faults }
         ensures cause { OnErr result (Rose self.old.faults self.new.faults) }
         ensures stalled { result ≡ Ok 0 → 0 < length piece.now

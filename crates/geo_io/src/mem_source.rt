@@ -1,8 +1,9 @@
 //! A source in memory.
 ghost use Rattle.std.specs.Prelude.{◌≡◌, ◌≤◌, ◌<◌, Ok, Some, IfOk, OnOk, OnErr, IsErr, ◌↔◌, Contains, length, min, if◌then◌else◌, is_ok};
 ghost use Rattle.std.specs.Io.{ReadsAtMost};
-ghost use Rattle.std.specs.Io.KnownBytes.{ReadConsumes};
+ghost use Rattle.std.specs.Io.KnownBytes.{Consumes, ReadConsumes};
 ghost use Rattle.geo_io.specs.Faults.{one_more, Rose, Stood};
+ghost use Rattle.geo_io.specs.Source.{Consumes-more, Consumes-none, ReadGives};
 
 use crate::fault::{Failed, Memory};
 use crate::planned_faults::PlannedFaults;
@@ -63,11 +64,18 @@ impl MemSource {
 impl Source for MemSource {
     ghost left = { λ s. Some s.left };
 
+    ghost given = { λ a b bytes. Consumes (Some a.left) (Some b.left) bytes };
+
     ghost faults = { λ s. s.faults };
+
+    ghost given_none = { λ a. Consumes-none (Some a.left) };
+
+    ghost given_more = { λ a b c xs ys first second. Consumes-more (Some a.left) (Some b.left) (Some c.left) xs ys first second };
 
     fn read(&mut self, buf: &mut [u8]) -> Result<usize, Failed>
         ensures within { ReadsAtMost result buf.new }
         ensures bytes { ReadConsumes (Some self.old.left) (Some self.new.left) result buf.new }
+        ensures given { ReadGives (λ bytes. Consumes (Some self.old.left) (Some self.new.left) bytes) result buf.new }
         ensures later { self.old.faults ≤ self.new.faults }
         ensures cause { OnErr result (Rose self.old.faults self.new.faults) }
         ensures steady { OnOk result (Stood self.old.faults self.new.faults) }

@@ -1,8 +1,9 @@
 //! Where bytes come from.
-ghost use Rattle.std.specs.Prelude.{◌≡◌, ◌≤◌, ℕ, List, Option, length, min, take, OnOk, OnErr};
+ghost use Rattle.std.specs.Prelude.{◌≡◌, ◌≤◌, ◌++◌, ℕ, List, [], Option, length, min, take, OnOk, OnErr};
 ghost use Rattle.std.specs.Io.{ReadsAtMost};
 ghost use Rattle.std.specs.Io.KnownBytes.{ReadConsumes};
 ghost use Rattle.geo_io.specs.Faults.{Rose, Stood};
+ghost use Rattle.geo_io.specs.Source.{ReadGives};
 
 use crate::fault::Failed;
 
@@ -10,6 +11,10 @@ use crate::fault::Failed;
 pub trait Source {
     /// The bytes still to come, where the source tells them.
     ghost left: { Self → Option (List ℕ) };
+
+    /// Which bytes calls moved, one after the other, between an earlier state of the source and a later one. So a call that
+    /// reads can name the bytes that it read also where the source does not tell what it has left.
+    ghost given: { Self → Self → List ℕ → Type 0 };
 
     /// How many calls failed so far.
     ghost faults: { Self → ℕ };
@@ -20,9 +25,16 @@ pub trait Source {
     fn read(&mut self, buf: &mut [u8]) -> Result<usize, Failed>
         ensures within { ReadsAtMost result buf.new }
         ensures bytes { ReadConsumes (left self.old) (left self.new) result buf.new }
+        ensures given { ReadGives (given self.old self.new) result buf.new }
         ensures later { faults self.old ≤ faults self.new }
         ensures cause { OnErr result (Rose (faults self.old) (faults self.new)) }
         ensures steady { OnOk result (Stood (faults self.old) (faults self.new)) };
+
+    /// No call moves no byte.
+    ghost given_none: { (a : Self) → given a a [] };
+
+    /// What calls moved, and what later ones did.
+    ghost given_more: { (a b c : Self) (xs ys : List ℕ) → given a b xs → given b c ys → given a c (xs ++ ys) };
 }
 
 /// Copies the first bytes of `from` to the front of `to`: as many as both have.

@@ -1,9 +1,10 @@
 //! A source and a sink over a reader and a writer of std.
 ghost use Rattle.std.specs.Prelude.{◌≡◌, ◌≤◌, ◌<◌, Ok, None, IfOk, OnOk, OnErr, length};
 ghost use Rattle.std.specs.Io.{ReadsAtMost, WritesAtMost};
-ghost use Rattle.std.specs.Io.KnownBytes.{ReadConsumes, WriteAppends};
+ghost use Rattle.std.specs.Io.KnownBytes.{Appends, Consumes, ReadConsumes, WriteAppends};
 ghost use Rattle.geo_io.specs.Faults.{one_more, Rose, Stood};
-ghost use Rattle.geo_io.specs.Sink.{WriteGains};
+ghost use Rattle.geo_io.specs.Sink.{Appends-more, Appends-none, WriteGains, WriteTakes};
+ghost use Rattle.geo_io.specs.Source.{Consumes-more, Consumes-none, ReadGives};
 
 use crate::fault::Failed;
 use crate::sink::Sink;
@@ -40,11 +41,18 @@ impl<T: Read> StdSource<T> {
 impl<T: Read> Source for StdSource<T> {
     ghost left = { λ s. s.left };
 
+    ghost given = { λ a b bytes. Consumes a.left b.left bytes };
+
     ghost faults = { λ s. s.faults };
+
+    ghost given_none = { λ a. Consumes-none a.left };
+
+    ghost given_more = { λ a b c xs ys first second. Consumes-more a.left b.left c.left xs ys first second };
 
     fn read(&mut self, buf: &mut [u8]) -> Result<usize, Failed>
         ensures within { ReadsAtMost result buf.new }
         ensures bytes { ReadConsumes self.old.left self.new.left result buf.new }
+        ensures given { ReadGives (λ bytes. Consumes self.old.left self.new.left bytes) result buf.new }
         ensures later { self.old.faults ≤ self.new.faults }
         ensures cause { OnErr result (Rose self.old.faults self.new.faults) }
 
@@ -96,11 +104,18 @@ impl<T: Write> StdSink<T> {
 impl<T: Write> Sink for StdSink<T> {
     ghost held = { λ _. None };
 
+    ghost taken = { λ a b bytes. Appends a.contents b.contents bytes };
+
     ghost faults = { λ s. s.faults };
+
+    ghost taken_none = { λ a. Appends-none a.contents };
+
+    ghost taken_more = { λ a b c xs ys first second. Appends-more a.contents b.contents c.contents xs ys first second };
 
     fn write(&mut self, piece: &[u8]) -> Result<usize, Failed>
         ensures within { WritesAtMost result piece.now }
         ensures bytes { WriteGains None None result piece.now }
+        ensures taken { WriteTakes (λ bytes. Appends self.old.contents self.new.contents bytes) result piece.now }
         ensures later { self.old.faults ≤ self.new.faults }
         ensures cause { OnErr result (Rose self.old.faults self.new.faults) }
         ensures stalled { result ≡ Ok 0 → 0 < length piece.now → Rose self.old.faults self.new.faults }

@@ -1,9 +1,10 @@
 //! A source and a sink over memory of the caller's, which take no memory and never fail.
 ghost use Rattle.std.specs.Prelude.{◌≡◌, ◌≤◌, ◌<◌, ◌++◌, ◌||◌, nat_lt, ◌+◌, Ok, Some, IfOk, OnOk, OnErr, length, min, [], take, false};
 ghost use Rattle.std.specs.Io.{ReadsAtMost, WritesAtMost};
-ghost use Rattle.std.specs.Io.KnownBytes.{ReadConsumes};
+ghost use Rattle.std.specs.Io.KnownBytes.{Consumes, ReadConsumes};
 ghost use Rattle.geo_io.specs.Faults.{Rose, Stood};
-ghost use Rattle.geo_io.specs.Sink.{WriteGains};
+ghost use Rattle.geo_io.specs.Sink.{Gains, Gains-more, Gains-none, WriteGains, WriteTakes};
+ghost use Rattle.geo_io.specs.Source.{Consumes-more, Consumes-none, ReadGives};
 ghost use Rattle.geo_io.specs.Ends.{held_of};
 
 use crate::fault::Failed;
@@ -37,11 +38,18 @@ impl<'a> SteadySource<'a> {
 impl<'a> Source for SteadySource<'a> {
     ghost left = { λ s. Some s };
 
+    ghost given = { λ a b bytes. Consumes (Some a) (Some b) bytes };
+
     ghost faults = { λ _. 0 };
+
+    ghost given_none = { λ a. Consumes-none (Some a) };
+
+    ghost given_more = { λ a b c xs ys first second. Consumes-more (Some a) (Some b) (Some c) xs ys first second };
 
     fn read(&mut self, buf: &mut [u8]) -> Result<usize, Failed>
         ensures within { ReadsAtMost result buf.new }
         ensures bytes { ReadConsumes (Some self.old) (Some self.new) result buf.new }
+        ensures given { ReadGives (λ bytes. Consumes (Some self.old) (Some self.new) bytes) result buf.new }
 
         // The count is always 0, so these say that it never fails.
         ensures later { 0 ≤ 0 }
@@ -105,11 +113,18 @@ impl<'a> SteadySink<'a> {
 impl<'a> Sink for SteadySink<'a> {
     ghost held = { held_of };
 
+    ghost taken = { λ a b bytes. Gains (held_of a) (held_of b) bytes };
+
     ghost faults = { λ _. 0 };
+
+    ghost taken_none = { λ a. Gains-none (held_of a) };
+
+    ghost taken_more = { λ a b c xs ys first second. Gains-more (held_of a) (held_of b) (held_of c) xs ys first second };
 
     fn write(&mut self, piece: &[u8]) -> Result<usize, Failed>
         ensures within { WritesAtMost result piece.now }
         ensures bytes { WriteGains (held_of self.old) (held_of self.new) result piece.now }
+        ensures taken { WriteTakes (λ bytes. Gains (held_of self.old) (held_of self.new) bytes) result piece.now }
 
         // The count is always 0, so these say that it never fails.
         ensures later { 0 ≤ 0 }

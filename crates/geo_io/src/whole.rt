@@ -2,7 +2,7 @@
 ghost use Rattle.std.specs.Prelude.{◌≡◌, ◌≢◌, ◌≤◌, ◌<◌, length, take, IfOk, OnOk, OnErr, IfErr, IfSome, IsErrOf, MatchResult};
 ghost use Rattle.std.specs.Io.KnownBytes.{IsAtEnd};
 ghost use Rattle.geo_io.specs.Faults.{Rose, Stood};
-ghost use Rattle.geo_io.specs.Source.{LongerThan, ConsumesSome, ConsumesWithin};
+ghost use Rattle.geo_io.specs.Source.{ConsumesWithin, GivesOver, GivesSome, LongerThan};
 ghost use Rattle.geo_io.specs.Sink.{Gains};
 
 use crate::byte_buf::ByteBuf;
@@ -70,17 +70,20 @@ const CHUNK: usize = 16_384;
 /// failed in this call, `TooLong` exactly where more than `max` bytes came, and `Memory` only where no
 /// more than `max` did and the source did not fail.
 pub fn read_all<S: Source>(alloc: Global, source: &mut S, max: usize) -> Result<ByteBuf, ReadFault>
-    // On Ok these are all the bytes that were left, and they are at most `max`.
+    // On Ok these are all the bytes that were left, those that the source gave, and they are at most `max`.
     ensures whole { IfOk result (λ bytes. IfSome (S.left source.old) (λ input. bytes ≡ input)) }
+    ensures given { IfOk result (S.given source.old source.new) }
     ensures short { IfOk result (λ bytes. length bytes ≤ max) }
     ensures end { OnOk result (IsAtEnd (S.left source.new)) }
 
-    // When the faults come, and what they leave: some of the bytes were taken.
+    // When the faults come, and what they leave: some of the bytes were given, more than `max` where that is the fault.
     ensures long { IsErrOf result ReadFault.TooLong → LongerThan (S.left source.old) max }
+    ensures over { IsErrOf result ReadFault.TooLong
+        → GivesOver (S.given source.old source.new) (S.left source.old) (S.left source.new) max }
     ensures cause { IsErrOf result ReadFault.Failed
         → Rose (S.faults source.old) (S.faults source.new) }
     ensures memory { IsErrOf result ReadFault.Memory → ConsumesWithin (S.left source.old) (S.left source.new) max }
-    ensures rest { OnErr result (ConsumesSome (S.left source.old) (S.left source.new)) }
+    ensures rest { OnErr result (GivesSome (S.given source.old source.new) (S.left source.old) (S.left source.new)) }
 
     // The source failed nowhere, unless that is the answer.
     ensures steady { MatchResult result (λ _. Stood (S.faults source.old) (S.faults source.new))
@@ -124,10 +127,12 @@ impl Error for WriteFault {}
 /// write that takes 0 bytes of those that are left ends the call so too.
 pub fn write_all<K: Sink>(sink: &mut K, bytes: &[u8]) -> Result<(), WriteFault>
     ensures whole { OnOk result (Gains (K.held sink.old) (K.held sink.new) bytes.now) }
+    ensures taken { OnOk result (K.taken sink.old sink.new bytes.now) }
 
     // A fault comes before the last byte, and leaves in the sink the bytes that it says.
     ensures part { IfErr result (λ fault.
         Gains (K.held sink.old) (K.held sink.new) (take fault.out bytes.now)) }
+    ensures handed { IfErr result (λ fault. K.taken sink.old sink.new (take fault.out bytes.now)) }
     ensures short { IfErr result (λ fault. fault.out < length bytes.now) }
     ensures cause { OnErr result (Rose (K.faults sink.old) (K.faults sink.new)) }
 

@@ -20,3 +20,6 @@ returns-clause-bytes c =
       drop_copied items c.copy_front-n.new.to taken n c.min.result (omega (arith, c.copy_front-n.ensures.count, part)) copied,
       λ none room. drop_all (taken + n) items (omega (arith, c.copy_front-n.ensures.count, part, left, c.min.ensures, c.copy_front-n.auto.to, c.self.invariant.1)),
     )
+
+pub returns-clause-given : goal.returns-clause-given
+returns-clause-given c = (returns-clause-bytes c).0
