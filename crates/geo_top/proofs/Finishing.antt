@@ -2,7 +2,6 @@
 use Rattle.std.proofs.Common.{◌≡◌, ℕ, List, sym, ap, subst, ◌∙◌}
 use Rattle.std.specs.Prelude.{Some, Result, Ok, Err, OnOk}
 use Rattle.geo_base.specs.declared.event.Step.{Step}
-use Rattle.geo_base.specs.Report.{report}
 use Rattle.geo_base.specs.Run.{all_limits, run_from, run_under}
 use Rattle.geo_base.specs.Setup.{Setup}
 use Rattle.geo_base.specs.World.{World, opening_world}
@@ -18,12 +17,11 @@ use Rattle.world_kept.proofs.Keeping.{opening}
 use Rattle.world_kept.proofs.Reaching.{opening_reached}
 use Rattle.world_kept.specs.Reached.{Reached}
 use Rattle.geo_top.specs.declared.top.answer.Answer.{Answer}
+use Rattle.geo_top.specs.declared.top.command.Shown.{Shown}
 use Rattle.geo_top.specs.declared.top.status.Status.TheVariants as status
 use Rattle.geo_top.specs.Finished.{IsFinished}
-use Rattle.geo_top.specs.Outputs.{answer_to_big, answer_to_generated, answer_to_run, passed_limit, refused, summary_of}
-use Rattle.geo_top.specs.Shown.{shown_world}
+use Rattle.geo_top.specs.Outputs.{answer_to_big, answer_to_generated, answer_to_run, output_of, passed_limit, refused, summary_of}
 use Rattle.geo_top.proofs.Limits.{unlimited}
-use Rattle.geo_top.proofs.Shown.{shown_report}
 
 -- the steps of a script, done from its opening world
 abbrev ComesTo : Setup → WorldBook → WorldBook → List Step → Result (Unit {0}) RunFault → Type 0
@@ -59,11 +57,11 @@ passed n old new es r f limit opens is comes err large =
 abbrev ok_answer : List ℕ → Answer
 ok_answer bytes = record { status = status.Ok; bytes = bytes }
 
-pub reported : (n : Script) (b : WorldBook) (bytes : List ℕ) → IsFinished n b → bytes ≡ report n.setup (shown_world b) → ok_answer bytes ≡ answer_to_run n (passed_limit n)
-reported n b bytes f is = ap ok_answer (shown_report n b bytes f is) ∙ sym (ap (answer_to_run n) f.unlimited)
+pub shown_whole : (v : Shown) (n : Script) (b : WorldBook) (bytes : List ℕ) → IsFinished n b → bytes ≡ output_of v n → ok_answer bytes ≡ answer_to_run v n (passed_limit n)
+shown_whole v n b bytes f is = ap ok_answer is ∙ sym (ap (answer_to_run v n) f.unlimited)
 
-pub refused_run : (n : Script) (limit : ℕ) (a : Answer) → passed_limit n ≡ Some limit → a ≡ refused (status.TooLarge limit) → a ≡ answer_to_run n (passed_limit n)
-refused_run n limit a some is = is ∙ sym (ap (answer_to_run n) some)
+pub refused_run : (v : Shown) (n : Script) (limit : ℕ) (a : Answer) → passed_limit n ≡ Some limit → a ≡ refused (status.TooLarge limit) → a ≡ answer_to_run v n (passed_limit n)
+refused_run v n limit a some is = is ∙ sym (ap (answer_to_run v n) some)
 
 pub summed : (number : ℕ) (n : Script) (b : WorldBook) (bytes : List ℕ) → n ≡ generated_run number → IsFinished n b → bytes ≡ summary_of number
     → ok_answer bytes ≡ answer_to_big number

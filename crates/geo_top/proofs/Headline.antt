@@ -1,22 +1,29 @@
 -- The headline, of the run of a script: messages stand once and in order, none is lost, and settling brings all over.
-use Rattle.std.proofs.Common.{◌≡◌, Bool, true, false, refl, sym, subst, ◌∙◌, inl, inr}
-use Rattle.std.specs.Prelude.{◌⊎◌, Some}
+use Rattle.std.proofs.Common.{◌≡◌, Bool, true, false, [], ◌∷◌, ◌++◌, refl, sym, subst, ◌∙◌, inl, inr, append_assoc}
+use Rattle.std.specs.Prelude.{◌⊎◌, Some, None, take}
+use Rattle.geo_base.specs.declared.event.Step.TheVariants as step
 use Rattle.geo_base.specs.declared.entry.Entry.{Entry}
 use Rattle.geo_base.specs.Cursor.{has}
 use Rattle.geo_base.specs.Entry.{is_data}
-use Rattle.geo_base.specs.Laws.{Always, BetweenEvents, IsShort, SettlesAll, after_settling}
+use Rattle.geo_base.specs.Laws.{AlwaysIn, BetweenEvents, IsShort, SettlesAll, after_settling}
+use Rattle.geo_base.specs.Moments.{Moment, NotBegun, world_at, world_between}
+use Rattle.geo_base.specs.Planned.{planned}
+use Rattle.geo_base.specs.Run.{no_limits, run}
 use Rattle.geo_base.specs.Safe.{AllOnce, OnlySettled}
 use Rattle.geo_base.specs.Scripted.{IsScripted}
-use Rattle.geo_base.specs.Settled.{IsSettled, SettledSoFar}
+use Rattle.geo_base.specs.Settled.{IsSettled, SettledSoFar, settled, settled_at}
 use Rattle.geo_base.specs.Setup.{Setup}
 use Rattle.geo_base.specs.World.{World}
 use Rattle.script_text.specs.Script.{Script}
 use Rattle.world_laws.proofs.Complete.{budget_always}
+use Rattle.world_laws.proofs.Keeping.{kept_between}
 use Rattle.world_laws.proofs.Once.{once_always}
 use Rattle.world_laws.proofs.Runs.{always_in}
 use Rattle.world_laws.proofs.ToldLaws.{safe_always}
-use Rattle.geo_top.specs.Headline.{AllCameOver, IsAlwaysOnce, IsAlwaysSafe, IsAlwaysSettled, IsInBacklog, IsSafe, NothingIsLost}
+use Rattle.geo_top.specs.Headline.{AllCameOver, IsAlwaysKept, IsAlwaysOnce, IsAlwaysSafe, IsAlwaysSettled, IsInBacklog, IsSafe, NothingIsLost}
+use Rattle.geo_top.specs.Outputs.{passed_limit}
 use Rattle.geo_top.proofs.Quiet.{run_settled}
+use Rattle.geo_top.proofs.ShortSettling.{part_short, taken_short, written_short}
 
 -- once and in order, always
 pub always_once : (n : Script) → IsAlwaysOnce n
@@ -37,27 +44,34 @@ nothing_lost s w settled only t x i v e small sub stands message = by (has v.cur
         let same : there.0 ≡ e = same_entry there.0 e (sym there.1 ∙ stands) in
         inl (subst (λ (f : Entry). IsSettled settled t v.name f) same (there.2 (subst (λ (f : Entry). is_data f.content ≡ true) (sym same) message)))
 
-pub safe_world : (s : Setup) (w : World) (settled : SettledSoFar) → (IsShort w → OnlySettled s w settled) → IsShort w → IsSafe s w settled
-safe_world s w settled only short = record { acknowledged = only short; messages = nothing_lost s w settled (only short) }
+pub safe_world : (s : Setup) (w : World) (settled : SettledSoFar) → OnlySettled s w settled → IsSafe s w settled
+safe_world s w settled only = record { acknowledged = only; messages = nothing_lost s w settled only }
 
--- what follows at each moment follows always
-weaker : (s : Setup) (P Q : World → SettledSoFar → Type 0) → ((w : World) (settled : SettledSoFar) → P w settled → Q w settled) → Always s P → Always s Q
-weaker s P Q f a = record {
-  run = λ es. f _ _ (a.run es);
-  limited = λ l es. f _ _ (a.limited l es);
-  between = λ l es at. f _ _ (a.between l es at);
-  moment = λ l m. f _ _ (a.moment l m);
-}
-
-pub always_safe : (n : Script) → IsScripted n.setup → IsAlwaysSafe n
-always_safe n scripted =
+-- a run that passes no limit is short at each of its moments
+pub always_safe : (n : Script) → IsScripted n.setup → passed_limit n ≡ None → IsAlwaysSafe n
+always_safe n scripted none =
     let s = n.setup in
-    always_in s n.steps (λ w settled. IsShort w → IsSafe s w settled)
-    (weaker s (λ w settled. IsShort w → OnlySettled s w settled) (λ w settled. IsShort w → IsSafe s w settled) (safe_world s) (safe_always.settled s scripted))
+    let law : AlwaysIn s n.steps (λ w settled. IsShort w → OnlySettled s w settled) = always_in s n.steps (λ w settled. IsShort w → OnlySettled s w settled) (safe_always.settled s scripted) in
+    record {
+      between = λ k at.
+          safe_world s (world_between no_limits s (take k n.steps) at) (settled s (take k n.steps)) (law.between k at (taken_short s scripted n.steps none k at));
+      moment = λ k at e writes.
+          let m : Moment = record { steps = take k n.steps; settling = at; event = e; writes = writes } in
+          let w = world_between no_limits s (take k n.steps) at in
+          safe_world s (world_at no_limits s m) (settled_at no_limits s m)
+          (law.moment k at e writes (written_short s w writes (planned s w e) (taken_short s scripted n.steps none k at)));
+    }
+
+-- nothing due is forgotten
+pub always_kept : (n : Script) → IsAlwaysKept n
+always_kept n = λ k at. (kept_between n.setup).between no_limits (take k n.steps) at
 
 -- behind each step that settles all has come over
-pub always_settled : (n : Script) → IsScripted n.setup → IsAlwaysSettled n
-always_settled n scripted es fs is short =
-    let s = n.setup in let same = run_settled s es in
+pub always_settled : (n : Script) → IsScripted n.setup → passed_limit n ≡ None → IsAlwaysSettled n
+always_settled n scripted none es fs is =
+    let s = n.setup in
+    let same = run_settled s es in
+    let parted : n.steps ≡ (es ++ step.Settle ∷ []) ++ fs = is ∙ sym (append_assoc es (step.Settle ∷ []) fs) in
+    let short : IsShort (run s (es ++ step.Settle ∷ [])) = part_short s scripted n.steps (es ++ step.Settle ∷ []) fs parted none NotBegun in
     let law : BetweenEvents s (λ w. IsShort (after_settling s w) → SettlesAll s w) = budget_always.complete s scripted in
     subst (AllCameOver s) (sym same) (law.run es (subst IsShort same short))

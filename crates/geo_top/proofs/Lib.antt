@@ -4,10 +4,13 @@ pub mod Lines
 pub mod Shown
 pub mod Finishing
 pub mod Quiet
+pub mod FewSent
+pub mod Held
+pub mod Waiting
+pub mod Energy
+pub mod FewEvents
+pub mod ShortSettling
 pub mod Headline
-pub mod Answering
-pub mod GoingOut
-pub mod Founding
 pub mod Stopping
 pub mod Loaded
 pub mod Resuming
@@ -15,4 +18,8 @@ pub mod Saving
 pub mod SavedWith
 pub mod OneRun
 pub mod Still
-pub mod GoingOn
+pub mod Causing
+pub mod Answering
+pub mod GoingOut
+pub mod Answered
+pub mod Inputs

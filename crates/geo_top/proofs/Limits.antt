@@ -69,6 +69,9 @@ only_limit s es = only_limit_from s (record { world = opening_world s; ended = N
 pub never_ends : (s : Setup) (es : List Step) → (run_under no_limits s es).ended ≡ None
 never_ends s es = steps_with (λ (o : Option ℕ). o ≡ None) no_limits refl (λ w. refl) s (record { world = opening_world s; ended = None }) es refl
 
+pub never_ends_from : (s : Setup) (w : World) (es : List Step) → (run_from no_limits s (record { world = w; ended = None }) es).ended ≡ None
+never_ends_from s w es = steps_with (λ (o : Option ℕ). o ≡ None) no_limits refl (λ w. refl) s (record { world = w; ended = None }) es refl
+
 -- ---- a run that has not ended is the run without limits
 
 abbrev Follows : Ran → Ran → Type 0
@@ -156,6 +159,19 @@ step_same l s r q (step.Plain e) h = goes_same l (λ (w : World). happens s w e)
 step_same l s r q (step.Halt n e) h = goes_same l (λ (w : World). halts_planned s w n (planned s w e)) r q h
 step_same l s r q step.Settle h = settled_same l s r q h
 step_same l s r q step.Stop h = goes_same l (λ (w : World). stops s w) r q h
+
+step_back : (l : Limits) (s : Setup) (r : Ran) (e : Step) → (steps l s r e).ended ≡ None → r.ended ≡ None
+unfolding steps settled_world
+step_back l s r (step.Plain e) none = goes_back l r (happens s r.world e) none
+step_back l s r (step.Halt n e) none = goes_back l r (halts_planned s r.world n (planned s r.world e)) none
+step_back l s r step.Settle none =
+    settle_back l s r (resets_of (pairs s)) (rounds_back (budget s r.world + 1) l s (all_settle l s r (resets_of (pairs s))) none)
+step_back l s r step.Stop none = goes_back l r (stops s r.world) none
+
+-- a run that has not ended did not end before
+pub steps_back : (l : Limits) (s : Setup) (r : Ran) (es : List Step) → (run_from l s r es).ended ≡ None → r.ended ≡ None
+steps_back l s r [] none = none
+steps_back l s r (e ∷ es) none = step_back l s r e (steps_back l s (steps l s r e) es none)
 
 steps_same : (l : Limits) (s : Setup) (r q : Ran) (es : List Step) → Follows r q → Follows (run_from l s r es) (run_from no_limits s q es)
 steps_same l s r q [] h = h

@@ -1,6 +1,6 @@
 -- A run that goes on from its state file is one run.
 use Rattle.std.proofs.Common.{◌≡◌, ℕ, suc, ◌+◌, ◌<◌, arith, List, [], ◌∷◌, ◌++◌, length, Result, Ok, Err, refl, sym, ap, subst, ◌∙◌}
-use Rattle.std.specs.Prelude.{Option, None, map, replicate, slice_index_or}
+use Rattle.std.specs.Prelude.{Option, Some, None, map, replicate, slice_index_or}
 use Rattle.geo_base.specs.declared.change.Change.TheVariants as change
 use Rattle.geo_base.specs.declared.event.Step.{Step}
 use Rattle.geo_base.specs.declared.event.Step.TheVariants as step
@@ -23,8 +23,10 @@ use Rattle.world_laws.specs.AlikeWorlds.{LawResumed, RunsAlike, kept_behind}
 use Rattle.world_laws.specs.Reached.{LawReached}
 use Rattle.world_laws.specs.Starts.{IsStart, resumed_world}
 use Rattle.geo_top.specs.declared.top.answer.Answer.{Answer}
-use Rattle.geo_top.specs.OneRun.{IsGoneOn, IsKept, IsSavedWith, IsTextOn, text_on}
-use Rattle.geo_top.specs.Outputs.{IsAnswerToFile, answer_to, answer_to_resumed, answer_to_run, passed_limit, report_of, resumed_report, unless_passed}
+use Rattle.geo_top.specs.declared.top.command.Shown.TheVariants as shown
+use Rattle.geo_top.specs.declared.top.status.Status.TheVariants as status
+use Rattle.geo_top.specs.OneRun.{IsGoneOn, IsKept, IsSavedWith, IsTextOn, counted_on, lines_before, text_on}
+use Rattle.geo_top.specs.Outputs.{IsAnswerToFile, answer_to, answer_to_resumed, answer_to_run, passed_limit, refused, report_of, resumed_limit, resumed_report, unless_passed}
 use Rattle.geo_top.specs.States.{resumed_under, state_of_run, stopped}
 use Rattle.geo_top.proofs.Limits.{unlimited}
 use Rattle.geo_top.proofs.SavedWith.{answer_is}
@@ -65,7 +67,7 @@ reports_same law n es kept =
     ap (λ (w : World). report s (run_from no_limits s (begun w) es).world) kept ∙ sym (law.reports s (run s (n.steps ++ step.Stop ∷ es)) (run_from no_limits s (begun (kept_behind s n.steps)) es).world (law.script s n.steps es))
 
 -- and the same limit
-limits_same : (law : LawResumed) (n : Script) (es : List Step) → IsStart n.setup (opening_world n.setup) → world_from (state_of_run n) ≡ kept_behind n.setup n.steps → passed_limit (stopped n) ≡ None → (resumed_under all_limits (state_of_run n) es).ended ≡ (run_under all_limits n.setup (n.steps ++ step.Stop ∷ es)).ended
+pub limits_same : (law : LawResumed) (n : Script) (es : List Step) → IsStart n.setup (opening_world n.setup) → world_from (state_of_run n) ≡ kept_behind n.setup n.steps → passed_limit (stopped n) ≡ None → (resumed_under all_limits (state_of_run n) es).ended ≡ (run_under all_limits n.setup (n.steps ++ step.Stop ∷ es)).ended
 limits_same law n es start kept none =
     let s = n.setup in
     let there = run_from all_limits s (begun (opening_world s)) (n.steps ++ step.Stop ∷ []) in
@@ -73,7 +75,7 @@ limits_same law n es start kept none =
     let alike : RunsAlike (run_from all_limits s (begun (opening_world s)) (n.steps ++ step.Stop ∷ es)) (run_from all_limits s (begun (resumed_world s there.world)) es) = law.goes_on all_limits s law.limits.1 (opening_world s) start n.steps es none in
     ap (λ (w : World). (run_from all_limits s (begun w) es).ended) kept ∙ (ap (λ (w : World). (run_from all_limits s (begun (resumed_world s w)) es).ended) (sym same) ∙ sym alike.ended)
 
-pub answers_same : (law : LawResumed) (n m : Script) (es : List Step) → IsStart n.setup (opening_world n.setup) → world_from (state_of_run n) ≡ kept_behind n.setup n.steps → IsKept n → IsGoneOn n es m → answer_to_resumed (state_of_run n) (Ok es) ≡ answer_to_run m (passed_limit m)
+pub answers_same : (law : LawResumed) (n m : Script) (es : List Step) → IsStart n.setup (opening_world n.setup) → world_from (state_of_run n) ≡ kept_behind n.setup n.steps → IsKept n → IsGoneOn n es m → answer_to_resumed (state_of_run n) (Ok es) ≡ answer_to_run shown.Report m (passed_limit m)
 answers_same law n m es start kept k is =
     let whole : report n.setup (run n.setup (n.steps ++ step.Stop ∷ es)) ≡ report_of m = ap (λ (s : _). report s (run s (n.steps ++ step.Stop ∷ es))) (sym is.0) ∙ ap (λ (fs : List Step). report m.setup (run m.setup fs)) (sym is.1) in
     let limit : (run_under all_limits n.setup (n.steps ++ step.Stop ∷ es)).ended ≡ passed_limit m = ap (λ (s : _). (run_under all_limits s (n.steps ++ step.Stop ∷ es)).ended) (sym is.0) ∙ ap (λ (fs : List Step). (run_under all_limits m.setup fs).ended) (sym is.1) in
@@ -102,9 +104,40 @@ text_is text lines n k is =
 -- ---- the file
 pub files_same : (law : LawResumed) (text lines input : List ℕ) (n : Script) (es : List Step) (a : Answer) → IsStart n.setup (opening_world n.setup)
     → world_from (state_of_run n) ≡ kept_behind n.setup n.steps → script_of (text ++ 10 ∷ []) ≡ Ok n → IsSavedWith n lines input → schedule_of n.setup lines ≡ Ok es → IsAnswerToFile input a
-    → a ≡ answer_to (script_of (text_on text lines))
+    → a ≡ answer_to shown.Report (script_of (text_on text lines))
 files_same law text lines input n es a start kept is k said answer =
     let on = (text_is text lines n k.kept is).accepted es said in
     let own : a ≡ answer_to_resumed (state_of_run n) (schedule_of n.setup lines) = answer_is n lines input a k answer in
-    let goes : answer_to_resumed (state_of_run n) (Ok es) ≡ answer_to_run on.0 (passed_limit on.0) = answers_same law n on.0 es start kept k.kept on.2 in
-    own ∙ (ap (answer_to_resumed (state_of_run n)) said ∙ (goes ∙ sym (ap answer_to on.1)))
+    let goes : answer_to_resumed (state_of_run n) (Ok es) ≡ answer_to_run shown.Report on.0 (passed_limit on.0) = answers_same law n on.0 es start kept k.kept on.2 in
+    own ∙ (ap (answer_to_resumed (state_of_run n)) said ∙ (goes ∙ sym (ap (answer_to shown.Report) on.1)))
+
+-- an answer that refuses no line is the same behind other lines
+counted_passed : (before : ℕ) (bytes : List ℕ) (o : Option ℕ) → counted_on before (unless_passed bytes o) (unless_passed bytes o).status ≡ unless_passed bytes o
+counted_passed before bytes None = refl
+counted_passed before bytes (Some limit) = refl
+
+-- so it is of a line that is refused, by its number there
+pub counted_same : (law : LawResumed) (text lines input : List ℕ) (n : Script) (a : Answer) → IsStart n.setup (opening_world n.setup)
+    → world_from (state_of_run n) ≡ kept_behind n.setup n.steps → script_of (text ++ 10 ∷ []) ≡ Ok n → IsSavedWith n lines input → IsAnswerToFile input a
+    → counted_on (lines_before text) a a.status ≡ answer_to shown.Report (script_of (text_on text lines))
+counted_same law text lines input n a start kept is k answer = by (schedule_of n.setup lines) refl
+  where
+    own : a ≡ answer_to_resumed (state_of_run n) (schedule_of n.setup lines)
+    own = answer_is n lines input a k answer
+
+    Counted : Answer → Type 0
+    Counted d = counted_on (lines_before text) a a.status ≡ counted_on (lines_before text) d d.status
+
+    as_counted : (d : Answer) → a ≡ d → Counted d
+    as_counted d e = ap (λ (d : Answer). counted_on (lines_before text) d d.status) e
+
+    by : (r : Result (List Step) Fault) → schedule_of n.setup lines ≡ r → counted_on (lines_before text) a a.status ≡ answer_to shown.Report (script_of (text_on text lines))
+    by (Ok es) said =
+        let f = state_of_run n in
+        let d = answer_to_resumed f (Ok es) in
+        let here : a ≡ d = own ∙ ap (answer_to_resumed f) said in
+        as_counted d here ∙ (counted_passed (lines_before text) (resumed_report f es) (resumed_limit f es) ∙ (sym here ∙ files_same law text lines input n es a start kept is k said answer))
+    by (Err f) said =
+        let d = refused (status.BadScript f.line f.rule) in
+        let here : a ≡ d = own ∙ ap (answer_to_resumed (state_of_run n)) said in
+        as_counted d here ∙ sym (ap (answer_to shown.Report) ((text_is text lines n k.kept is).refused f said))

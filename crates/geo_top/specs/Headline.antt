@@ -1,13 +1,14 @@
 -- The headline: what is claimed of the messages of a script, at every moment of its run, and behind each step that settles.
-use Rattle.std.specs.Prelude.{◌≡◌, ◌⊎◌, ℕ, ◌<◌, true, false, List, [], ◌∷◌, ◌++◌, length}
+use Rattle.std.specs.Prelude.{◌≡◌, ◌⊎◌, ℕ, ◌<◌, true, false, List, [], ◌∷◌, ◌++◌, length, take}
 use Rattle.geo_base.specs.declared.entry.Entry.{Entry}
 use Rattle.geo_base.specs.declared.event.Step.{Step}
 use Rattle.geo_base.specs.declared.event.Step.TheVariants as step
 use Rattle.geo_base.specs.Cursor.{has}
 use Rattle.geo_base.specs.Entry.{is_data}
-use Rattle.geo_base.specs.Laws.{AlwaysIn, ArePair, IsComplete, IsShort}
-use Rattle.geo_base.specs.Run.{run}
-use Rattle.geo_base.specs.Safe.{AllOnce, IsEntry, IsSub, OnlySettled}
+use Rattle.geo_base.specs.Laws.{AlwaysIn, ArePair, IsComplete}
+use Rattle.geo_base.specs.Moments.{Settling, world_between}
+use Rattle.geo_base.specs.Run.{no_limits, run}
+use Rattle.geo_base.specs.Safe.{AllOnce, IsEntry, IsSub, NothingForgotten, OnlySettled}
 use Rattle.geo_base.specs.Settled.{IsSettled, SettledSoFar}
 use Rattle.geo_base.specs.Setup.{Setup}
 use Rattle.geo_base.specs.Subscription.{Subscription}
@@ -35,17 +36,21 @@ pub record IsSafe (s : Setup) (w : World) (settled : SettledSoFar) : Type 0 wher
   pub acknowledged : OnlySettled s w settled
   pub messages : NothingIsLost s w settled
 
--- always in the run of a script, of which each world has fewer than 2^62 events: an accepted script's run has at most 2,000,000
+-- always in the run of a script
 abbrev pub IsAlwaysSafe : Script → Type 0
-IsAlwaysSafe n = AlwaysIn n.setup n.steps (λ w settled. IsShort w → IsSafe n.setup w settled)
+IsAlwaysSafe n = AlwaysIn n.setup n.steps (λ w settled. IsSafe n.setup w settled)
+
+-- Between any two of its events, also inside settling, nothing that is due on a subscription is forgotten: what stands in its backlog
+-- is out with a consumer that is attached, due again or still to be read, and what is acknowledged is neither out nor due again. (In
+-- the midst of an event it need not be so, since memory changes behind the durable writes.)
+abbrev pub IsAlwaysKept : Script → Type 0
+IsAlwaysKept n = (k : ℕ) (at : Settling) → NothingForgotten (world_between no_limits n.setup (take k n.steps) at)
 
 -- all has come over: for every topic and every two clusters, the sender of the one to the other is open and has acknowledged every
 -- index of its topic, and the other has, in order, all that the one stored first and has for it
 abbrev pub AllCameOver : Setup → World → Type 0
 AllCameOver s w = (t x y : ℕ) → t < length s.topics → ArePair s x y → IsComplete s w t x y
 
--- so it is behind each step of a script that settles, where the run has had fewer than 2^62 events by then: an accepted script's run
--- has at most 2,000,000
+-- so it is behind each step of a script that settles
 abbrev pub IsAlwaysSettled : Script → Type 0
-IsAlwaysSettled n = (es fs : List Step) → n.steps ≡ es ++ step.Settle ∷ fs
-    → let w = run n.setup (es ++ step.Settle ∷ []) in IsShort w → AllCameOver n.setup w
+IsAlwaysSettled n = (es fs : List Step) → n.steps ≡ es ++ step.Settle ∷ fs → AllCameOver n.setup (run n.setup (es ++ step.Settle ∷ []))

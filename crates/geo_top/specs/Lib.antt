@@ -5,5 +5,8 @@ pub mod Shown
 pub mod Summary
 pub mod States
 pub mod Outputs
+pub mod Causes
 pub mod Finished
 pub mod OneRun
+pub mod Answered
+pub mod Founded

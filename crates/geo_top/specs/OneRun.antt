@@ -1,9 +1,9 @@
 -- A run that goes on from its state file is one run.
-use Rattle.std.specs.Prelude.{◌≡◌, ℕ, ◌+◌, ◌≤◌, List, [], ◌∷◌, ◌++◌, length, None, Ok, Err, codes}
+use Rattle.std.specs.Prelude.{◌≡◌, ℕ, ◌+◌, ◌≤◌, List, [], ◌∷◌, ◌++◌, length, take, None, Ok, Err, codes}
 use Rattle.geo_base.specs.declared.event.Step.{Step}
 use Rattle.geo_base.specs.declared.event.Step.TheVariants as step
-use Rattle.geo_base.specs.Laws.{IsShort}
-use Rattle.geo_base.specs.Safe.{AllOnce}
+use Rattle.geo_base.specs.Moments.{Settling}
+use Rattle.geo_base.specs.Safe.{AllOnce, NothingForgotten}
 use Rattle.geo_base.specs.Settled.{SettledSoFar}
 use Rattle.geo_base.specs.World.{World}
 use Rattle.state_laws.specs.Saved.{world_from}
@@ -12,10 +12,13 @@ use Rattle.script_text.specs.Rules.{script_of}
 use Rattle.script_text.specs.Scenario.{IsScenario}
 use Rattle.script_text.specs.Schedule.{schedule_of}
 use Rattle.script_text.specs.Script.{Fault, Script}
-use Rattle.world_laws.specs.AlikeWorlds.{AlwaysOn}
+use Rattle.world_laws.specs.AlikeWorlds.{AlwaysOn, world_on}
 use Rattle.geo_top.specs.declared.top.answer.Answer.{Answer}
+use Rattle.geo_top.specs.declared.top.command.Shown.TheVariants as shown
+use Rattle.geo_top.specs.declared.top.status.Status.{Status}
+use Rattle.geo_top.specs.declared.top.status.Status.TheVariants as status
 use Rattle.geo_top.specs.Headline.{AllCameOver, IsSafe}
-use Rattle.geo_top.specs.Outputs.{IsAnswerToFile, answer_to, answer_to_resumed, answer_to_run, passed_limit}
+use Rattle.geo_top.specs.Outputs.{IsAnswerToFile, answer_to, answer_to_resumed, answer_to_run, passed_limit, refused}
 use Rattle.geo_top.specs.States.{file_of, resumed, state_of_run, stopped}
 
 -- a script whose run and a stop behind it pass no limit, so that its state can be saved
@@ -38,11 +41,13 @@ abbrev pub IsStillOnce : Script → List Step → Type 0
 IsStillOnce n es = AlwaysBehind n es (λ w settled. AllOnce w)
 
 abbrev pub IsStillSafe : Script → List Step → Type 0
-IsStillSafe n es = AlwaysBehind n es (λ w settled. IsShort w → IsSafe n.setup w settled)
+IsStillSafe n es = AlwaysBehind n es (λ w settled. IsSafe n.setup w settled)
+
+abbrev pub IsStillKept : Script → List Step → Type 0
+IsStillKept n es = (k : ℕ) (at : Settling) → NothingForgotten (world_on n.setup (world_from (state_of_run n)) (take k es) at)
 
 abbrev pub IsStillSettled : Script → List Step → Type 0
-IsStillSettled n es = (fs gs : List Step) → es ≡ fs ++ step.Settle ∷ gs
-    → let w = resumed (state_of_run n) (fs ++ step.Settle ∷ []) in IsShort w → AllCameOver n.setup w
+IsStillSettled n es = (fs gs : List Step) → es ≡ fs ++ step.Settle ∷ gs → AllCameOver n.setup (resumed (state_of_run n) (fs ++ step.Settle ∷ []))
 
 -- ---- the same answer
 -- the script with a stop behind its steps, and more behind that
@@ -52,18 +57,22 @@ IsGoneOn n es m = (m.setup ≡ n.setup) × (m.steps ≡ n.steps ++ step.Stop ∷
 -- what `resume` answers to steps behind the state of a run, `run` answers to the script with a stop and these steps behind its own
 abbrev pub AnswersAlike : Type 0
 AnswersAlike = (n m : Script) (es : List Step) → IsKept n → IsGoneOn n es m
-    → answer_to_resumed (state_of_run n) (Ok es) ≡ answer_to_run m (passed_limit m)
+    → answer_to_resumed (state_of_run n) (Ok es) ≡ answer_to_run shown.Report m (passed_limit m)
 
 -- the lines of a script, a line that stops everything, and these bytes
 abbrev pub text_on : List ℕ → List ℕ → List ℕ
 text_on text lines = text ++ 10 ∷ (codes "stop" ++ 10 ∷ lines)
+
+-- the lines that stand before the further ones: those of the script, and the stop
+abbrev pub lines_before : List ℕ → ℕ
+lines_before text = length (lines_of (text ++ 10 ∷ [])) + 1
 
 -- which the text with these lines is; and where one of them breaks a rule there, it breaks it behind the state too
 pub record IsTextOn (text lines : List ℕ) (n : Script) : Type 0 where
   pub accepted : (es : List Step) → schedule_of n.setup lines ≡ Ok es
       → (m : Script) × (script_of (text_on text lines) ≡ Ok m) × IsGoneOn n es m
   pub refused : (f : Fault) → schedule_of n.setup lines ≡ Err f
-      → script_of (text_on text lines) ≡ Err (record { line = length (lines_of (text ++ 10 ∷ [])) + 1 + f.line; rule = f.rule })
+      → script_of (text_on text lines) ≡ Err (record { line = lines_before text + f.line; rule = f.rule })
 
 abbrev pub TextsAlike : Type 0
 TextsAlike = (text lines : List ℕ) (n : Script) → IsKept n → script_of (text ++ 10 ∷ []) ≡ Ok n → IsTextOn text lines n
@@ -71,4 +80,9 @@ TextsAlike = (text lines : List ℕ) (n : Script) → IsKept n → script_of (te
 -- so what `resume` answers to the file that `save` wrote, with lines behind it, `run` answers to that text
 abbrev pub FilesAlike : Type 0
 FilesAlike = (text lines input : List ℕ) (n : Script) (es : List Step) (a : Answer) → script_of (text ++ 10 ∷ []) ≡ Ok n
-    → IsSavedWith n lines input → schedule_of n.setup lines ≡ Ok es → IsAnswerToFile input a → a ≡ answer_to (script_of (text_on text lines))
+    → IsSavedWith n lines input → schedule_of n.setup lines ≡ Ok es → IsAnswerToFile input a → a ≡ answer_to shown.Report (script_of (text_on text lines))
+
+-- an answer to lines that stand behind so many others: a line that is refused has a greater number there
+abbrev pub counted_on : ℕ → Answer → Status → Answer
+counted_on before a (status.BadScript line rule) = refused (status.BadScript (before + line) rule)
+counted_on before a s = a

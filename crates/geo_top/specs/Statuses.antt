@@ -27,6 +27,13 @@ refusal_line status.OutOfMemory = []
 refusal_line (status.BadState offset rule) = codes "bad state at " ++ (decimal offset ++ (codes " rule " ++ (decimal rule ++ 10 ∷ [])))
 refusal_line (status.StateVersion number) = codes "bad state version " ++ (decimal number ++ 10 ∷ [])
 
+-- neither source nor sink nor memory failed
+abbrev pub IsMade : Status → Type 0
+IsMade status.ReadFault = ⊥
+IsMade status.WriteFault = ⊥
+IsMade status.OutOfMemory = ⊥
+IsMade s = ⊤
+
 -- a status is the one that is due, unless the source, the sink or memory failed
 abbrev pub IsDue : Status → Status → Type 0
 IsDue due status.ReadFault = ⊤

@@ -1,7 +1,7 @@
 //! The program: from the words of a command line and the bytes of a script to the bytes of a report.
 //!
-//! [`geo_alone`] is the program as one call: it reads a script or a state file from a source, has `geo_world` do the run, makes the
-//! whole output in memory, and writes it to a sink.
+//! [`answer`] is the program as one call over bytes: what it answers to words and an input, a script or a state file, whose run
+//! `geo_world` does. [`geo_alone`] reads the input from a source, and writes what is answered to a sink.
 #![tactic(auto)]
 
 mod law;
@@ -12,5 +12,7 @@ mod world_report;
 
 pub use law::resumed_runs_are_one;
 pub use top::alone::geo_alone;
+pub use top::answer::Answer;
+pub use top::bytes::answer;
 pub use top::command::Word;
 pub use top::status::Status;

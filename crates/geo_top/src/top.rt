@@ -1,6 +1,8 @@
-//! The program, as one call over a source and a sink.
+//! The program, as one call over bytes, and as one over a source and a sink.
 pub mod alone;
 pub mod answer;
+pub mod bytes;
 pub mod command;
+pub mod scripts;
 pub mod states;
 pub mod status;

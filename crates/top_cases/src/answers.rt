@@ -2,7 +2,7 @@
 ghost use Rattle.std.specs.Prelude.{◌<◌};
 
 use geo_io::{MemSink, MemSource};
-use geo_top::{Status, Word, geo_alone};
+use geo_top::{Status, Word, answer, geo_alone};
 use std::alloc::Global;
 use std::test::Fail;
 
@@ -70,6 +70,28 @@ fn bad_scripts_are_refused_at_their_first_bad_line(rt: HostRuntime) -> Result<()
         assert_eq!(rt; status.number(), 3);
         assert_eq!(rt; sink.bytes(), line);
     }
+    Ok(())
+}
+
+/// The call over bytes answers the report of a script that declares alone, and the line of one that breaks a rule.
+#[test]
+fn bytes_are_answered(rt: HostRuntime) -> Result<(), Fail> {
+    let words = vec![in rt.alloc(); Word::from_str(rt.alloc(), "run")?]?;
+    let declared = answer(rt.alloc(), words.as_slice(), DECLARATIONS)?;
+    assert_eq!(rt; declared.status, Status::Ok);
+    assert_eq!(rt;
+        declared.bytes.as_slice(),
+        b"events 0 idle 0 rounds 0\n\
+topic t at a\nsender b session 0 closed mark 0\ntopic t at b\nsender a session 0 closed mark 0\n\
+client p at a lines 0/2 receipts 0 duplicates 0 errors 0\n"
+            .as_slice()
+    );
+    let refused = answer(rt.alloc(), words.as_slice(), b"geo 1\ncluster a")?;
+    assert_eq!(rt; refused.status, Status::BadScript { line: 2, rule: 1 });
+    assert_eq!(rt;
+        refused.bytes.as_slice(),
+        b"bad script line 2 rule 1\n".as_slice()
+    );
     Ok(())
 }
 

@@ -1,6 +1,6 @@
 //! The commands of the program.
 ghost use Rattle.std.specs.Prelude.{◌≡◌};
-ghost use Rattle.geo_top.specs.Commands.{alone_of, big_of, command_of, most_number};
+ghost use Rattle.geo_top.specs.Commands.{alone_of, big_of, command_of, has_input, most_number};
 ghost use Rattle.script_names.specs.Numbers.{number_of};
 
 use geo_base::Text;
@@ -15,12 +15,8 @@ const MOST_NUMBER: u64 = 4_294_967_295;
 /// What the program can be asked to do.
 #[derive(Clone, Copy, Debug, Drop, PartialEq, Eq)]
 pub enum Command {
-    /// Run a script, and report.
-    Run,
-    /// Run a script, stop everything, and write the state file of what is left.
-    Save,
-    /// Go on from a state file with the steps behind it, and report.
-    Resume,
+    /// Read an input, and do something with it.
+    Reads(Reading),
     /// Do the run that a number generates, and sum it up.
     Big(u32),
 }
@@ -28,12 +24,19 @@ pub enum Command {
 /// What is done with an input.
 #[derive(Clone, Copy, Debug, Drop, PartialEq, Eq)]
 pub enum Reading {
-    /// A script is run.
-    Run,
-    /// A script is run, and its state saved.
+    /// A script is run, and something of its run is shown.
+    Script(Shown),
+    /// A script is run, everything is stopped, and the state file of what is left is written.
     Save,
-    /// A run goes on from a state.
+    /// A run goes on from a state file with the steps behind it, and is reported.
     Resume,
+}
+
+/// What is shown of the run of a script.
+#[derive(Clone, Copy, Debug, Drop, PartialEq, Eq)]
+pub enum Shown {
+    /// Its report.
+    Report,
 }
 
 impl Command {
@@ -48,17 +51,24 @@ impl Command {
         }
     }
 
+    /// Whether words have an input.
+    pub fn has_input(words: &[Word]) -> bool
+        ensures { result ≡ has_input (command_of words.now) }
+    {
+        matches!(Command::read(words), Some(Command::Reads(_)))
+    }
+
     /// The command of a word that stands alone.
     fn alone(word: &Word) -> Option<Command>
         ensures { result ≡ alone_of word.now }
     {
         let bytes = word.as_bytes();
         if bytes == b"run".as_slice() {
-            Some(Command::Run)
+            Some(Command::Reads(Reading::Script(Shown::Report)))
         } else if bytes == b"save".as_slice() {
-            Some(Command::Save)
+            Some(Command::Reads(Reading::Save))
         } else if bytes == b"resume".as_slice() {
-            Some(Command::Resume)
+            Some(Command::Reads(Reading::Resume))
         } else {
             None
         }

@@ -1,6 +1,7 @@
 //! The answers of the two commands on state files.
 ghost use Rattle.std.specs.Prelude.{◌≡◌, ◌<◌, ◌≤◌, ◌^◌, All, IfOk, OnOk, Ok, drop, length};
-ghost use Rattle.geo_top.specs.Outputs.{IsAccepted, IsAnswerToFile, answer_to_resumed, answer_to_save, answer_to_saved};
+ghost use Rattle.geo_top.specs.Founded.{IsAccepted};
+ghost use Rattle.geo_top.specs.Outputs.{IsAnswerToFile, answer_to_resumed, answer_to_save, answer_to_saved};
 ghost use Rattle.script_text.specs.Rules.{script_of};
 ghost use Rattle.script_text.specs.Scenario.{IsStep};
 ghost use Rattle.script_text.specs.Schedule.{schedule_of};
@@ -8,7 +9,8 @@ ghost use Rattle.state_file.specs.Known.{IsKnownState};
 ghost use Rattle.state_file.specs.State.{state_of};
 
 use crate::run::{resume, save_script};
-use crate::top::answer::{Answer, refusal, report};
+use crate::top::answer::{Answer, refusal};
+use crate::top::scripts::report;
 use crate::top::status::Status;
 use geo_base::Memory;
 use geo_base::limits::INPUT_BYTES;

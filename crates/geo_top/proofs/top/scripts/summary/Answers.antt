@@ -1,5 +1,5 @@
 use Rattle.geo_top.proofs.Shown.{shown_summary}
-use Rattle.geo_top.proofs.top.answer.summary.Goals as goal
+use Rattle.geo_top.proofs.top.scripts.summary.Goals as goal
 
 pub returns : goal.returns
 returns c =

@@ -1,0 +1,157 @@
+-- What the status of an answer tells: its cause, and that a refusal is its line.
+use Rattle.std.proofs.lemmas.Bool.{ltb-true}
+use Rattle.std.proofs.Common.{◌≡◌, ◌≢◌, ℕ, Bool, true, false, List, refl, sym, subst, inl, inr}
+use Rattle.std.specs.Prelude.{Option, Some, None, Result, Ok, Err, IsOkAnd, length, drop, nat_lt, ⊤}
+use Rattle.geo_base.specs.declared.event.Step.{Step}
+use Rattle.script_text.specs.Rules.{script_of}
+use Rattle.script_text.specs.Schedule.{schedule_of}
+use Rattle.script_text.specs.Script.{Fault, Script}
+use Rattle.state_file.specs.Loading.{IsLoaded, Loaded, bad_state, version}
+use Rattle.state_file.specs.State.{SavedState}
+use Rattle.geo_top.specs.declared.top.answer.Answer.{Answer}
+use Rattle.geo_top.specs.declared.top.command.Command.{Command}
+use Rattle.geo_top.specs.declared.top.command.Command.TheVariants as command
+use Rattle.geo_top.specs.declared.top.command.Reading.{Reading}
+use Rattle.geo_top.specs.declared.top.command.Reading.TheVariants as reading
+use Rattle.geo_top.specs.declared.top.command.Shown.{Shown}
+use Rattle.geo_top.specs.declared.top.status.Status.{Status}
+use Rattle.geo_top.specs.declared.top.status.Status.TheVariants as status
+use Rattle.geo_top.specs.Causes.{HasBadLine, HasBadState, IsPassed, RunPasses}
+use Rattle.geo_top.specs.Commands.{command_showing}
+use Rattle.geo_top.specs.Outputs.{IsAnswerFor, IsAnswerToBytes, UnlessLarge, answer_to, answer_to_generated, answer_to_loaded, answer_to_resumed, answer_to_save, output_of, passed_limit, resumed_limit, resumed_report, summary_of, unless_passed}
+use Rattle.geo_top.specs.States.{file_of, stopped}
+use Rattle.geo_top.specs.Statuses.{IsMade, refusal_line}
+use Rattle.schedule_gen.specs.Generated.{generated_run}
+use Rattle.geo_top.proofs.Limits.{IsOnlyLimit, only_limit, only_limit_from}
+
+-- by a status: which words and which input it had for its cause
+abbrev pub IsCaused : Option Command → List ℕ → Status → Type 0
+IsCaused c input status.Ok = c ≢ None
+IsCaused c input status.Usage = c ≡ None
+IsCaused c input (status.BadScript line rule) = HasBadLine c input (record { line = line; rule = rule })
+IsCaused c input status.ReadFault = ⊥
+IsCaused c input (status.TooLarge limit) = IsPassed c input limit
+IsCaused c input status.WriteFault = ⊥
+IsCaused c input status.OutOfMemory = ⊥
+IsCaused c input (status.BadState offset rule) = HasBadState c input (bad_state offset rule)
+IsCaused c input (status.StateVersion number) = HasBadState c input (version number)
+
+some_command : (c : Command) → Some c ≢ None
+some_command c e = cc e
+
+ok_with : {T E : Type 0} (r : Result T E) (t : T) (P : T → Type 0) → r ≡ Ok t → P t → IsOkAnd r P
+ok_with r t P is p = subst (λ (x : Result _ _). IsOkAnd x P) (sym is) p
+
+-- an output, or a limit that was passed
+caused_passed : (r : Reading) (input bytes : List ℕ) (o : Option ℕ) → IsOnlyLimit o → ((limit : ℕ) → o ≡ Some limit → RunPasses r input limit)
+    → IsCaused (Some (command.Reads r)) input (unless_passed bytes o).status
+caused_passed r input bytes None only passes = some_command (command.Reads r)
+caused_passed r input bytes (Some limit) only passes = inr (only, passes limit refl)
+
+caused_script : (v : Shown) (input : List ℕ) (r : Result Script Fault) → script_of input ≡ r → IsCaused (Some (command_showing v)) input (answer_to v r).status
+caused_script v input (Ok m) script =
+    caused_passed (reading.Script v) input (output_of v m) (passed_limit m) (only_limit m.setup m.steps)
+    (λ limit passed. ok_with (script_of input) m (λ n. passed_limit n ≡ Some limit) script passed)
+caused_script v input (Err f) script = script
+
+caused_save : (input : List ℕ) (r : Result Script Fault) → script_of input ≡ r → IsCaused (Some (command.Reads reading.Save)) input (answer_to_save r).status
+caused_save input (Ok m) script =
+    caused_passed reading.Save input (file_of m) (passed_limit (stopped m)) (only_limit m.setup (stopped m).steps)
+    (λ limit passed. ok_with (script_of input) m (λ n. passed_limit (stopped n) ≡ Some limit) script passed)
+caused_save input (Err f) script = script
+
+caused_steps : (input : List ℕ) (g : SavedState) (used : ℕ) (r : Result (List Step) Fault) → IsLoaded input (Ok (g, used)) → schedule_of g.scenario.setup (drop used input) ≡ r
+    → IsCaused (Some (command.Reads reading.Resume)) input (answer_to_resumed g r).status
+caused_steps input g used (Ok es) loaded is =
+    caused_passed reading.Resume input (resumed_report g es) (resumed_limit g es) (only_limit_from g.scenario.setup _ es refl)
+    (λ limit passed. (g, used, loaded, ok_with (schedule_of g.scenario.setup (drop used input)) es (λ fs. resumed_limit g fs ≡ Some limit) is passed))
+caused_steps input g used (Err e) loaded is = (g, used, loaded, is)
+
+caused_resume : (input : List ℕ) (l : Loaded) → IsLoaded input l → IsCaused (Some (command.Reads reading.Resume)) input (answer_to_loaded input l).status
+caused_resume input (Ok x) loaded = caused_steps input x.0 x.1 (schedule_of x.0.scenario.setup (drop x.1 input)) loaded refl
+caused_resume input (Err (bad_state offset rule)) loaded = (refl, loaded)
+caused_resume input (Err (version number)) loaded = (refl, loaded)
+
+caused_bytes : (r : Reading) (input : List ℕ) (a : Answer) → IsAnswerToBytes r input a → IsCaused (Some (command.Reads r)) input a.status
+caused_bytes (reading.Script v) input a is =
+    subst (λ (a : Answer). IsCaused (Some (command_showing v)) input a.status) (sym is) (caused_script v input (script_of input) refl)
+caused_bytes reading.Save input a is =
+    subst (λ (a : Answer). IsCaused (Some (command.Reads reading.Save)) input a.status) (sym is) (caused_save input (script_of input) refl)
+caused_bytes reading.Resume input a is =
+    subst (λ (a : Answer). IsCaused (Some (command.Reads reading.Resume)) input a.status) (sym is.2) (caused_resume input is.0 is.1)
+
+caused_input : (t : Bool) (r : Reading) (input : List ℕ) (a : Answer) → nat_lt 67108864 (length input) ≡ t → UnlessLarge t a (IsAnswerToBytes r input a)
+    → IsCaused (Some (command.Reads r)) input a.status
+caused_input true r input a long is =
+    subst (λ (a : Answer). IsCaused (Some (command.Reads r)) input a.status) (sym is) (inl ((r, refl), refl, ltb-true 67108864 (length input) long))
+caused_input false r input a long is = caused_bytes r input a is
+
+caused_big : (input : List ℕ) (number : ℕ) (o : Option ℕ) → passed_limit (generated_run number) ≡ o → IsOnlyLimit o
+    → IsCaused (Some (command.Big number)) input (answer_to_generated number o).status
+caused_big input number None passed only = some_command (command.Big number)
+caused_big input number (Some limit) passed only = inr (only, passed)
+
+pub caused : (c : Option Command) (input : List ℕ) (a : Answer) → IsAnswerFor c input a → IsCaused c input a.status
+caused None input a is = subst (λ (a : Answer). IsCaused None input a.status) (sym is) refl
+caused (Some (command.Reads r)) input a is = caused_input (nat_lt 67108864 (length input)) r input a refl is
+caused (Some (command.Big number)) input a is =
+    let m = generated_run number in
+    subst (λ (a : Answer). IsCaused (Some (command.Big number)) input a.status) (sym is) (caused_big input number (passed_limit m) refl (only_limit m.setup m.steps))
+
+pub caused_as : (c : Option Command) (input : List ℕ) (s t : Status) → IsCaused c input s → s ≡ t → IsCaused c input t
+caused_as c input s t cause e = subst (λ (s : Status). IsCaused c input s) e cause
+
+-- so neither a fault nor want of memory is answered
+pub caused_made : (c : Option Command) (input : List ℕ) (s : Status) → IsCaused c input s → IsMade s
+caused_made c input status.Ok cause = tt
+caused_made c input status.Usage cause = tt
+caused_made c input (status.BadScript line rule) cause = tt
+caused_made c input status.ReadFault cause = absurd cause
+caused_made c input status.WriteFault cause = absurd cause
+caused_made c input (status.TooLarge limit) cause = tt
+caused_made c input status.OutOfMemory cause = absurd cause
+caused_made c input (status.BadState offset rule) cause = tt
+caused_made c input (status.StateVersion number) cause = tt
+
+-- ---- a refusal is its line
+abbrev pub IsLine : Status → List ℕ → Type 0
+IsLine status.Ok bytes = ⊤
+IsLine s bytes = bytes ≡ refusal_line s
+
+abbrev Lined : Answer → Type 0
+Lined a = IsLine a.status a.bytes
+
+line_passed : (bytes : List ℕ) (o : Option ℕ) → Lined (unless_passed bytes o)
+line_passed bytes None = tt
+line_passed bytes (Some limit) = refl
+
+line_script : (v : Shown) (r : Result Script Fault) → Lined (answer_to v r)
+line_script v (Ok m) = line_passed (output_of v m) (passed_limit m)
+line_script v (Err f) = refl
+
+line_save : (r : Result Script Fault) → Lined (answer_to_save r)
+line_save (Ok m) = line_passed (file_of m) (passed_limit (stopped m))
+line_save (Err f) = refl
+
+line_steps : (g : SavedState) (r : Result (List Step) Fault) → Lined (answer_to_resumed g r)
+line_steps g (Ok es) = line_passed (resumed_report g es) (resumed_limit g es)
+line_steps g (Err e) = refl
+
+line_loaded : (input : List ℕ) (l : Loaded) → Lined (answer_to_loaded input l)
+line_loaded input (Ok x) = line_steps x.0 (schedule_of x.0.scenario.setup (drop x.1 input))
+line_loaded input (Err (bad_state offset rule)) = refl
+line_loaded input (Err (version number)) = refl
+
+line_bytes : (r : Reading) (input : List ℕ) (a : Answer) → IsAnswerToBytes r input a → Lined a
+line_bytes (reading.Script v) input a is = subst Lined (sym is) (line_script v (script_of input))
+line_bytes reading.Save input a is = subst Lined (sym is) (line_save (script_of input))
+line_bytes reading.Resume input a is = subst Lined (sym is.2) (line_loaded input is.0)
+
+line_input : (t : Bool) (r : Reading) (input : List ℕ) (a : Answer) → UnlessLarge t a (IsAnswerToBytes r input a) → Lined a
+line_input true r input a is = subst Lined (sym is) refl
+line_input false r input a is = line_bytes r input a is
+
+pub lined : (c : Option Command) (input : List ℕ) (a : Answer) → IsAnswerFor c input a → Lined a
+lined None input a is = subst Lined (sym is) refl
+lined (Some (command.Reads r)) input a is = line_input (nat_lt 67108864 (length input)) r input a is
+lined (Some (command.Big number)) input a is = subst Lined (sym is) (line_passed (summary_of number) (passed_limit (generated_run number)))

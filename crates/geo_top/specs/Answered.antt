@@ -1,0 +1,139 @@
+-- What is promised of the program's answer, over the bytes of an input and those of the output: once, for the call over bytes and for
+-- the call over a source and a sink.
+use Rattle.std.specs.Prelude.{◌≡◌, ◌⊎◌, ℕ, ◌<◌, ⊤, true, List, [], ◌∷◌, ◌++◌, length, drop, take, Option, Some, None, IfSome, IsOkAnd, Ok}
+use Rattle.geo_base.specs.declared.event.Step.{Step}
+use Rattle.geo_base.specs.Run.{is_quiet, run}
+use Rattle.geo_io.specs.Faults.{Rose, Stood}
+use Rattle.schedule_gen.specs.Generated.{generated_run}
+use Rattle.script_text.specs.Rules.{script_of}
+use Rattle.script_text.specs.Schedule.{schedule_of}
+use Rattle.script_text.specs.Script.{Script}
+use Rattle.state_file.specs.Loading.{IsLoaded, bad_state, version}
+use Rattle.state_file.specs.State.{SavedState}
+use Rattle.geo_top.specs.declared.top.answer.Answer.{Answer}
+use Rattle.geo_top.specs.declared.top.command.Command.{Command}
+use Rattle.geo_top.specs.declared.top.command.Command.TheVariants as command
+use Rattle.geo_top.specs.declared.top.command.Shown.{Shown}
+use Rattle.geo_top.specs.declared.top.command.Shown.TheVariants as shown
+use Rattle.geo_top.specs.declared.top.status.Status.{Status}
+use Rattle.geo_top.specs.declared.top.status.Status.TheVariants as status
+use Rattle.geo_top.specs.Causes.{HasBadLine, HasBadState, IsPassed}
+use Rattle.geo_top.specs.Commands.{Reads, command_showing, resume_command, run_command, save_command}
+use Rattle.geo_top.specs.Headline.{IsAlwaysKept, IsAlwaysOnce, IsAlwaysSafe, IsAlwaysSettled}
+use Rattle.geo_top.specs.OneRun.{IsKept, IsSavedWith, IsStillKept, IsStillOnce, IsStillSafe, IsStillSettled, counted_on, lines_before, text_on}
+use Rattle.geo_top.specs.Outputs.{IsAnswerFor, answer_to, answer_to_big, output_of, passed_limit, report_of, resumed_limit, resumed_report, summary_of}
+use Rattle.geo_top.specs.States.{file_of, gone_on}
+use Rattle.geo_top.specs.Statuses.{IsDue, IsMade, refusal_line}
+
+-- how often source and sink had failed before a call, and by its end
+pub record FaultCounts : Type 0 where
+  pub source : ℕ
+  pub source_now : ℕ
+  pub sink : ℕ
+  pub sink_now : ℕ
+
+-- of a call that has neither
+abbrev pub no_faults : FaultCounts
+no_faults = record { source = 0; source_now = 0; sink = 0; sink_now = 0 }
+
+-- ---- what goes out
+-- a beginning of these bytes
+abbrev pub IsPartOf : List ℕ → List ℕ → Type 0
+IsPartOf bytes output = (n : ℕ) × (output ≡ take n bytes)
+
+-- What went out: the whole of an answer, nothing for want of memory, and where the sink failed a beginning: of the line of a read
+-- fault only where the words have an input and the source failed too.
+abbrev pub WentOut : Option Command → Answer → FaultCounts → Status → List ℕ → Type 0
+WentOut c due f status.ReadFault output = output ≡ refusal_line status.ReadFault
+WentOut c due f status.OutOfMemory output = output ≡ []
+WentOut c due f status.WriteFault output =
+    IsPartOf due.bytes output ⊎ (Reads c × Rose f.source f.source_now × IsPartOf (refusal_line status.ReadFault) output)
+WentOut c due f s output = output ≡ due.bytes
+
+-- a refusal writes its line
+abbrev pub WritesLine : Status → List ℕ → Type 0
+WritesLine status.Ok output = ⊤
+WritesLine status.WriteFault output = ⊤
+WritesLine s output = output ≡ refusal_line s
+
+-- ---- what holds with Ok
+-- of the script that the input is, for each command that shows something of a script's run
+abbrev pub OfScript : Option Command → List ℕ → Status → (Shown → Script → Type 0) → Type 0
+OfScript c input s Holds = (v : Shown) → s ≡ status.Ok → c ≡ Some (command_showing v) → IsOkAnd (script_of input) (Holds v)
+
+-- of the script that was saved and the steps behind it, for `resume`
+abbrev pub OfSaved : Option Command → List ℕ → Status → (Script → List Step → Type 0) → Type 0
+OfSaved c input s Holds =
+    (n : Script) (lines : List ℕ) → s ≡ status.Ok → c ≡ Some resume_command → IsSavedWith n lines input → IsOkAnd (schedule_of n.setup lines) (Holds n)
+
+pub record IsAnswered (c : Option Command) (input output : List ℕ) (f : FaultCounts) (s : Status) : Type 0 where
+  -- With Ok, what `run` writes is the report of the written machine's run over the script that the input is. So each command that
+  -- shows something of a script's run writes what it shows of it. The run passes no limit,
+  pub report : s ≡ status.Ok → c ≡ Some run_command → IsOkAnd (script_of input) (λ n. (output ≡ report_of n) × (passed_limit n ≡ None))
+  pub shows : OfScript c input s (λ v n. (output ≡ output_of v n) × (passed_limit n ≡ None))
+  -- and at every moment of it, between its events, inside settling and after each single durable write: each topic has its messages
+  -- once, per producer in order,
+  pub once : OfScript c input s (λ v n. IsAlwaysOnce n)
+  -- and whatever a subscription has acknowledged is settled, so that every message stored anywhere is settled on each subscription
+  -- there or stands in its backlog. Between its events nothing that stands in a backlog is forgotten.
+  pub safe : OfScript c input s (λ v n. IsAlwaysSafe n)
+  pub kept : OfScript c input s (λ v n. IsAlwaysKept n)
+  -- Behind each step of it that settles all has come over: for every topic and every two clusters, the sender of the one to the
+  -- other is open and has acknowledged all of its topic, and the other has, in order, all that the one stored first for it.
+  pub settled : OfScript c input s (λ v n. IsAlwaysSettled n)
+  -- For `save` it is the state file of that run with a stop of everything behind it, and both are within the limits;
+  pub saved : s ≡ status.Ok → c ≡ Some save_command → IsOkAnd (script_of input) (λ n. IsKept n × (output ≡ file_of n))
+  -- for `resume` it is the report of the run that goes on from the state that the input begins with, over the schedule behind its
+  -- bytes, and that run passes no limit;
+  pub resumed : s ≡ status.Ok → c ≡ Some resume_command → (g : SavedState) × (used : ℕ) × IsLoaded input (Ok (g, used))
+      × IsOkAnd (schedule_of g.scenario.setup (drop used input)) (λ es. (output ≡ resumed_report g es) × (resumed_limit g es ≡ None))
+  -- and where that state is what `save` wrote of a script, it is the report of one run, that of the script with a stop of everything
+  -- and the schedule behind its steps; of what goes on, each claim still holds: messages stand once, per producer in order,
+  -- whatever is acknowledged is settled, nothing due is forgotten, and behind each step that settles all has come over;
+  pub one_run : OfSaved c input s (λ n es. (output ≡ report_of (gone_on n es)) × (passed_limit (gone_on n es) ≡ None))
+  pub still_once : OfSaved c input s IsStillOnce
+  pub still_safe : OfSaved c input s IsStillSafe
+  pub still_kept : OfSaved c input s IsStillKept
+  pub still_settled : OfSaved c input s IsStillSettled
+  -- so what `resume` answers to such a file with lines behind it is what `run` answers to the script's text with a stop and these
+  -- lines behind it (where that is not too long to be read), refusals too, but for the number of the line that is refused;
+  pub one_answer : (text lines : List ℕ) (n : Script) → IsMade s → c ≡ Some resume_command → script_of (text ++ 10 ∷ []) ≡ Ok n → IsSavedWith n lines input
+      → counted_on (lines_before text) (record { status = s; bytes = output }) s ≡ answer_to shown.Report (script_of (text_on text lines))
+  -- for `big` it is the summary of the machine's run over the generated schedule, which passes no limit, and at whose end all is quiet.
+  pub summary : (number : ℕ) → s ≡ status.Ok → c ≡ Some (command.Big number)
+      → (output ≡ summary_of number) × (passed_limit (generated_run number) ≡ None)
+  pub quiet : (number : ℕ) → let n = generated_run number in is_quiet n.setup (run n.setup n.steps) ≡ true
+  -- Each refusal comes only for its cause.
+  pub usage : s ≡ status.Usage → c ≡ None
+  pub read : s ≡ status.ReadFault → Reads c × Rose f.source f.source_now
+  -- Limit 1 is on the bytes that are read, limit 2 on events and idle events together, limit 3 on the bytes of all frames.
+  pub large : (limit : ℕ) → s ≡ status.TooLarge limit → IsPassed c input limit
+  pub script : (line rule : ℕ) → s ≡ status.BadScript line rule → HasBadLine c input (record { line = line; rule = rule })
+  pub state : (offset rule : ℕ) → s ≡ status.BadState offset rule → HasBadState c input (bad_state offset rule)
+  pub version : (number : ℕ) → s ≡ status.StateVersion number → HasBadState c input (version number)
+  pub write : s ≡ status.WriteFault → Rose f.sink f.sink_now
+  -- A fault of the source or the sink is never told as want of memory.
+  pub memory : s ≡ status.OutOfMemory → Stood f.source f.source_now × Stood f.sink f.sink_now
+  -- What is due comes, unless the source, the sink or memory fails.
+  pub no_command : c ≡ None → IsDue status.Usage s
+  pub due : (a : Answer) → IsAnswerFor c input a → IsDue a.status s
+  pub big : (number : ℕ) → c ≡ Some (command.Big number) → IsDue (answer_to_big number).status s
+  -- What goes out.
+  pub out : (a : Answer) → IsAnswerFor c input a → WentOut c a f s output
+  pub line : WritesLine s output
+
+-- ---- what is read
+-- the source gave no more since it failed, memory was wanting, or it had given more than is read
+abbrev pub IsCut : List ℕ → ℕ → ℕ → Status → Type 0
+IsCut part before now s = (67108864 < length part) ⊎ (Rose before now ⊎ (s ≡ status.OutOfMemory))
+
+-- What a call read of a source for words that have an input, by what its calls gave, by what it told that it had left, and by its count
+-- of faults before and now: the input is what the source gave, and where that is cut, some more behind it; and where the source tells
+-- what it has left, it is that. For other words nothing is read, and the input is empty.
+pub record IsRead (c : Option Command) (given : List ℕ → Type 0) (left : Option (List ℕ)) (before now : ℕ) (s : Status) (input : List ℕ) : Type 0 where
+  pub part : List ℕ
+  pub rest : List ℕ
+  pub gave : given part
+  pub is : input ≡ part ++ rest
+  pub whole : (rest ≡ []) ⊎ IsCut part before now s
+  pub told : Reads c → IfSome left (λ bytes. input ≡ bytes)

@@ -1,0 +1,47 @@
+-- Why the program refuses.
+use Rattle.std.specs.Prelude.{◌≡◌, ◌⊎◌, ℕ, ◌<◌, List, length, drop, Option, Some, None, IsOkAnd, Ok, Err}
+use Rattle.script_text.specs.Rules.{script_of}
+use Rattle.script_text.specs.Schedule.{schedule_of}
+use Rattle.script_text.specs.Script.{Fault}
+use Rattle.state_file.specs.Loading.{IsLoaded, Refusal}
+use Rattle.state_file.specs.State.{SavedState}
+use Rattle.geo_top.specs.declared.top.command.Command.{Command}
+use Rattle.geo_top.specs.declared.top.command.Command.TheVariants as command
+use Rattle.geo_top.specs.declared.top.command.Reading.{Reading}
+use Rattle.geo_top.specs.declared.top.command.Reading.TheVariants as reading
+use Rattle.geo_top.specs.Commands.{Reads, resume_command}
+use Rattle.geo_top.specs.Outputs.{passed_limit, resumed_limit}
+use Rattle.geo_top.specs.States.{stopped}
+use Rattle.schedule_gen.specs.Generated.{generated_run}
+
+-- a line breaks a rule: of the script, or behind the state
+abbrev pub HasBadLineIn : Reading → List ℕ → Fault → Type 0
+HasBadLineIn (reading.Script v) input f = script_of input ≡ Err f
+HasBadLineIn reading.Save input f = script_of input ≡ Err f
+HasBadLineIn reading.Resume input f =
+    (s : SavedState) × (used : ℕ) × IsLoaded input (Ok (s, used)) × (schedule_of s.scenario.setup (drop used input) ≡ Err f)
+
+abbrev pub HasBadLine : Option Command → List ℕ → Fault → Type 0
+HasBadLine None input f = ⊥
+HasBadLine (Some (command.Reads r)) input f = HasBadLineIn r input f
+HasBadLine (Some (command.Big number)) input f = ⊥
+
+-- A limit that a command passes: 1, more bytes than are read; 2, more events than are done; 3, more bytes of frames than are sent.
+abbrev pub RunPasses : Reading → List ℕ → ℕ → Type 0
+RunPasses (reading.Script v) input limit = IsOkAnd (script_of input) (λ n. passed_limit n ≡ Some limit)
+RunPasses reading.Save input limit = IsOkAnd (script_of input) (λ n. passed_limit (stopped n) ≡ Some limit)
+RunPasses reading.Resume input limit = (s : SavedState) × (used : ℕ) × IsLoaded input (Ok (s, used))
+    × IsOkAnd (schedule_of s.scenario.setup (drop used input)) (λ es. resumed_limit s es ≡ Some limit)
+
+abbrev pub PassesRunning : Option Command → List ℕ → ℕ → Type 0
+PassesRunning None input limit = ⊥
+PassesRunning (Some (command.Reads r)) input limit = RunPasses r input limit
+PassesRunning (Some (command.Big number)) input limit = passed_limit (generated_run number) ≡ Some limit
+
+abbrev pub IsPassed : Option Command → List ℕ → ℕ → Type 0
+IsPassed c input limit =
+    (Reads c × (limit ≡ 1) × (67108864 < length input)) ⊎ (((limit ≡ 2) ⊎ (limit ≡ 3)) × PassesRunning c input limit)
+
+-- a state that is refused
+abbrev pub HasBadState : Option Command → List ℕ → Refusal → Type 0
+HasBadState c input r = (c ≡ Some resume_command) × IsLoaded input (Err r)

@@ -1,0 +1,70 @@
+//! The program as a call over bytes.
+ghost use Rattle.std.specs.Prelude.{◌≤◌, Some, IfOk, OnOk, length};
+ghost use Rattle.geo_top.specs.Answered.{IsAnswered, no_faults};
+ghost use Rattle.geo_top.specs.Commands.{command_of};
+ghost use Rattle.geo_top.specs.Founded.{IsFounded, IsKnown};
+ghost use Rattle.geo_top.specs.Outputs.{IsAnswerToBytes};
+ghost use Rattle.geo_top.specs.Statuses.{IsMade};
+ghost use Rattle.geo_top.specs.declared.top.command.Command.TheVariants as command;
+
+use crate::top::answer::{Answer, refusal};
+use crate::top::command::{Command, Reading, Word};
+use crate::top::scripts::{answer_to_number, answer_to_script};
+use crate::top::states::{answer_to_file, answer_to_saving};
+use crate::top::status::Status;
+use geo_base::Memory;
+use geo_base::limits::INPUT_BYTES;
+use std::alloc::Global;
+
+/// The whole program but for the words of `live`, over the bytes of its input: how it ends, and the bytes that it writes. For `run` the
+/// input is a script, and the output the report of its run; for `save` it is the state file of the run and a stop behind it; for
+/// `resume` the input is a state file and a schedule behind it, and the output the report of the run that goes on from there; for `big
+/// NUMBER` it is the summary of the run that the number generates. Else, and where it refuses, it is one line.
+///
+/// The first of these refusals wins: words that are no command; more than 67,108,864 bytes; an item of the state that breaks a rule, or
+/// its version; a line of the script or the schedule that breaks a rule; more than 2,000,000 events and idle events, or more than 1 GiB
+/// of frames. `Memory` comes where a growth of memory is refused.
+#[tactic(auto, using(crate::proofs::Answered::answered_free, crate::proofs::Answered::founded_made))]
+pub fn answer(alloc: Global, words: &[Word], input: &[u8]) -> Result<Answer, Memory>
+    // All that is promised of it, of which neither source nor sink fails.
+    ensures answered { IfOk result (λ a. IsAnswered (command_of words.now) input.now a.bytes no_faults a.status) }
+    ensures made { IfOk result (λ a. IsMade a.status) }
+{
+    answer_to_command(alloc, Command::read(words), input)
+}
+
+/// The answer to a command, or to words that are none.
+#[tactic(auto, using(crate::proofs::Answered::founded_usage, crate::proofs::Answered::founded_big))]
+fn answer_to_command(alloc: Global, asked: Option<Command>, input: &[u8]) -> Result<Answer, Memory>
+    ensures { IfOk result (IsFounded asked input.now) }
+{
+    match asked {
+        Some(Command::Reads(reading)) => answer_to_input(alloc, reading, input),
+        Some(Command::Big(number)) => answer_to_number(alloc, number),
+        None => refusal(alloc, Status::Usage),
+    }
+}
+
+/// The answer to an input.
+#[tactic(auto, using(crate::proofs::Answered::founded_large, crate::proofs::Answered::founded_bytes))]
+fn answer_to_input(alloc: Global, reading: Reading, input: &[u8]) -> Result<Answer, Memory>
+    ensures { IfOk result (IsFounded (Some (command.Reads reading)) input.now) }
+{
+    if input.len() > INPUT_BYTES {
+        return refusal(alloc, Status::TooLarge(1));
+    }
+    answer_to_bytes(alloc, reading, input)
+}
+
+/// The answer to the bytes of an input that is not too long.
+fn answer_to_bytes(alloc: Global, reading: Reading, bytes: &[u8]) -> Result<Answer, Memory>
+    requires { length bytes.now ≤ INPUT_BYTES }
+    ensures answer { IfOk result (IsAnswerToBytes reading bytes.now) }
+    ensures known { OnOk result (IsKnown reading bytes.now) }
+{
+    match reading {
+        Reading::Script(shown) => answer_to_script(alloc, shown, bytes),
+        Reading::Save => answer_to_saving(alloc, bytes),
+        Reading::Resume => answer_to_file(alloc, bytes),
+    }
+}

@@ -1,0 +1,108 @@
+//! The answers of the commands that show something of a script's run, and of the one that sums up a generated run.
+ghost use Rattle.std.specs.Prelude.{◌≡◌, ◌≤◌, IfOk, OnOk, length};
+ghost use Rattle.geo_base.specs.Report.{report};
+ghost use Rattle.geo_top.specs.Finished.{IsFinished};
+ghost use Rattle.geo_top.specs.Founded.{IsAccepted};
+ghost use Rattle.geo_top.specs.Outputs.{answer_to, answer_to_big, answer_to_run, output_of, passed_limit, summary_of};
+ghost use Rattle.geo_top.specs.Shown.{shown_world};
+ghost use Rattle.geo_world.specs.World.{IsAt};
+ghost use Rattle.schedule_gen.specs.Generated.{generated_run};
+ghost use Rattle.script_text.specs.Rules.{script_of};
+
+use crate::run::run_script;
+use crate::summary::append_summary;
+use crate::top::answer::{Answer, refusal};
+use crate::top::command::Shown;
+use crate::top::status::Status;
+use crate::world_report::append_report;
+use geo_base::limits::INPUT_BYTES;
+use geo_base::{Blob, Memory};
+use geo_world::{RunFault, World};
+use schedule_gen::generate;
+use script_text::{Scenario, ScriptFault, read_script};
+use std::alloc::Global;
+
+/// The answer to the bytes of a script, of whose run something is shown.
+pub fn answer_to_script(alloc: Global, shown: Shown, bytes: &[u8]) -> Result<Answer, Memory>
+    requires { length bytes.now ≤ INPUT_BYTES }
+    ensures answer { IfOk result (λ a. a ≡ answer_to shown (script_of bytes.now)) }
+    ensures known { OnOk result (IsAccepted (script_of bytes.now)) }
+{
+    match read_script(alloc, bytes) {
+        Ok(scenario) => answer_to_scenario(alloc, shown, &scenario),
+        Err(ScriptFault::Rule { line, rule }) => refusal(alloc, Status::BadScript { line, rule }),
+        Err(ScriptFault::Memory) => Err(Memory),
+    }
+}
+
+/// What is shown of the run of a script, or the limit that the run passes.
+#[tactic(auto, using(crate::proofs::Finishing::shown_whole, crate::proofs::Finishing::refused_run))]
+fn answer_to_scenario(alloc: Global, shown: Shown, scenario: &Scenario) -> Result<Answer, Memory>
+    ensures { IfOk result (λ a. a ≡ answer_to_run shown scenario.now (passed_limit scenario.now)) }
+{
+    match run_script(alloc, scenario) {
+        Ok(world) => Ok(Answer {
+            status: Status::Ok,
+            bytes: output(alloc, shown, scenario, &world)?,
+        }),
+        Err(RunFault::TooLarge(limit)) => refusal(alloc, Status::TooLarge(limit)),
+        Err(RunFault::Memory) => Err(Memory),
+    }
+}
+
+/// What is shown of the world at the end of a script's run.
+#[tactic(auto, using(crate::proofs::Shown::shown_report))]
+fn output(alloc: Global, shown: Shown, scenario: &Scenario, world: &World) -> Result<Blob, Memory>
+    requires { IsFinished scenario.now world.now }
+    ensures { IfOk result (λ bytes. bytes ≡ output_of shown scenario.now) }
+{
+    match shown {
+        Shown::Report => report(alloc, scenario, world),
+    }
+}
+
+/// The report of a world.
+pub fn report(alloc: Global, scenario: &Scenario, world: &World) -> Result<Blob, Memory>
+    requires { IsAt scenario.now.setup world.now }
+    ensures { IfOk result (λ bytes. bytes ≡ report scenario.now.setup (shown_world world.now)) }
+{
+    let mut bytes = Blob::new(alloc);
+    append_report(alloc, &mut bytes, scenario, world)?;
+    Ok(bytes)
+}
+
+/// The summary of the run that a number generates, or the limit that the run passes.
+#[tactic(auto, using(crate::proofs::Finishing::summed, crate::proofs::Finishing::refused_big))]
+pub fn answer_to_number(alloc: Global, number: u32) -> Result<Answer, Memory>
+    ensures { IfOk result (λ a. a ≡ answer_to_big number) }
+{
+    let scenario = generated(alloc, number)?;
+    match run_script(alloc, &scenario) {
+        Ok(world) => Ok(Answer {
+            status: Status::Ok,
+            bytes: summary(alloc, number, &scenario, &world)?,
+        }),
+        Err(RunFault::TooLarge(limit)) => refusal(alloc, Status::TooLarge(limit)),
+        Err(RunFault::Memory) => Err(Memory),
+    }
+}
+
+/// The script of a number's run.
+fn generated(alloc: Global, number: u32) -> Result<Scenario, Memory>
+    ensures { IfOk result (λ s. s ≡ generated_run number) }
+{
+    let parts = generate(alloc, number)?;
+    Scenario::of_parts(alloc, parts)
+}
+
+/// The summary of the world at the end of a number's run.
+#[tactic(auto, using(crate::proofs::Shown::shown_summary))]
+fn summary(alloc: Global, number: u32, scenario: &Scenario, world: &World) -> Result<Blob, Memory>
+    requires number { scenario.now ≡ generated_run number }
+    requires finished { IsFinished scenario.now world.now }
+    ensures { IfOk result (λ bytes. bytes ≡ summary_of number) }
+{
+    let mut bytes = Blob::new(alloc);
+    append_summary(alloc, &mut bytes, number, scenario, world)?;
+    Ok(bytes)
+}
