@@ -17,7 +17,7 @@ use Rattle.geo_base.specs.World.{ToClient, World, client_at, packet_at}
 use Rattle.wire_links.specs.declared.name.LinkName.{LinkName}
 use Rattle.wire_links.specs.declared.name.LinkName.TheVariants as name
 use Rattle.wire_links.specs.declared.name.Node.TheVariants as wire_node
-use Rattle.wire_links.specs.declared.packet.WirePacket.{WirePacket}
+use Rattle.wire_ends.specs.declared.packet.WirePacket.{WirePacket}
 use Rattle.wire_links.specs.Each.{Both, both, neither}
 use Rattle.wire_links.specs.Queues.{packet_on}
 use Rattle.world_kept.proofs.Keeping.{client_gets, client_waits, counts, input}

@@ -16,7 +16,7 @@ use Rattle.topic_node.specs.Input.{StandsForInput}
 use Rattle.topic_node.specs.Node.{NodeBook, SameNode}
 use Rattle.wire_laws.specs.BytePackets.{BytePacket}
 use Rattle.wire_links.specs.declared.name.LinkName.{LinkName}
-use Rattle.wire_links.specs.declared.packet.WirePacket.{WirePacket}
+use Rattle.wire_ends.specs.declared.packet.WirePacket.{WirePacket}
 use Rattle.wire_links.specs.Queues.{packet_on, taken_from}
 use Rattle.world_kept.proofs.Keeping.{broker_halted, counts}
 use Rattle.world_kept.specs.Events.{IsBrokers, node_of, plan_in, taken_in, takes_of}

@@ -16,7 +16,7 @@ use Rattle.topic_node.specs.Input.{StandsForInput}
 use Rattle.topic_node.specs.Node.{IsReady, NodeBook, SameNode}
 use Rattle.wire_laws.specs.BytePackets.{BytePacket}
 use Rattle.wire_links.specs.declared.name.LinkName.{LinkName}
-use Rattle.wire_links.specs.declared.packet.WirePacket.{WirePacket}
+use Rattle.wire_ends.specs.declared.packet.WirePacket.{WirePacket}
 use Rattle.wire_links.specs.Each.{Both, both, neither}
 use Rattle.wire_links.specs.Queues.{packet_on}
 use Rattle.world_kept.specs.Standing.{IsInput}

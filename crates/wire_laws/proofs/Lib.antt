@@ -2,3 +2,4 @@ pub mod AlikeBytes
 pub mod Plain
 pub mod Tellings
 pub mod Bare
+pub mod Unread

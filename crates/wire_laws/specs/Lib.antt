@@ -1,2 +1,3 @@
 pub mod BytePackets
+pub mod CutOff
 pub mod Telling

@@ -1,12 +1,14 @@
-//! What the laws over values say of bytes: what runs send is told whole by its bytes and can be written, and a node that
-//! keeps the bytes of its packets keeps a history of the law of the merge.
+//! What the laws over values say of bytes: what runs send is told whole by its bytes and can be written, a node that keeps the
+//! bytes of its packets keeps a history of the law of the merge, and a packet that was cut off on its way is one that was lost.
 //!
 //! As in `world_laws`, a law is a public function without parameters and without an answer; its contract is the statement,
 //! and its proof stands in `proofs/`.
 #![tactic(auto)]
 
 mod histories;
+mod losses;
 mod telling;
 
 pub use histories::{law_alike_bytes, law_bare, law_byte_histories};
+pub use losses::{law_cut_off, law_no_bytes};
 pub use telling::{law_told, law_written, plain_told};

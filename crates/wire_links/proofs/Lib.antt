@@ -1,4 +1,5 @@
 pub mod Mapped
 pub mod Pairs
+pub mod Sending
 pub mod Simulated
 pub mod Undoing

@@ -18,7 +18,7 @@ use Rattle.wire_links.specs.declared.name.LinkName.TheVariants as name
 use Rattle.wire_links.specs.declared.name.Node.{Node}
 use Rattle.wire_links.specs.declared.name.Node.TheVariants as node
 use Rattle.wire_links.specs.declared.packet.WireOut.{WireOut}
-use Rattle.wire_links.specs.declared.packet.WirePacket.{WirePacket}
+use Rattle.wire_ends.specs.declared.packet.WirePacket.{WirePacket}
 use Rattle.wire_links.specs.Each.{Each, none, more, Both, neither, both}
 use Rattle.wire_links.specs.Names.{named, sends_on, taken_name}
 use Rattle.wire_links.specs.Queues.{Queue, WireLinks, after_next, all_discarded, all_emptied, bytes_of, cell, delivered, emptied, empty_links, empty_table, next_in, packet_on, queue_at, sent_on, stamp_of, stamped, taken_at, taken_from, with_cell, with_last, with_queue}

@@ -4,7 +4,7 @@ use Rattle.std.specs.Prelude.{slice_set, slice_index_or}
 use Rattle.std.proofs.Math.Seq.{take-append_seam}
 use Rattle.wire_links.specs.declared.name.LinkName.{LinkName}
 use Rattle.wire_links.specs.declared.name.LinkName.TheVariants as name
-use Rattle.wire_links.specs.declared.packet.WirePacket.{WirePacket}
+use Rattle.wire_ends.specs.declared.packet.WirePacket.{WirePacket}
 use Rattle.wire_links.specs.Queues.{Queue, WireLinks, cell, sent_on, unsent_on, with_cell, with_last, without_last}
 
 -- a place of a list that got a new value, from which f makes the old one again

@@ -4,7 +4,7 @@ use Rattle.wire_links.specs.declared.name.LinkName.{LinkName}
 use Rattle.wire_links.specs.declared.name.LinkName.TheVariants as name
 use Rattle.wire_links.specs.declared.name.Node.{Node}
 use Rattle.wire_links.specs.declared.packet.WireOut.{WireOut}
-use Rattle.wire_links.specs.declared.packet.WirePacket.{WirePacket}
+use Rattle.wire_ends.specs.declared.packet.WirePacket.{WirePacket}
 use Rattle.wire_links.specs.Names.{sends_on}
 
 -- ---- one link

@@ -9,7 +9,7 @@ use Rattle.geo_base.specs.World.{Links}
 use Rattle.wire_frames.specs.Coded.{IsWritten}
 use Rattle.wire_frames.specs.Texts.{is_readable}
 use Rattle.wire_links.specs.declared.packet.WireOut.{WireOut}
-use Rattle.wire_links.specs.declared.packet.WirePacket.{WirePacket}
+use Rattle.wire_ends.specs.declared.packet.WirePacket.{WirePacket}
 use Rattle.wire_links.specs.Each.{Each}
 use Rattle.wire_links.specs.Queues.{Queue, WireLinks}
 

@@ -2,7 +2,7 @@
 //!
 //! A packet is the bytes of its frame, with the session that it was sent in and the stamp of the event that sent it. The
 //! machine's link is all that was ever sent on it and a count of what was taken; a link here keeps what is not taken yet and
-//! nothing else, so that memory falls as packets are taken. What the one stands for of the other is `LinksStand`: packet by
+//! nothing else, so that memory falls as packets are taken. Each packet crosses it in pieces, all in one event. What the one stands for of the other is `LinksStand`: packet by
 //! packet, bytes that are the canonical text of the machine's frame. The laws say that each operation keeps it.
 #![tactic(auto)]
 
@@ -20,4 +20,5 @@ pub use laws::{
 };
 pub use links::Links;
 pub use name::{LinkName, Node};
-pub use packet::{WireOut, WirePacket};
+pub use packet::WireOut;
+pub use wire_ends::WirePacket;

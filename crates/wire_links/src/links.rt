@@ -8,13 +8,14 @@ ghost use Rattle.std.specs.Vec.Iter.{into_iter_items};
 ghost use Rattle.wire_links.specs.Queues.{all_discarded, delivered, empty_links, next_at, packet_on, sent_on, stamp_of, stamped, taken_at, taken_from, unsent_on};
 
 use crate::name::{LinkName, Node, link_to};
-use crate::packet::{WireOut, WirePacket};
+use crate::packet::WireOut;
 use crate::table::LinkTable;
 use geo_base::limits::CLUSTERS;
 use geo_base::{Memory, Stamp};
 use std::alloc::Global;
 use std::marker::Model;
 use std::vec::IntoIter;
+use wire_ends::WirePacket;
 
 /// All links between so many clusters. Those between brokers stand by the number of the broker that sends on the forward one
 /// and the other cluster, those of a client by client and cluster. Where a name is of no link, nothing is sent and nothing comes.

@@ -4,10 +4,10 @@ ghost use Rattle.std.specs.Option.{option_copied};
 ghost use Rattle.wire_links.specs.Queues.{after_next, all_emptied, cell, emptied, empty_row, empty_table, next_in, with_cell, with_last, without_last};
 
 use crate::link::Link;
-use crate::packet::WirePacket;
 use geo_base::Memory;
 use std::alloc::Global;
 use std::marker::Model;
+use wire_ends::WirePacket;
 
 /// The links of one end.
 #[derive(Debug, Drop)]

@@ -30,7 +30,7 @@ use Rattle.wire_links.specs.declared.name.LinkName.{LinkName}
 use Rattle.wire_links.specs.declared.name.LinkName.TheVariants as name
 use Rattle.wire_links.specs.declared.name.Node.TheVariants as wire_node
 use Rattle.wire_links.specs.declared.packet.WireOut.{WireOut}
-use Rattle.wire_links.specs.declared.packet.WirePacket.{WirePacket}
+use Rattle.wire_ends.specs.declared.packet.WirePacket.{WirePacket}
 use Rattle.wire_links.specs.Each.{Both, both, neither, none as none_sent}
 use Rattle.wire_links.specs.Names.{taken_name}
 use Rattle.wire_links.specs.Queues.{bytes_of, delivered, packet_on, taken_from}

@@ -19,7 +19,7 @@ ghost use Rattle.wire_links.specs.declared.name.LinkName.{LinkName};
 ghost use Rattle.wire_links.specs.declared.name.LinkName.TheVariants as name;
 ghost use Rattle.wire_links.specs.declared.name.Node.TheVariants as wire_node;
 ghost use Rattle.wire_links.specs.declared.packet.WireOut.{WireOut};
-ghost use Rattle.wire_links.specs.declared.packet.WirePacket.{WirePacket};
+ghost use Rattle.wire_ends.specs.declared.packet.WirePacket.{WirePacket};
 ghost use Rattle.wire_links.specs.Each.{Both};
 ghost use Rattle.wire_links.specs.Names.{taken_name};
 ghost use Rattle.wire_links.specs.Queues.{packet_on};
