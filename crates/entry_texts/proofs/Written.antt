@@ -1,5 +1,5 @@
 -- The texts of an entry as the code writes them.
-use Rattle.std.proofs.Common.{◌≡◌, ℕ, List, [], ◌++◌, refl, sym, ap, subst, ◌∙◌}
+use Rattle.std.proofs.Common.{◌≡◌, ℕ, ◌<◌, ◌^◌, List, [], ◌++◌, length, refl, sym, ap, subst, ◌∙◌}
 use Rattle.std.proofs.lemmas.Grind.{flat_map-append}
 use Rattle.geo_base.specs.declared.entry.Entry.{Entry}
 use Rattle.message_meta.specs.declared.known.KnownMeta.{KnownMeta}
@@ -9,8 +9,8 @@ use Rattle.message_meta.specs.Metadata.{IsMetaText, Metadata}
 use Rattle.pb_fields.specs.declared.field.Field.{Field}
 use Rattle.pb_fields.specs.Canonical.{field_text, text}
 use Rattle.wire_frames.specs.Coded.{IsMarkerRight}
-use Rattle.wire_frames.specs.Texts.{metadata_of}
-use Rattle.entry_texts.specs.Texts.{HasMetadata, HasTexts, metadata_text, source_of, with_rest}
+use Rattle.wire_frames.specs.Texts.{metadata_of, payload_text}
+use Rattle.entry_texts.specs.Texts.{AreShort, HasMetadata, HasTexts, metadata_text, source_of, with_rest}
 
 parts : (r o f : List Field) → text (r ++ (o ++ f)) ≡ text r ++ (text o ++ text f)
 parts r o f = flat_map-append field_text r (o ++ f) ∙ ap (λ (t : List ℕ). text r ++ t) (flat_map-append field_text o f)
@@ -38,3 +38,6 @@ metadata_has names own e k bytes same h =
 
 pub texts_are : (names : List (List ℕ)) (own : ℕ) (e : Entry) → HasMetadata names own e → IsMarkerRight names e.content e.payload → HasTexts names own e
 texts_are names own e h m = record { metadata = h; marker = m }
+
+pub both_short : (names : List (List ℕ)) (own : ℕ) (e : Entry) → length (metadata_text names own e) < 2 ^ 32 → length (payload_text names e.content e.payload) < 2 ^ 32 → AreShort names own e
+both_short names own e h k = record { metadata = h; payload = k }

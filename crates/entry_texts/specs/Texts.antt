@@ -1,5 +1,5 @@
 -- The texts of an entry.
-use Rattle.std.specs.Prelude.{◌≡◌, ℕ, ◌==◌, if◌then◌else◌, List, [], ◌++◌, Option, Some, None}
+use Rattle.std.specs.Prelude.{◌≡◌, ℕ, ◌<◌, ◌^◌, ◌==◌, if◌then◌else◌, List, [], ◌++◌, length, Option, Some, None}
 use Rattle.geo_base.specs.declared.entry.Entry.{Entry}
 use Rattle.geo_base.specs.declared.marker.Place.{Place}
 use Rattle.geo_base.specs.declared.marker.Place.TheVariants as place
@@ -35,3 +35,8 @@ pub record HasMetadata (names : List (List ℕ)) (own : ℕ) (e : Entry) : Type 
 pub record HasTexts (names : List (List ℕ)) (own : ℕ) (e : Entry) : Type 0 where
   pub metadata : HasMetadata names own e
   pub marker : IsMarkerRight names e.content e.payload
+
+-- both texts have a length of four bytes
+pub record AreShort (names : List (List ℕ)) (own : ℕ) (e : Entry) : Type 0 where
+  pub metadata : length (metadata_text names own e) < 2 ^ 32
+  pub payload : length (payload_text names e.content e.payload) < 2 ^ 32

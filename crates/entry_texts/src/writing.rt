@@ -1,7 +1,7 @@
 //! An entry as its metadata's text and its payload.
 ghost use Rattle.std.specs.Prelude.{◌≡◌, ◌++◌, IfOk, OnOk};
 ghost use Rattle.message_meta.specs.Known.{IsRest};
-ghost use Rattle.entry_texts.specs.Texts.{HasMetadata, HasTexts, entry_text, metadata_text, source_of};
+ghost use Rattle.entry_texts.specs.Texts.{AreShort, HasMetadata, HasTexts, entry_text, metadata_text, source_of};
 
 use geo_base::{Blob, ClusterName, Entry, Memory, Place};
 use pb_fields::ByteList;
@@ -9,8 +9,9 @@ use state_items::put_text;
 use std::alloc::Global;
 use wire_frames::{canonical_payload, known_of};
 
-/// Appends an entry of the topic of a cluster: the text of its metadata, and its payload.
-#[tactic(auto, using(crate::proofs::Written::texts_are))]
+/// Appends an entry of the topic of a cluster: the text of its metadata, and its payload. A text of 2^32 bytes, whose length has no
+/// four bytes, counts as want of memory.
+#[tactic(auto, using(crate::proofs::Written::texts_are, crate::proofs::Written::both_short))]
 pub fn put_entry(
     alloc: Global,
     out: &mut Blob,
@@ -21,6 +22,7 @@ pub fn put_entry(
     requires { IsRest entry.now.meta.rest }
     ensures text { OnOk result (out.new ≡ out.old ++ entry_text names.now own entry.now) }
     ensures right { OnOk result (HasTexts names.now own entry.now) }
+    ensures short { OnOk result (AreShort names.now own entry.now) }
 {
     let metadata = metadata_text(alloc, names, own, entry)?;
     put_text(out, metadata.as_slice())?;
