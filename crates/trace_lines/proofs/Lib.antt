@@ -1,0 +1,6 @@
+pub mod Apart
+pub mod Fresh
+pub mod Parts
+pub mod Printable
+pub mod SoFar
+pub mod Told

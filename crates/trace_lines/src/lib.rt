@@ -1,0 +1,20 @@
+//! The lines of a trace, read: what a line of any bytes says, where it has a form.
+//!
+//! A trace tells a run of a script, event by event, and behind each event what it wrote durably of topics and subscriptions. A line is
+//! cut into words without a copy; what a subscription, a marker or a message is called is copied.
+#![tactic(auto)]
+
+mod entries;
+mod line;
+mod lines;
+mod markers;
+mod names;
+mod numbers;
+mod ranges;
+mod texts;
+mod words;
+
+pub use line::{Line, Written};
+pub use lines::line_of;
+pub use names::Names;
+pub use ranges::AckedRanges;

@@ -1,0 +1,297 @@
+//! Lines.
+ghost use Rattle.std.specs.Prelude.{◌≡◌, ◌<◌, [], ◌∷◌, length, option_map, IfOk, MatchOption};
+ghost use Rattle.trace_lines.specs.Lines.{ack_of, act_of, append_of, cause_of, create_of, delete_of, event_of, item_read, seek_of, write_of};
+ghost use Rattle.trace_lines.specs.Ranges.{ranges_from, ranges_of};
+ghost use Rattle.trace_lines.specs.Said.{act_said, item_said};
+ghost use Rattle.trace_lines.specs.Words.{start_of};
+
+use crate::entries::{entry_with, what_of};
+use crate::line::{Line, Written};
+use crate::names::{Names, declared, targets_of};
+use crate::numbers::{may_follow, number, position_of, range_of};
+use crate::ranges::AckedRanges;
+use crate::texts::{sub_of, text_of};
+use crate::words::LineWords;
+use geo_base::{Cause, Ident, Memory, ProducerName};
+use script_names::{Parts, is_word};
+use std::alloc::Global;
+
+/// What a line says; None where it has no form.
+#[tactic(auto, unfolding(crate::specs::Lines::item_read))]
+pub fn line_of(alloc: Global, names: &Names<'_>, line: &[u8]) -> Result<Option<Line>, Memory>
+    ensures { IfOk result (λ said. option_map item_said said ≡ item_read names.now line.now) }
+{
+    let mut words = LineWords::new(line);
+    let Some(kind) = words.next_word() else {
+        return Ok(None);
+    };
+    if is_word(kind, b"event") {
+        return Ok(event_of(words));
+    }
+    write_of(alloc, names, kind, words)
+}
+
+/// `event NUMBER`
+fn event_of(words: LineWords<'_>) -> Option<Line>
+    ensures { option_map item_said result ≡ event_of words.entry }
+{
+    let number = number(words.last_word()?)?;
+    Some(Line::Begins(number))
+}
+
+/// `KIND TOPIC CLUSTER ..`
+fn write_of(
+    alloc: Global,
+    names: &Names<'_>,
+    kind: &[u8],
+    words: LineWords<'_>,
+) -> Result<Option<Line>, Memory>
+    ensures { IfOk result (λ said. option_map item_said said ≡ write_of names.now kind.now words.entry) }
+{
+    let mut words = words;
+    let Some(topic) = words.next_word() else {
+        return Ok(None);
+    };
+    let Some(cluster) = words.next_word() else {
+        return Ok(None);
+    };
+    let Some(topic) = declared(names.topics(), topic) else {
+        return Ok(None);
+    };
+    let Some(cluster) = declared(names.clusters(), cluster) else {
+        return Ok(None);
+    };
+    match written_of(alloc, names, cluster, kind, words)? {
+        None => Ok(None),
+        Some(written) => Ok(Some(Line::Writes {
+            topic,
+            cluster,
+            written,
+        })),
+    }
+}
+
+/// What was written at a cluster, by the first word of the line.
+fn written_of(
+    alloc: Global,
+    names: &Names<'_>,
+    cluster: u32,
+    kind: &[u8],
+    words: LineWords<'_>,
+) -> Result<Option<Written>, Memory>
+    ensures { IfOk result (λ said. option_map act_said said ≡ act_of names.now.clusters cluster kind.now words.entry) }
+{
+    if is_word(kind, b"append") {
+        append_of(alloc, names, cluster, words)
+    } else if is_word(kind, b"ack") {
+        ack_of(alloc, words)
+    } else if is_word(kind, b"create") {
+        create_of(alloc, words)
+    } else if is_word(kind, b"delete") {
+        delete_of(alloc, words)
+    } else if is_word(kind, b"seek") {
+        seek_of(alloc, words)
+    } else {
+        Ok(None)
+    }
+}
+
+/// `POSITION ORIGIN PRODUCER SEQ LIST WHAT`
+fn append_of(
+    alloc: Global,
+    names: &Names<'_>,
+    cluster: u32,
+    words: LineWords<'_>,
+) -> Result<Option<Written>, Memory>
+    ensures { IfOk result (λ said. option_map act_said said ≡ append_of names.now.clusters cluster words.entry) }
+{
+    let mut words = words;
+    let Some(head) = head_of(&mut words) else {
+        return Ok(None);
+    };
+    let Some(position) = position_of(head.position) else {
+        return Ok(None);
+    };
+    let Some(origin) = declared(names.clusters(), head.origin) else {
+        return Ok(None);
+    };
+    let Some(producer) = text_of(alloc, head.producer)? else {
+        return Ok(None);
+    };
+    let Some(seq) = number(head.seq) else {
+        return Ok(None);
+    };
+    let Some(to) = targets_of(alloc, names.clusters(), head.list)? else {
+        return Ok(None);
+    };
+    let Some(what) = what_of(alloc, names.clusters(), origin == cluster, words)? else {
+        return Ok(None);
+    };
+    let ident = Ident {
+        origin,
+        producer: ProducerName::from_text(producer),
+        seq,
+    };
+    let by = what.by;
+    let entry = entry_with(alloc, names, ident, to, what)?;
+    Ok(Some(Written::Appends {
+        position,
+        entry,
+        by,
+    }))
+}
+
+/// The words of an entry before what it is.
+#[derive(Debug, Drop)]
+struct Head<'a> {
+    position: &'a [u8],
+    origin: &'a [u8],
+    producer: &'a [u8],
+    seq: &'a [u8],
+    list: &'a [u8],
+}
+
+fn head_of<'a>(words: &mut LineWords<'a>) -> Option<Head<'a>>
+    ensures { MatchOption result (length words.old < 5)
+        (λ head. words.old ≡ head.position.now ∷ head.origin.now ∷ head.producer.now ∷ head.seq.now ∷ head.list.now ∷ words.new) }
+{
+    Some(Head {
+        position: words.next_word()?,
+        origin: words.next_word()?,
+        producer: words.next_word()?,
+        seq: words.next_word()?,
+        list: words.next_word()?,
+    })
+}
+
+/// `SUB latest` or `SUB earliest`
+fn create_of(alloc: Global, words: LineWords<'_>) -> Result<Option<Written>, Memory>
+    ensures { IfOk result (λ said. option_map act_said said ≡ create_of words.entry) }
+{
+    let mut words = words;
+    let Some(sub) = words.next_word() else {
+        return Ok(None);
+    };
+    let Some(start) = words.last_word() else {
+        return Ok(None);
+    };
+    let Some(sub) = sub_of(alloc, sub)? else {
+        return Ok(None);
+    };
+    match start_of(start) {
+        None => Ok(None),
+        Some(latest) => Ok(Some(Written::Creates { sub, latest })),
+    }
+}
+
+/// Whether a subscription begins at Latest.
+fn start_of(word: &[u8]) -> Option<bool>
+    ensures { result ≡ start_of word.now }
+{
+    if is_word(word, b"latest") {
+        Some(true)
+    } else if is_word(word, b"earliest") {
+        Some(false)
+    } else {
+        None
+    }
+}
+
+/// `SUB`
+fn delete_of(alloc: Global, words: LineWords<'_>) -> Result<Option<Written>, Memory>
+    ensures { IfOk result (λ said. option_map act_said said ≡ delete_of words.entry) }
+{
+    let Some(sub) = words.last_word() else {
+        return Ok(None);
+    };
+    match sub_of(alloc, sub)? {
+        None => Ok(None),
+        Some(sub) => Ok(Some(Written::Deletes { sub })),
+    }
+}
+
+/// `SUB RANGES CAUSE`
+fn ack_of(alloc: Global, words: LineWords<'_>) -> Result<Option<Written>, Memory>
+    ensures { IfOk result (λ said. option_map act_said said ≡ ack_of words.entry) }
+{
+    let mut words = words;
+    let Some(sub) = words.next_word() else {
+        return Ok(None);
+    };
+    let Some(ranges) = words.next_word() else {
+        return Ok(None);
+    };
+    let Some(sub) = sub_of(alloc, sub)? else {
+        return Ok(None);
+    };
+    let Some(ranges) = ranges_of(alloc, ranges)? else {
+        return Ok(None);
+    };
+    match cause_of(words) {
+        None => Ok(None),
+        Some(cause) => Ok(Some(Written::Acks { sub, ranges, cause })),
+    }
+}
+
+/// `client`, `marker` or `update POSITION`
+fn cause_of(words: LineWords<'_>) -> Option<Cause>
+    ensures { result ≡ cause_of words.entry }
+{
+    let mut words = words;
+    let kind = words.next_word()?;
+    match words.next_word() {
+        None if is_word(kind, b"client") => Some(Cause::Client),
+        None if is_word(kind, b"marker") => Some(Cause::Marker),
+        None => None,
+        Some(position) => {
+            if words.next_word().is_some() || !is_word(kind, b"update") {
+                return None;
+            }
+            Some(Cause::Update(position_of(position)?))
+        }
+    }
+}
+
+/// Ranges of indexes, with commas.
+#[tactic(auto, using(crate::proofs::SoFar::ranges_so_far))]
+fn ranges_of(alloc: Global, word: &[u8]) -> Result<Option<AckedRanges>, Memory>
+    ensures { IfOk result (λ ranges. ranges ≡ ranges_of word.now) }
+{
+    let mut ranges = AckedRanges::new(alloc);
+    if is_word(word, b"-") {
+        return Ok(Some(ranges));
+    }
+    let mut parts = Parts::new(word, b',');
+    let mut last = None;
+    while let Some(part) = parts.next_part() {
+        let Some(range) = range_of(part) else {
+            return Ok(None);
+        };
+        if !may_follow(last, range.first) {
+            return Ok(None);
+        }
+        ranges.push(range)?;
+        last = Some(range.last);
+    }
+    Ok(Some(ranges))
+}
+
+/// `SUB INDEX`
+fn seek_of(alloc: Global, words: LineWords<'_>) -> Result<Option<Written>, Memory>
+    ensures { IfOk result (λ said. option_map act_said said ≡ seek_of words.entry) }
+{
+    let mut words = words;
+    let Some(sub) = words.next_word() else {
+        return Ok(None);
+    };
+    let Some(index) = words.last_word() else {
+        return Ok(None);
+    };
+    let Some(sub) = sub_of(alloc, sub)? else {
+        return Ok(None);
+    };
+    match number(index) {
+        None => Ok(None),
+        Some(index) => Ok(Some(Written::Seeks { sub, index })),
+    }
+}

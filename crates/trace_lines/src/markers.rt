@@ -1,0 +1,213 @@
+//! Markers in a line.
+ghost use Rattle.std.specs.Prelude.{◌≡◌, IfOk};
+ghost use Rattle.trace_lines.specs.Entries.{by_of, cluster_positions_of, marked, own_update_of, request_of, response_of, snapshot_of, told_positions_of, unread_of, update_of};
+
+use crate::line::{ToldPositions, What};
+use crate::names::{cluster_position_of, place_of};
+use crate::numbers::position_of;
+use crate::texts::{sub_of, text_of};
+use crate::words::LineWords;
+use geo_base::{Blob, ClusterPosition, Content, Marker, Memory, Position, Sequence};
+use script_names::{NameTable, is_word};
+use std::alloc::Global;
+
+/// What is no message.
+fn marked(alloc: Global, content: Content, by: Option<Position>) -> What
+    ensures { result ≡ marked content by }
+{
+    What {
+        content,
+        key: None,
+        payload: Blob::new(alloc),
+        by,
+    }
+}
+
+/// `request ID CLUSTER`
+pub(crate) fn request_of(
+    alloc: Global,
+    clusters: &NameTable<'_>,
+    words: LineWords<'_>,
+) -> Result<Option<What>, Memory>
+    ensures { IfOk result (λ what. what ≡ request_of clusters.now words.entry) }
+{
+    let mut words = words;
+    let Some(id) = words.next_word() else {
+        return Ok(None);
+    };
+    let Some(source) = words.last_word() else {
+        return Ok(None);
+    };
+    let Some(id) = text_of(alloc, id)? else {
+        return Ok(None);
+    };
+    let Some(source) = place_of(alloc, clusters, source)? else {
+        return Ok(None);
+    };
+    let marker = Marker::Request { id, source };
+    Ok(Some(marked(alloc, Content::Marked(marker), None)))
+}
+
+/// `response ID CLUSTER=L:E`
+pub(crate) fn response_of(
+    alloc: Global,
+    clusters: &NameTable<'_>,
+    words: LineWords<'_>,
+) -> Result<Option<What>, Memory>
+    ensures { IfOk result (λ what. what ≡ response_of clusters.now words.entry) }
+{
+    let mut words = words;
+    let Some(id) = words.next_word() else {
+        return Ok(None);
+    };
+    let Some(answer) = words.last_word() else {
+        return Ok(None);
+    };
+    let Some(id) = text_of(alloc, id)? else {
+        return Ok(None);
+    };
+    let Some(answer) = cluster_position_of(alloc, clusters, answer)? else {
+        return Ok(None);
+    };
+    let marker = Marker::Response { id, answer };
+    Ok(Some(marked(alloc, Content::Marked(marker), None)))
+}
+
+/// `snapshot ID L:E CLUSTER=L:E ..`
+pub(crate) fn snapshot_of(
+    alloc: Global,
+    clusters: &NameTable<'_>,
+    words: LineWords<'_>,
+) -> Result<Option<What>, Memory>
+    ensures { IfOk result (λ what. what ≡ snapshot_of clusters.now words.entry) }
+{
+    let mut words = words;
+    let Some(id) = words.next_word() else {
+        return Ok(None);
+    };
+    let Some(local) = words.next_word() else {
+        return Ok(None);
+    };
+    let Some(id) = text_of(alloc, id)? else {
+        return Ok(None);
+    };
+    let Some(local) = position_of(local) else {
+        return Ok(None);
+    };
+    let Some(remote) = cluster_positions_of(alloc, clusters, words)? else {
+        return Ok(None);
+    };
+    let marker = Marker::Snapshot { id, local, remote };
+    Ok(Some(marked(alloc, Content::Marked(marker), None)))
+}
+
+/// `update SUB CLUSTER=L:E ..`
+pub(crate) fn update_of(
+    alloc: Global,
+    clusters: &NameTable<'_>,
+    words: LineWords<'_>,
+) -> Result<Option<What>, Memory>
+    ensures { IfOk result (λ what. what ≡ update_of clusters.now words.entry) }
+{
+    let mut words = words;
+    let Some(sub) = words.next_word() else {
+        return Ok(None);
+    };
+    let Some(sub) = sub_of(alloc, sub)? else {
+        return Ok(None);
+    };
+    let Some(remote) = cluster_positions_of(alloc, clusters, words)? else {
+        return Ok(None);
+    };
+    let marker = Marker::Update { sub, remote };
+    Ok(Some(marked(alloc, Content::Marked(marker), None)))
+}
+
+/// `update SUB CLUSTER=L:E .. by L:E`, of the own cluster
+pub(crate) fn own_update_of(
+    alloc: Global,
+    clusters: &NameTable<'_>,
+    words: LineWords<'_>,
+) -> Result<Option<What>, Memory>
+    ensures { IfOk result (λ what. what ≡ own_update_of clusters.now words.entry) }
+{
+    let mut words = words;
+    let Some(sub) = words.next_word() else {
+        return Ok(None);
+    };
+    let Some(sub) = sub_of(alloc, sub)? else {
+        return Ok(None);
+    };
+    let Some(told) = told_positions_of(alloc, clusters, words)? else {
+        return Ok(None);
+    };
+    let marker = Marker::Update {
+        sub,
+        remote: told.remote,
+    };
+    Ok(Some(marked(alloc, Content::Marked(marker), Some(told.by))))
+}
+
+/// `unread`
+pub(crate) fn unread_of(alloc: Global, words: LineWords<'_>) -> Option<What>
+    ensures { result ≡ unread_of words.entry }
+{
+    let mut words = words;
+    match words.next_word() {
+        Some(_) => None,
+        None => Some(marked(alloc, Content::Unread(0), None)),
+    }
+}
+
+/// Positions of clusters, to the end of the line.
+#[tactic(auto, using(crate::proofs::SoFar::positions_so_far))]
+fn cluster_positions_of(
+    alloc: Global,
+    clusters: &NameTable<'_>,
+    words: LineWords<'_>,
+) -> Result<Option<Sequence<ClusterPosition>>, Memory>
+    ensures { IfOk result (λ remote. remote ≡ cluster_positions_of clusters.now words.entry) }
+{
+    let mut words = words;
+    let mut remote = Sequence::new(alloc);
+    while let Some(word) = words.next_word() {
+        let Some(position) = cluster_position_of(alloc, clusters, word)? else {
+            return Ok(None);
+        };
+        remote.push(position)?;
+    }
+    Ok(Some(remote))
+}
+
+/// Positions of clusters, and behind them `by L:E`.
+#[tactic(auto, using(crate::proofs::SoFar::told_so_far))]
+fn told_positions_of(
+    alloc: Global,
+    clusters: &NameTable<'_>,
+    words: LineWords<'_>,
+) -> Result<Option<ToldPositions>, Memory>
+    ensures { IfOk result (λ told. told ≡ told_positions_of clusters.now words.entry) }
+{
+    let mut words = words;
+    let mut remote = Sequence::new(alloc);
+    while let Some(word) = words.next_word() {
+        if is_word(word, b"by") {
+            return match by_of(words) {
+                None => Ok(None),
+                Some(by) => Ok(Some(ToldPositions { remote, by })),
+            };
+        }
+        let Some(position) = cluster_position_of(alloc, clusters, word)? else {
+            return Ok(None);
+        };
+        remote.push(position)?;
+    }
+    Ok(None)
+}
+
+/// The position behind `by`.
+fn by_of(words: LineWords<'_>) -> Option<Position>
+    ensures { result ≡ by_of words.entry }
+{
+    position_of(words.last_word()?)
+}

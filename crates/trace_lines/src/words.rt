@@ -1,0 +1,67 @@
+//! The words of a line that are left.
+ghost use Rattle.std.specs.Prelude.{◌≡◌, ◌≢◌, List, ℕ, [], ◌∷◌, MatchOption};
+ghost use Rattle.script_rows.specs.Words.{words_of};
+
+use script_names::cut_at;
+use std::marker::Model;
+
+/// The words of a line that are left: they stand between spaces, and two spaces in a row have an empty word between them.
+#[derive(Debug, Drop)]
+pub(crate) struct LineWords<'a> {
+    rest: Option<&'a [u8]>,
+}
+
+impl<'a> Model for LineWords<'a> {
+    ghost use Rattle.std.specs.Prelude.{List, ℕ, []};
+    ghost use Rattle.std.specs.Option.{option_copied, option_map_or};
+    ghost use Rattle.script_rows.specs.Words.{words_of};
+
+    ghost Value = { List (List ℕ) };
+
+    ghost view = { λ w. option_map_or words_of (option_copied w.rest) [] };
+}
+
+impl<'a> LineWords<'a> {
+    /// The words of a line.
+    pub(crate) fn new(line: &'a [u8]) -> LineWords<'a>
+        ensures { result ≡ words_of line.now }
+    {
+        LineWords { rest: Some(line) }
+    }
+
+    /// The next word.
+    pub(crate) fn next_word(&mut self) -> Option<&'a [u8]>
+        ensures { MatchOption result (self.old ≡ []) (λ word. self.old ≡ word.now ∷ self.new) }
+    {
+        let rest = self.rest?;
+        match cut_at(rest, b' ') {
+            Some((word, rest)) => {
+                self.rest = Some(rest);
+                Some(word)
+            }
+            None => {
+                self.rest = None;
+                Some(rest)
+            }
+        }
+    }
+
+    /// The one word that is left; None where none is left, or more.
+    pub(crate) fn last_word(self) -> Option<&'a [u8]>
+        ensures { MatchOption result ((word : List ℕ) → self.entry ≢ word ∷ []) (λ word. self.entry ≡ word.now ∷ []) }
+    {
+        let mut words = self;
+        let word = words.next_word()?;
+        match words.next_word() {
+            Some(_) => None,
+            None => Some(word),
+        }
+    }
+
+    /// All that is left of the line, as one text; None where no word is left.
+    pub(crate) fn text(self) -> Option<&'a [u8]>
+        ensures { MatchOption result (self.entry ≡ []) (λ text. self.entry ≡ words_of text.now) }
+    {
+        self.rest
+    }
+}
