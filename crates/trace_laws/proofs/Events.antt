@@ -22,7 +22,7 @@ use Rattle.geo_base.specs.Subscription.{Subscription, after_acks, attached, clea
 use Rattle.geo_base.specs.World.{Forward, World, link_at, node, site, topic_at}
 use Rattle.world_laws.proofs.Added.{came_other}
 use Rattle.world_laws.proofs.Appends.{fresh}
-use Rattle.world_laws.proofs.EventWalk.{of_node, of_pair, of_target}
+use Rattle.world_laws.proofs.EventWalk.{of_node, of_pair, of_sub, of_target}
 use Rattle.world_laws.proofs.Fresh.{Fresh}
 use Rattle.world_laws.proofs.LinkWalk.{fate_answered, fate_taken}
 use Rattle.world_laws.proofs.NoSelf.{NoSelf}
@@ -128,10 +128,10 @@ event_holds s w n (event.Receipt t x y f) within a new knows = (node_there s t x
 event_holds s w n (event.Snap t x) within a new knows =
     let there = node_there s t x within in (there, snaps_hold s w n t x cause.Client _ (a.here t x there) (snap_shape (site s t x) (topic_at s w t x)) new)
 event_holds s w n (event.Offer t x m) within a new knows =
-    let there = node_there s t x within in
+    let there = node_there s t x (of_sub s t x m within) in
     (there, offers_hold s w n t x (sub_name s t m) _ (a.here t x there) (offer_shape (site s t x) (topic_at s w t x) (sub_name s t m)) new)
 event_holds s w n (event.Seek t x m to) within a new knows =
-    let there = node_there s t x within in
+    let there = node_there s t x (of_sub s t x m within) in
     (there, seeks_hold s w n t x cause.Client (sub_name s t m) to _ (a.here t x there) (seek_shape (site s t x) (topic_at s w t x) (sub_name s t m) to) new)
 event_holds s w n (event.Restart t x) within a new knows = (node_there s t x within, (tt, tt))
 event_holds s w n (event.Go c) within a new knows = tt

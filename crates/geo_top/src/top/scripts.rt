@@ -51,7 +51,7 @@ fn answer_to_scenario(alloc: Global, shown: Shown, scenario: &Scenario) -> Resul
 }
 
 /// What is shown of the world at the end of a script's run.
-#[tactic(auto, using(crate::proofs::Shown::shown_report))]
+#[tactic(auto, using(crate::proofs::Shown::shown_output))]
 fn output(alloc: Global, shown: Shown, scenario: &Scenario, world: &World) -> Result<Blob, Memory>
     requires { IsFinished scenario.now world.now }
     ensures { IfOk result (λ bytes. bytes ≡ output_of shown scenario.now) }
