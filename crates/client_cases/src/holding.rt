@@ -1,5 +1,5 @@
 //! What is held, call by call.
-use client_node::HeldTable;
+use client::HeldTable;
 use geo_base::{Held, Ident, Memory, Position, ProducerName};
 use std::alloc::Global;
 use std::test::Fail;

@@ -3,12 +3,12 @@ ghost use Rattle.std.specs.Prelude.{◌≡◌, true};
 ghost use Rattle.std.specs.List.{list_all};
 ghost use Rattle.geo_base.specs.Name.{is_name};
 ghost use Rattle.geo_base.specs.Scripted.{is_optional_name};
-ghost use Rattle.client_node.specs.Changing.{ClientFits};
-ghost use Rattle.client_node.specs.Counted.{CanCount};
-ghost use Rattle.client_node.specs.Site.{is_short_line};
+ghost use Rattle.client.specs.Changing.{ClientFits};
+ghost use Rattle.client.specs.Counted.{CanCount};
+ghost use Rattle.client.specs.Site.{is_short_line};
 
 use crate::story::{Act, ROWS, Row, lines};
-use client_node::{Client, ClientSite, Incoming, Prepared};
+use client::{Client, ClientSite, Incoming, Prepared};
 use geo_base::limits::{CLUSTERS, TEXT_BYTES};
 use geo_base::{ClusterName, Line, Memory, ProducerName, Text, TopicName, name_text};
 use std::alloc::Global;

@@ -4,11 +4,11 @@
 #[cfg(test)]
 mod commands;
 #[cfg(test)]
+mod crossing;
+#[cfg(test)]
 mod fields;
 #[cfg(test)]
 mod frames;
-#[cfg(test)]
-mod links;
 #[cfg(test)]
 mod markers;
 #[cfg(test)]

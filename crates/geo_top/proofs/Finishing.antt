@@ -5,10 +5,10 @@ use Rattle.geo_base.specs.declared.event.Step.{Step}
 use Rattle.geo_base.specs.Run.{all_limits, run_from, run_under}
 use Rattle.geo_base.specs.Setup.{Setup}
 use Rattle.geo_base.specs.World.{World, opening_world}
-use Rattle.geo_world.specs.declared.fault.RunFault.{RunFault}
-use Rattle.geo_world.specs.declared.fault.RunFault.TheVariants as fault
-use Rattle.geo_world.specs.Runs.{Comes, at_world}
-use Rattle.geo_world.specs.World.{IsAt, WorldBook, kept_of}
+use Rattle.world.specs.declared.fault.RunFault.{RunFault}
+use Rattle.world.specs.declared.fault.RunFault.TheVariants as fault
+use Rattle.world.specs.Runs.{Comes, at_world}
+use Rattle.world.specs.World.{IsAt, WorldBook, kept_of}
 use Rattle.schedule_gen.specs.Generated.{generated_run}
 use Rattle.script_text.specs.Script.{Script}
 use Rattle.world_kept.specs.Kept.{Kept, opening_kept}

@@ -8,10 +8,10 @@ use Rattle.geo_base.specs.Report.{broker_lines, client_line, client_lines, clust
 use Rattle.geo_base.specs.Scripted.{IsScripted}
 use Rattle.geo_base.specs.Setup.{Declared, Setup, declared_at}
 use Rattle.geo_base.specs.World.{World, broker_at, client_at, node, topic_at}
-use Rattle.geo_world.specs.World.{IsAt, WorldBook, no_node, node_at}
-use Rattle.node_report.proofs.Parts.{lines_added, with_line_feeds-append}
+use Rattle.world.specs.World.{IsAt, WorldBook, no_node, node_at}
+use Rattle.report_nodes.proofs.Parts.{lines_added, with_line_feeds-append}
 use Rattle.report_lines.proofs.Added.{line_added}
-use Rattle.topic_node.specs.Node.{NodeBook}
+use Rattle.broker.specs.Node.{NodeBook}
 use Rattle.world_laws.specs.Reached.{IsGround}
 use Rattle.world_kept.proofs.Reaching.{ground}
 use Rattle.world_laws.proofs.Sizes.{node_lt}

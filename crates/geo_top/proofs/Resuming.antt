@@ -4,11 +4,11 @@ use Rattle.std.specs.Prelude.{Some, Result, Ok, Err, OnOk}
 use Rattle.geo_base.specs.declared.event.Step.{Step}
 use Rattle.geo_base.specs.Run.{all_limits, run_from}
 use Rattle.geo_base.specs.World.{World}
-use Rattle.geo_world.specs.declared.fault.RunFault.{RunFault}
-use Rattle.geo_world.specs.declared.fault.RunFault.TheVariants as fault
-use Rattle.geo_world.specs.Runs.{Comes, at_world}
+use Rattle.world.specs.declared.fault.RunFault.{RunFault}
+use Rattle.world.specs.declared.fault.RunFault.TheVariants as fault
+use Rattle.world.specs.Runs.{Comes, at_world}
 use Rattle.state_laws.specs.Saved.{world_from}
-use Rattle.geo_world.specs.World.{IsAt, WorldBook, kept_of}
+use Rattle.world.specs.World.{IsAt, WorldBook, kept_of}
 use Rattle.script_text.specs.Script.{Script}
 use Rattle.state_file.specs.State.{SavedState}
 use Rattle.world_kept.specs.Reached.{Reached}

@@ -5,7 +5,7 @@ use Rattle.geo_base.specs.declared.event.Step.{Step}
 use Rattle.geo_base.specs.declared.memory.Memory.{Memory}
 use Rattle.geo_base.specs.Report.{report}
 use Rattle.geo_base.specs.Run.{all_limits}
-use Rattle.geo_world.specs.World.{WorldBook}
+use Rattle.world.specs.World.{WorldBook}
 use Rattle.script_text.specs.Schedule.{schedule_of}
 use Rattle.script_text.specs.Script.{Script}
 use Rattle.state_file.specs.Loading.{IsLoaded, bad_state, version}

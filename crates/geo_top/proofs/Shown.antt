@@ -6,7 +6,7 @@ use Rattle.geo_base.specs.Report.{broker_lines, client_line, client_lines, clust
 use Rattle.geo_base.specs.Run.{run}
 use Rattle.geo_base.specs.Setup.{Declared, Setup}
 use Rattle.geo_base.specs.World.{World, client_at, topic_at}
-use Rattle.geo_world.specs.World.{WorldBook, kept_of}
+use Rattle.world.specs.World.{WorldBook, kept_of}
 use Rattle.schedule_gen.specs.Generated.{generated_run}
 use Rattle.script_text.specs.Script.{Script}
 use Rattle.world_kept.specs.Standing.{Stands}

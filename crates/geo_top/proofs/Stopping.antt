@@ -6,9 +6,9 @@ use Rattle.geo_base.specs.Happening.{stops}
 use Rattle.geo_base.specs.Run.{Limits, Ran, all_limits, ends_or, no_limits, run, run_under, steps}
 use Rattle.geo_base.specs.Setup.{Setup}
 use Rattle.geo_base.specs.World.{World, opening_world}
-use Rattle.geo_world.specs.declared.fault.RunFault.{RunFault}
-use Rattle.geo_world.specs.declared.fault.RunFault.TheVariants as fault
-use Rattle.geo_world.specs.Saving.{Saves}
+use Rattle.world.specs.declared.fault.RunFault.{RunFault}
+use Rattle.world.specs.declared.fault.RunFault.TheVariants as fault
+use Rattle.world.specs.Saving.{Saves}
 use Rattle.state_file.specs.State.{state_in, state_of}
 use Rattle.script_text.specs.Script.{Script}
 use Rattle.state_file.specs.declared.saved.Saved.{Saved}

@@ -3,7 +3,7 @@ use Rattle.std.specs.Prelude.{◌≡◌, List, None}
 use Rattle.geo_base.specs.declared.event.Step.{Step}
 use Rattle.geo_base.specs.Run.{all_limits, run}
 use Rattle.state_laws.specs.Saved.{world_from}
-use Rattle.geo_world.specs.World.{IsAt, WorldBook, kept_of}
+use Rattle.world.specs.World.{IsAt, WorldBook, kept_of}
 use Rattle.script_text.specs.Script.{Script}
 use Rattle.state_file.specs.State.{SavedState}
 use Rattle.world_kept.specs.Standing.{Stands}

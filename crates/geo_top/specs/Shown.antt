@@ -1,7 +1,7 @@
 -- What is shown of the program's world: all but its links.
 use Rattle.std.specs.Prelude.{[]}
 use Rattle.geo_base.specs.World.{Links, World}
-use Rattle.geo_world.specs.World.{WorldBook, brokers_of}
+use Rattle.world.specs.World.{WorldBook, brokers_of}
 
 abbrev pub no_links : Links
 no_links = record { forward = []; back = []; to_broker = []; to_client = [] }

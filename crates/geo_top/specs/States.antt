@@ -4,7 +4,7 @@ use Rattle.geo_base.specs.declared.event.Step.{Step}
 use Rattle.geo_base.specs.declared.event.Step.TheVariants as step
 use Rattle.geo_base.specs.Run.{Limits, Ran, no_limits, run, run_from}
 use Rattle.geo_base.specs.World.{World}
-use Rattle.geo_world.specs.Runs.{at_world}
+use Rattle.world.specs.Runs.{at_world}
 use Rattle.state_file.specs.State.{SavedState, state_in}
 use Rattle.state_laws.specs.Saved.{world_from}
 use Rattle.script_text.specs.Script.{Script}

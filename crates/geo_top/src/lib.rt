@@ -1,7 +1,7 @@
 //! The program: from the words of a command line and the bytes of a script to the bytes of a report.
 //!
 //! [`answer`] is the program as one call over bytes: what it answers to words and an input, a script or a state file, whose run
-//! `geo_world` does. [`geo_alone`] reads the input from a source, and writes what is answered to a sink.
+//! `world` does. [`geo_alone`] reads the input from a source, and writes what is answered to a sink.
 #![tactic(auto)]
 
 mod law;

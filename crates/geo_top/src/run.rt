@@ -9,10 +9,10 @@ ghost use Rattle.state_file.specs.Known.{IsKnownState};
 ghost use Rattle.state_file.specs.State.{state_of};
 
 use geo_base::Blob;
-use geo_world::{RunFault, World};
 use script_text::{Scenario, StepList};
 use state_file::{Saved, save};
 use std::alloc::Global;
+use world::{RunFault, World};
 
 /// The world at the end of a script's run, or the limit that the run passes.
 #[tactic(auto, using(crate::proofs::Finishing::finished, crate::proofs::Finishing::passed))]

@@ -3,15 +3,15 @@ ghost use Rattle.std.specs.Prelude.{◌≡◌, ◌++◌, ◌∷◌, [], string_b
 ghost use Rattle.geo_base.specs.Report.{with_line_feeds};
 ghost use Rattle.geo_top.specs.Shown.{shown_world};
 ghost use Rattle.geo_top.specs.Summary.{big_line, stored_line, stored_lines, summary};
-ghost use Rattle.geo_world.specs.World.{IsAt};
+ghost use Rattle.world.specs.World.{IsAt};
 
 use crate::world_report::add_head;
 use geo_base::{Blob, EntryStore, Memory};
-use geo_world::World;
 use report_lines::add;
 use script_text::Scenario;
 use std::alloc::Global;
 use topic_ledger::TopicLedger;
+use world::World;
 
 /// The one topic of a generated run.
 const TOPIC: u32 = 0;

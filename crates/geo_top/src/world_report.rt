@@ -5,14 +5,14 @@
 ghost use Rattle.std.specs.Prelude.{◌≡◌, ◌<◌, ◌++◌, ◌∷◌, [], length, OnOk, OnErr};
 ghost use Rattle.geo_base.specs.Report.{client_lines, cluster_lines, head_line, report, topic_lines, with_line_feeds};
 ghost use Rattle.geo_top.specs.Shown.{shown_world};
-ghost use Rattle.geo_world.specs.World.{IsAt};
+ghost use Rattle.world.specs.World.{IsAt};
 
 use geo_base::{Blob, Memory};
-use geo_world::World;
-use node_report::{add_broker, add_client};
 use report_lines::{add, head_line, place_line};
+use report_nodes::{add_broker, add_client};
 use script_text::Scenario;
 use std::alloc::Global;
+use world::World;
 
 /// Appends the report of a world; nothing where memory is wanting.
 #[tactic(auto, unfolding(geo_base::specs::Report::report_lines))]

@@ -1,12 +1,12 @@
 //! What is told of a broker that takes a packet.
 
-use crate::broker::{kept, node, stop, take};
+use crate::hostile::{kept, node, stop, take};
 use anyhow::Result;
-use book_core::Outgoing;
+use broker::TopicNode;
+use broker_state::Outgoing;
 use geo_base::{Content, EntryStore};
 use std::alloc::Global;
 use std::fmt;
-use topic_node::TopicNode;
 
 /// The session that the broker has open.
 const OPEN: u64 = 1;

@@ -4,8 +4,8 @@
 //! entries the broker has after a stop within one more SEND, saved and loaded. A line of another form is answered by `bad line`.
 #![tactic(auto)]
 
-mod broker;
 mod case;
+mod hostile;
 mod line;
 
 use anyhow::Result;

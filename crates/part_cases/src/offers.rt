@@ -1,11 +1,11 @@
 //! A new broker has nothing to offer and no cursor to set, and may start again.
 ghost use Rattle.std.specs.Prelude.{◌≡◌, [], IfOk};
-ghost use Rattle.book_site.specs.Prepared.{IsAt, MarkerFits};
-ghost use Rattle.book_site.specs.Storable.{IsWritable};
+ghost use Rattle.broker_plans.specs.Prepared.{IsAt, MarkerFits};
+ghost use Rattle.broker_plans.specs.Storable.{IsWritable};
 
-use book_core::Book;
-use book_offers::*;
-use book_site::Site;
+use broker_offers::*;
+use broker_plans::Site;
+use broker_state::Book;
 use geo_base::{ClusterName, TopicName};
 use std::alloc::Global;
 use std::test::Fail;

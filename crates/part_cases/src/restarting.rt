@@ -1,11 +1,11 @@
 //! Writes and restarts.
 use cursor_acks::Cursor;
 use dedup_table::{Stream, Verdict};
+use durable_parts::*;
 use geo_base::{
     Blob, Content, Entry, EntryStore, Ident, Memory, Metadata, NameFault, ProducerName, Sequence,
     SubKind, SubName, Targets,
 };
-use restart::*;
 use std::alloc::Global;
 use std::test::Fail;
 

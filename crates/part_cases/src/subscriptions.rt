@@ -1,7 +1,7 @@
 //! Subscriptions of a broker.
 ghost use Rattle.std.specs.Prelude.{◌≡◌, length, IfOk};
 
-use book_subs::*;
+use broker_subs::*;
 use geo_base::{
     Blob, Consumer, Content, Entry, EntryStore, Ident, Memory, Metadata, ProducerName, Sequence,
     SubKind, SubName, Targets,

@@ -2,16 +2,16 @@
 use Rattle.std.proofs.Common.{◌≡◌, ℕ, List, Some, true, refl, sym, ap, subst, ◌∙◌, length}
 use Rattle.pb_fields.specs.Canonical.{text}
 use Rattle.message_meta.specs.declared.known.KnownMeta.{KnownMeta}
-use Rattle.message_meta.specs.Known.{IsJoinedText, IsRest, joined}
+use Rattle.message_meta.specs.Known.{IsJoinedText, IsRest}
 use Rattle.pulsar_commands.specs.declared.command.Command.{Command}
 use Rattle.pulsar_commands.specs.Canonical.{command_text}
 use Rattle.pulsar_commands.specs.Parts.{kind_of}
 use Rattle.pulsar_commands.specs.Text.{IsCommandText}
 use Rattle.pulsar_frames.specs.declared.fault.FrameFault.{FrameFault}
 use Rattle.pulsar_frames.specs.declared.fault.FrameFault.TheVariants as fault
-use Rattle.pulsar_frames.specs.Layout.{BodyLayout, Layout, Fits, content_text, layout_text}
-use Rattle.pulsar_frames.specs.Frames.{IsFrameText, carries}
-use Rattle.pulsar_frames.specs.Canonical.{IsTooLarge, canonical_layout, frame_text}
+use Rattle.pulsar_frames.specs.Layout.{Layout, Fits, content_text, layout_text}
+use Rattle.pulsar_frames.specs.Frames.{carries}
+use Rattle.pulsar_frames.specs.Canonical.{IsTooLarge, canonical_layout}
 use Rattle.pulsar_frames.specs.Carrying.{IsCarryingFault, IsCarryingText, carrying}
 
 -- the layout of texts in their places

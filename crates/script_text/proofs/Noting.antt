@@ -15,7 +15,7 @@ use Rattle.script_names.specs.Names.{is_among}
 use Rattle.script_names.specs.Words.{Word}
 use Rattle.script_rows.specs.declared.column.Role.{Role}
 use Rattle.script_rows.specs.declared.names.Member.{Member}
-use Rattle.script_rows.specs.Names.{Names, in_role, member_at, stranger, subs_of, with_role, with_sub}
+use Rattle.script_rows.specs.Names.{Names, in_role, member_at, stranger, subs_of, with_role}
 use Rattle.script_rows.specs.Names as rows
 use Rattle.script_text.specs.Adding.{new_client, one_more, with_client, with_cluster, with_ledger, with_line, with_topic}
 use Rattle.script_text.specs.Drafts.{no_draft, noted_line}

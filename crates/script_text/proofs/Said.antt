@@ -26,7 +26,7 @@ use Rattle.script_rows.specs.declared.value.Value.TheVariants as value
 use Rattle.script_rows.specs.Columns.{is_other_role}
 use Rattle.script_rows.specs.Names.{Names, Seen, count_of, member_at, member_of, nothing_seen, subs_of}
 use Rattle.script_rows.specs.Rows.{act_columns, columns_of}
-use Rattle.script_rows.specs.Values.{first, item, item_at, key, key_at, line_of, name, no_value, rest, seq, seq_at, text, text_at, to, to_at}
+use Rattle.script_rows.specs.Values.{item, item_at, key, key_at, line_of, name, seq, seq_at, text, text_at, to, to_at}
 use Rattle.script_rows.specs.Values as values
 use Rattle.script_rows.specs.Written.{AreFit, AreNames, IsKeyValue, IsNameValue, IsSeq, IsTargetsValue, IsTextValue, IsUnbroken, IsWithin}
 use Rattle.script_rows.proofs.Back.{number_at}

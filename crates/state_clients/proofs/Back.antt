@@ -1,18 +1,16 @@
 -- A client is read again as it was written.
-use Rattle.std.proofs.Common.{◌≡◌, ℕ, zero, suc, ◌+◌, ◌<◌, ◌≤◌, ◌-◌, ◌^◌, ◌==◌, Bool, true, false, List, [], ◌∷◌, ◌++◌, length, Result, Ok, Err, refl, sym, ap, subst, ◌∙◌, append_assoc, arith}
-use Rattle.std.specs.Prelude.{nat_lt, nat_le, ◌&&◌, ◌||◌, not, is_some, Option, Some, None, IfSome, slice_get}
+use Rattle.std.proofs.Common.{◌≡◌, ℕ, ◌+◌, ◌<◌, ◌≤◌, ◌-◌, ◌^◌, ◌==◌, Bool, true, false, List, [], ◌∷◌, ◌++◌, length, Ok, refl, ap, ◌∙◌, append_assoc, arith}
+use Rattle.std.specs.Prelude.{nat_lt, nat_le, ◌&&◌, ◌||◌, Option, Some, None, slice_get}
 use Rattle.std.specs.List.{flat_map}
 use Rattle.std.specs.Option.{option_map_or}
-use Rattle.std.specs.Str.{is_utf8}
 use Rattle.std.proofs.lemmas.Bool.Decides.{nat_tests}
 use Rattle.geo_base.specs.declared.client.Line.{Line}
 use Rattle.geo_base.specs.declared.entry.Ident.{Ident}
-use Rattle.geo_base.specs.Client.{Client, unconnected}
+use Rattle.geo_base.specs.Client.{Client}
 use Rattle.geo_base.specs.Going.{most_unanswered}
 use Rattle.geo_base.specs.Scripted.{is_produce}
 use Rattle.state_items.specs.declared.rule.Rule.TheVariants as rule
 use Rattle.state_items.specs.Limits.{most_count}
-use Rattle.state_items.specs.Reading.{list_at, many, number_at, number_within, text_at}
 use Rattle.state_items.specs.Texts.{list, number, text}
 use Rattle.state_items.proofs.Again.{list_again, many_again, number_again, text_again, within_again}
 use Rattle.state_clients.specs.Clients.{client_at, client_text, force_at, force_text, ident_at, ident_text, index_at, index_of, index_text, is_done, is_flow, is_in_force, is_pub, is_sub, place_at, place_text, publish_at, tally_at, tally_text, unanswered_at}

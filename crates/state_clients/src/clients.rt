@@ -2,12 +2,12 @@
 ghost use Rattle.std.specs.Prelude.{◌≡◌, [], List, true, false, MatchOption};
 ghost use Rattle.std.specs.Str.{is_utf8};
 ghost use Rattle.geo_base.specs.declared.entry.Ident.{Ident};
-ghost use Rattle.client_node.specs.State.{stopped};
+ghost use Rattle.client.specs.State.{stopped};
 ghost use Rattle.state_items.specs.Reading.{Gives, list_at, many};
 ghost use Rattle.state_clients.specs.Clients.{client_at, ident_at, place_at, tally_at};
 
 use crate::force::{force_at, unanswered_at};
-use client_node::ClientState;
+use client::ClientState;
 use geo_base::{Ident, Line, ProducerName};
 use state_items::{ItemFault, MOST_COUNT, Rule, judge, number_at, number_within, text_at};
 use std::alloc::Global;

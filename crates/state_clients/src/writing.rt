@@ -1,11 +1,11 @@
 //! Clients as texts.
 ghost use Rattle.std.specs.Prelude.{◌≡◌, ◌++◌, OnOk};
 ghost use Rattle.std.specs.List.{flat_map};
-ghost use Rattle.client_node.specs.State.{stopped};
+ghost use Rattle.client.specs.State.{stopped};
 ghost use Rattle.state_items.specs.Texts.{list, number};
 ghost use Rattle.state_clients.specs.Clients.{client_text, force_text, ident_text, index_text, place_text, tally_text};
 
-use client_node::ClientState;
+use client::ClientState;
 use geo_base::{Blob, Ident, Memory};
 use state_items::{put_number, put_text};
 

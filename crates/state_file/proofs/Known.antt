@@ -21,11 +21,11 @@ use Rattle.state_items.specs.Reading.{Read, judge, many, number_at}
 use Rattle.state_items.specs.Reading.{broken as item_broken}
 use Rattle.state_items.specs.Telling.{Then}
 use Rattle.state_items.proofs.Known.{all_told, came, listed_all, listed_count, many_known, not_both, same_value, told}
-use Rattle.state_parts.specs.declared.counts.Counts.{Counts}
-use Rattle.state_parts.specs.Counts.{counts_at}
-use Rattle.state_parts.specs.Fitting.{AreCounts}
-use Rattle.state_parts.proofs.Known.{counts_known}
-use Rattle.state_parts.proofs.NodeKnown.{node_known}
+use Rattle.state_brokers.specs.declared.counts.Counts.{Counts}
+use Rattle.state_brokers.specs.Counts.{counts_at}
+use Rattle.state_brokers.specs.Fitting.{AreCounts}
+use Rattle.state_brokers.proofs.Known.{counts_known}
+use Rattle.state_brokers.proofs.NodeKnown.{node_known}
 
 -- ---- the declarations
 

@@ -1,8 +1,8 @@
 -- Brokers and clients read one after the other.
 use Rattle.std.proofs.Common.{◌≡◌, ℕ, ◌+◌, ◌-◌, ◌*◌, ◌%◌, ◌<◌, ◌≤◌, List, [], ◌∷◌, ◌++◌, length, map, get_or, Ok, refl, sym, ap, subst, ◌∙◌, arith}
 use Rattle.std.proofs.lemmas.List.{length-append, length-map, map_push, get_or_default}
-use Rattle.client_node.specs.declared.client.state.ClientState.{ClientState}
-use Rattle.client_node.specs.State.{stopped}
+use Rattle.client.specs.declared.client.state.ClientState.{ClientState}
+use Rattle.client.specs.State.{stopped}
 use Rattle.geo_base.specs.Broker.{Broker}
 use Rattle.geo_base.specs.Client.{Client}
 use Rattle.geo_base.specs.Setup.{Declared, Setup, nobody}
@@ -12,8 +12,8 @@ use Rattle.state_items.specs.Reading.{Fails, Read, many}
 use Rattle.state_items.specs.Telling.{Many, TellsFault}
 use Rattle.state_items.proofs.Loops as loops
 use Rattle.state_items.proofs.Many as told
-use Rattle.state_parts.specs.declared.nodes.NodeParts.{NodeParts}
-use Rattle.state_parts.specs.Nodes.{IsNode, broker_of}
+use Rattle.state_brokers.specs.declared.nodes.NodeParts.{NodeParts}
+use Rattle.state_brokers.specs.Nodes.{IsNode, broker_of}
 use Rattle.state_file.specs.Reading.{AreNodes, IsNodeBehind, client_behind}
 
 -- ---- brokers

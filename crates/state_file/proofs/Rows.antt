@@ -2,15 +2,15 @@
 use Rattle.std.proofs.Common.{◌≡◌, ℕ, zero, suc, ◌+◌, ◌%◌, ◌<◌, ◌≤◌, List, [], ◌∷◌, ◌++◌, length, get_or, drop, map, refl, sym, ap, subst, ◌∙◌, append_assoc, arith}
 use Rattle.std.specs.List.{All}
 use Rattle.std.proofs.lemmas.List.{append-nil, get_or-map, length-map}
-use Rattle.client_node.specs.declared.client.state.ClientState.{ClientState}
-use Rattle.client_node.specs.State.{stopped}
+use Rattle.client.specs.declared.client.state.ClientState.{ClientState}
+use Rattle.client.specs.State.{stopped}
 use Rattle.geo_base.specs.Broker.{Broker}
 use Rattle.geo_base.specs.Client.{Client}
 use Rattle.state_clients.specs.Clients.{client_text}
 use Rattle.state_file.specs.Texts.{clients_text, nodes_from}
-use Rattle.state_parts.specs.declared.nodes.NodeParts.{NodeParts}
-use Rattle.state_parts.specs.Nodes.{broker_of, node_text}
-use Rattle.state_parts.specs.Writing.{CanWrite}
+use Rattle.state_brokers.specs.declared.nodes.NodeParts.{NodeParts}
+use Rattle.state_brokers.specs.Nodes.{broker_of, node_text}
+use Rattle.state_brokers.specs.Writing.{CanWrite}
 
 -- ---- brokers
 

@@ -8,7 +8,7 @@ use Rattle.script_text.specs.Rules.{script_of}
 use Rattle.state_clients.specs.Fitting.{IsClientState}
 use Rattle.state_file.specs.State.{SavedState}
 use Rattle.state_file.specs.Texts.{body_text}
-use Rattle.state_parts.specs.Fitting.{AreCounts, IsDurable}
+use Rattle.state_brokers.specs.Fitting.{AreCounts, IsDurable}
 
 -- brokers from a number on, by topic and then by cluster
 abbrev pub AreDurable : Setup → ℕ → List Broker → Type 0

@@ -8,8 +8,8 @@ use Rattle.script_text.specs.Rules.{script_of}
 use Rattle.state_clients.specs.Known.{IsKnownClient}
 use Rattle.state_file.specs.State.{SavedState}
 use Rattle.state_items.specs.Fitting.{AllFit}
-use Rattle.state_parts.specs.Fitting.{AreCounts}
-use Rattle.state_parts.specs.Known.{IsKnownNode}
+use Rattle.state_brokers.specs.Fitting.{AreCounts}
+use Rattle.state_brokers.specs.Known.{IsKnownNode}
 
 -- a broker behind others, by topic and then by cluster
 abbrev pub IsKnownBehind : Setup → List Broker → Broker → Type 0

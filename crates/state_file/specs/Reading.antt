@@ -13,9 +13,9 @@ use Rattle.state_items.specs.Reading.{◌>>=◌, Answer, Read, broken, judge, ma
 use Rattle.state_items.specs.Telling.{Many, Then}
 use Rattle.state_file.specs.State.{SavedState}
 use Rattle.state_file.specs.Texts.{magic}
-use Rattle.state_parts.specs.declared.counts.Counts.{Counts}
-use Rattle.state_parts.specs.Counts.{counts_at}
-use Rattle.state_parts.specs.Nodes.{IsNode}
+use Rattle.state_brokers.specs.declared.counts.Counts.{Counts}
+use Rattle.state_brokers.specs.Counts.{counts_at}
+use Rattle.state_brokers.specs.Nodes.{IsNode}
 
 -- the first eight bytes, and the version behind them
 unfoldable pub magic_at : List ℕ → Read (List ℕ)

@@ -1,15 +1,15 @@
 -- The state of a run's world after a stop.
 use Rattle.std.specs.Prelude.{List, map}
-use Rattle.client_node.specs.State.{stopped}
+use Rattle.client.specs.State.{stopped}
 use Rattle.geo_base.specs.Broker.{Broker}
 use Rattle.geo_base.specs.Client.{Client}
 use Rattle.geo_base.specs.World.{World}
-use Rattle.restart.specs.Durable.{durable_part}
+use Rattle.durable_parts.specs.Durable.{durable_part}
 use Rattle.script_text.specs.Canonical.{declared_alone}
 use Rattle.script_text.specs.Script.{Script}
 use Rattle.state_file.specs.declared.saved.Saved.{Saved}
-use Rattle.state_parts.specs.declared.counts.Counts.{Counts}
-use Rattle.state_parts.specs.Nodes.{broker_of}
+use Rattle.state_brokers.specs.declared.counts.Counts.{Counts}
+use Rattle.state_brokers.specs.Nodes.{broker_of}
 
 -- what the script declares, what the run counted, the brokers by topic and then by cluster, each with nothing in memory, and the
 -- clients, which are not connected and hold nothing

@@ -1,19 +1,19 @@
 //! The body of a file.
 ghost use Rattle.std.specs.Prelude.{◌≡◌, ◌≤◌, ◌<◌, ◌*◌, ◌^◌, [], length, map, OnOk};
-ghost use Rattle.client_node.specs.State.{stopped};
+ghost use Rattle.client.specs.State.{stopped};
 ghost use Rattle.state_items.specs.Reading.{Gives, many};
 ghost use Rattle.state_items.specs.Telling.{Many, Tells};
-ghost use Rattle.state_parts.specs.Nodes.{broker_of};
+ghost use Rattle.state_brokers.specs.Nodes.{broker_of};
 ghost use Rattle.state_file.specs.Reading.{AreNodes, IsBody, client_behind, tail_at};
 ghost use Rattle.state_file.specs.State.{state_of};
 
 use crate::front::head_at;
 use crate::saved::Saved;
-use client_node::ClientState;
+use client::ClientState;
 use script_text::Scenario;
+use state_brokers::{Counts, NodeParts, node_at};
 use state_clients::client_at;
 use state_items::{ItemFault, Rule, judge};
-use state_parts::{Counts, NodeParts, node_at};
 use std::alloc::Global;
 
 /// The state in a body of `size` bytes, of which these are there.

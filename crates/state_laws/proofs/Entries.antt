@@ -29,14 +29,14 @@ use Rattle.pb_fields.specs.declared.field.Field.{Field}
 use Rattle.pb_fields.specs.Canonical.{field_text, optional, text}
 use Rattle.pb_fields.specs.Field.{IsField, bytes_field, varint_field}
 use Rattle.pb_fields.proofs.Parts.{AllByRecursion-append, AllByRecursion-map, AllByRecursion-optional}
-use Rattle.wire_frames.specs.Coded.{IsMarkerRight}
-use Rattle.wire_frames.specs.Texts.{marker_number, metadata_of, payload_text}
-use Rattle.wire_frames.proofs.Counting.{varint_most}
-use Rattle.wire_frames.proofs.Sized.{field_size, fields_size, length-text}
-use Rattle.wire_laws.proofs.Plain.{entry_told, source_told}
-use Rattle.entry_texts.specs.Origins.{number_of, origin_of}
-use Rattle.entry_texts.specs.Texts.{HasTexts, metadata_text, source_of, with_rest}
-use Rattle.entry_texts.specs.Told.{IsTold}
+use Rattle.frame_values.specs.Coded.{IsMarkerRight}
+use Rattle.frame_values.specs.Texts.{marker_number, metadata_of, payload_text}
+use Rattle.frame_values.proofs.Counting.{varint_most}
+use Rattle.frame_values.proofs.Sized.{field_size, fields_size, length-text}
+use Rattle.frame_laws.proofs.Plain.{entry_told, source_told}
+use Rattle.state_entries.specs.Origins.{number_of, origin_of}
+use Rattle.state_entries.specs.Texts.{HasTexts, metadata_text, source_of, with_rest}
+use Rattle.state_entries.specs.Told.{IsTold}
 use Rattle.world_laws.specs.Plain.{IsPlainContent, IsPlainEntry}
 use Rattle.world_laws.proofs.Walk.{left, on_if, right}
 use Rattle.state_laws.proofs.Ascii.{IsNameText, low_utf8, name_text, named_text}

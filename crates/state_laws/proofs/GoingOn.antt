@@ -9,7 +9,7 @@ use Rattle.geo_base.specs.Happening.{stops}
 use Rattle.geo_base.specs.Run.{all_limits, run_under}
 use Rattle.geo_base.specs.Setup.{Setup}
 use Rattle.geo_base.specs.World.{World, broker_at, opening_world}
-use Rattle.restart.specs.Durable.{durable_part}
+use Rattle.durable_parts.specs.Durable.{durable_part}
 use Rattle.script_text.specs.Scenario.{IsScenario}
 use Rattle.script_text.specs.Script.{Script}
 use Rattle.state_file.specs.State.{state_in}

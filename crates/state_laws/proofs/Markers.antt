@@ -16,8 +16,8 @@ use Rattle.marker_codec.proofs.Lengths.{numbers}
 use Rattle.marker_codec.proofs.Written.{canonical_is}
 use Rattle.pb_fields.specs.Canonical.{text}
 use Rattle.pb_fields.specs.Field.{IsField, bytes_field, varint_field}
-use Rattle.wire_frames.proofs.Counting.{varint_most}
-use Rattle.wire_frames.proofs.Sized.{length-text}
+use Rattle.frame_values.proofs.Counting.{varint_most}
+use Rattle.frame_values.proofs.Sized.{length-text}
 use Rattle.world_laws.specs.Plain.{AreClusters, HasClusters, IsCluster}
 use Rattle.world_laws.proofs.Effects.{Each}
 use Rattle.world_laws.proofs.Ids.{IsSmall}

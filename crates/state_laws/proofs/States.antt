@@ -13,14 +13,14 @@ use Rattle.geo_base.specs.Run.{Ran, all_limits, ends_or, run_under, steps}
 use Rattle.geo_base.specs.Scripted.{IsScripted}
 use Rattle.geo_base.specs.Setup.{Declared, Setup, declared_at, nobody}
 use Rattle.geo_base.specs.World.{World, broker_at, client_at, node, opening_world, topic_at}
-use Rattle.restart.specs.Durable.{durable_part}
+use Rattle.durable_parts.specs.Durable.{durable_part}
 use Rattle.script_text.proofs.AllBack.{declarations_back}
 use Rattle.script_text.specs.Scenario.{IsScenario}
 use Rattle.script_text.specs.Script.{Script}
 use Rattle.state_clients.specs.Fitting.{IsClientState}
 use Rattle.state_file.specs.Fitting.{AreClients, AreDurable, IsState}
 use Rattle.state_file.specs.State.{state_in}
-use Rattle.state_parts.specs.Fitting.{IsDurable}
+use Rattle.state_brokers.specs.Fitting.{IsDurable}
 use Rattle.world_laws.specs.Plain.{IsPlainEntry}
 use Rattle.world_laws.specs.Starts.{IsStart, IsStartClient, resumed_world}
 use Rattle.world_laws.proofs.Effects.{Each}

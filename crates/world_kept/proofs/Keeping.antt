@@ -22,19 +22,19 @@ use Rattle.geo_base.specs.Setup.{Declared, Setup, declared_at}
 use Rattle.geo_base.specs.World.{LinkName as MachineLink, Links, ToClient, World, client_at, delivered as machine_delivered, from_broker, from_client, link_at, node, opening_world, packet_at, taken_from as machine_taken}
 use Rattle.std.proofs.lemmas.Bool.{false≢true}
 use Rattle.std.proofs.lemmas.Option.{none-some}
-use Rattle.wire_frames.proofs.One.{written_stands}
-use Rattle.wire_frames.specs.Told.{IsTold}
-use Rattle.wire_frames.specs.Texts.{is_readable}
-use Rattle.wire_links.proofs.Simulated.{broker_stands, bytes_stand, client_stands, got_stands, opening_stands, packet_stands, stamp_is, stopped_stands, taken_stands}
-use Rattle.wire_links.specs.declared.name.LinkName.{LinkName}
-use Rattle.wire_links.specs.declared.name.LinkName.TheVariants as name
-use Rattle.wire_links.specs.declared.name.Node.TheVariants as wire_node
-use Rattle.wire_links.specs.declared.packet.WireOut.{WireOut}
+use Rattle.frame_values.proofs.One.{written_stands}
+use Rattle.frame_values.specs.Told.{IsTold}
+use Rattle.frame_values.specs.Texts.{is_readable}
+use Rattle.links.proofs.Simulated.{broker_stands, bytes_stand, client_stands, got_stands, opening_stands, packet_stands, stamp_is, stopped_stands, taken_stands}
+use Rattle.links.specs.declared.name.LinkName.{LinkName}
+use Rattle.links.specs.declared.name.LinkName.TheVariants as name
+use Rattle.links.specs.declared.name.Node.TheVariants as wire_node
+use Rattle.links.specs.declared.packet.WireOut.{WireOut}
 use Rattle.wire_ends.specs.declared.packet.WirePacket.{WirePacket}
-use Rattle.wire_links.specs.Each.{Both, both, neither, none as none_sent}
-use Rattle.wire_links.specs.Names.{taken_name}
-use Rattle.wire_links.specs.Queues.{bytes_of, delivered, packet_on, taken_from}
-use Rattle.wire_links.specs.Standing.{IsReadableOut, LinksStand, OutsStand, PacketStands}
+use Rattle.links.specs.Each.{Both, both, neither, none as none_sent}
+use Rattle.links.specs.Names.{taken_name}
+use Rattle.links.specs.Queues.{bytes_of, delivered, packet_on, taken_from}
+use Rattle.links.specs.Standing.{IsReadableOut, LinksStand, OutsStand, PacketStands}
 use Rattle.world_kept.specs.Events.{IsBrokers, cluster_of, node_of, plan_in, sender_of, takes_of, topic_of}
 use Rattle.world_kept.specs.Kept.{Kept, all_stopped, broker_acted, broker_stopped, client_acted, idled, opening_kept, stamp_at}
 use Rattle.world_kept.specs.Standing.{IsInput, Stands, limit_of}

@@ -12,10 +12,10 @@ use Rattle.geo_base.specs.Scripted.{AreDistinct, IsScripted}
 use Rattle.geo_base.specs.Setup.{Setup}
 use Rattle.geo_base.specs.World.{World, node, opening_world, topic_at}
 use Rattle.std.proofs.lemmas.Option.{none-some}
-use Rattle.wire_frames.specs.Told.{IsTold, IsToldEntry}
-use Rattle.wire_laws.proofs.Plain.{entry_told, source_told}
-use Rattle.wire_links.proofs.Simulated.{opening_stands}
-use Rattle.wire_links.specs.Standing.{LinksStand}
+use Rattle.frame_values.specs.Told.{IsTold, IsToldEntry}
+use Rattle.frame_laws.proofs.Plain.{entry_told, source_told}
+use Rattle.links.proofs.Simulated.{opening_stands}
+use Rattle.links.specs.Standing.{LinksStand}
 use Rattle.world_kept.specs.Kept.{opening_kept}
 use Rattle.world_kept.specs.Reached.{Reached, started_kept}
 use Rattle.world_kept.specs.Standing.{Stands}

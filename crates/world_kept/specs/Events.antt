@@ -7,11 +7,11 @@ use Rattle.geo_base.specs.Plan.{Plan}
 use Rattle.geo_base.specs.Planned.{broker_plan}
 use Rattle.geo_base.specs.Setup.{Setup, declared_at}
 use Rattle.geo_base.specs.World.{World, node, packet_at, topic_at}
-use Rattle.wire_links.specs.declared.name.LinkName.{LinkName}
-use Rattle.wire_links.specs.declared.name.LinkName.TheVariants as name
-use Rattle.wire_links.specs.declared.name.Node.{Node}
-use Rattle.wire_links.specs.declared.name.Node.TheVariants as wire_node
-use Rattle.wire_links.specs.Names.{taken_name}
+use Rattle.links.specs.declared.name.LinkName.{LinkName}
+use Rattle.links.specs.declared.name.LinkName.TheVariants as name
+use Rattle.links.specs.declared.name.Node.{Node}
+use Rattle.links.specs.declared.name.Node.TheVariants as wire_node
+use Rattle.links.specs.Names.{taken_name}
 
 abbrev pub IsBrokers : Event → Type 0
 IsBrokers (event.Go c) = ⊥

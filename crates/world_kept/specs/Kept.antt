@@ -3,10 +3,10 @@ use Rattle.std.specs.Prelude.{ℕ, ◌+◌, ◌*◌, List, Option, length, map, 
 use Rattle.geo_base.specs.Broker.{Broker, new_broker}
 use Rattle.geo_base.specs.Client.{Client, new_client}
 use Rattle.geo_base.specs.Setup.{Setup}
-use Rattle.wire_links.specs.declared.name.LinkName.{LinkName}
-use Rattle.wire_links.specs.declared.name.Node.{Node}
-use Rattle.wire_links.specs.declared.packet.WireOut.{WireOut}
-use Rattle.wire_links.specs.Queues.{WireLinks, all_discarded, bytes_of, delivered, empty_links, packet_on, stamp_of, taken_from}
+use Rattle.links.specs.declared.name.LinkName.{LinkName}
+use Rattle.links.specs.declared.name.Node.{Node}
+use Rattle.links.specs.declared.packet.WireOut.{WireOut}
+use Rattle.links.specs.Queues.{WireLinks, all_discarded, bytes_of, delivered, empty_links, packet_on, stamp_of, taken_from}
 
 -- brokers by topic and then by cluster; a clock is a node's last stamp; events are those that were not idle
 pub record Kept : Type 0 where

@@ -2,7 +2,7 @@
 use Rattle.std.specs.Prelude.{None}
 use Rattle.geo_base.specs.Setup.{Setup}
 use Rattle.geo_base.specs.World.{World}
-use Rattle.wire_frames.specs.Told.{IsToldEntry}
+use Rattle.frame_values.specs.Told.{IsToldEntry}
 use Rattle.world_kept.specs.Kept.{Kept, opening_kept}
 use Rattle.world_laws.specs.Frames.{AllEntries}
 use Rattle.world_laws.specs.Reached.{ReachedFrom}

@@ -5,9 +5,9 @@ use Rattle.geo_base.specs.Run.{most_events, most_sent_bytes}
 use Rattle.geo_base.specs.Setup.{Setup}
 use Rattle.geo_base.specs.World.{World}
 use Rattle.world_kept.specs.Kept.{Kept}
-use Rattle.wire_laws.specs.BytePackets.{StandsForPacket}
+use Rattle.frame_laws.specs.BytePackets.{StandsForPacket}
 use Rattle.wire_ends.specs.declared.packet.WirePacket.{WirePacket}
-use Rattle.wire_links.specs.Standing.{LinksStand}
+use Rattle.links.specs.Standing.{LinksStand}
 
 -- all but the links are the machine's; on each link the packets that are not taken yet are, as their canonical texts
 pub record Stands (s : Setup) (k : Kept) (w : World) : Type 0 where

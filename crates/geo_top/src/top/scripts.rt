@@ -5,7 +5,7 @@ ghost use Rattle.geo_top.specs.Finished.{IsFinished};
 ghost use Rattle.geo_top.specs.Founded.{IsAccepted};
 ghost use Rattle.geo_top.specs.Outputs.{answer_to, answer_to_big, answer_to_run, output_of, passed_limit, summary_of};
 ghost use Rattle.geo_top.specs.Shown.{shown_world};
-ghost use Rattle.geo_world.specs.World.{IsAt};
+ghost use Rattle.world.specs.World.{IsAt};
 ghost use Rattle.schedule_gen.specs.Generated.{generated_run};
 ghost use Rattle.script_text.specs.Rules.{script_of};
 
@@ -17,10 +17,10 @@ use crate::top::status::Status;
 use crate::world_report::append_report;
 use geo_base::limits::INPUT_BYTES;
 use geo_base::{Blob, Memory};
-use geo_world::{RunFault, World};
 use schedule_gen::generate;
 use script_text::{Scenario, ScriptFault, read_script};
 use std::alloc::Global;
+use world::{RunFault, World};
 
 /// The answer to the bytes of a script, of whose run something is shown.
 pub fn answer_to_script(alloc: Global, shown: Shown, bytes: &[u8]) -> Result<Answer, Memory>

@@ -14,10 +14,10 @@ use crate::top::scripts::report;
 use crate::top::status::Status;
 use geo_base::Memory;
 use geo_base::limits::INPUT_BYTES;
-use geo_world::RunFault;
 use script_text::{Scenario, ScriptFault, StepList, read_schedule, read_script};
 use state_file::{Saved, StateFault, load};
 use std::alloc::Global;
+use world::RunFault;
 
 /// The state file of the script that an input is.
 pub fn answer_to_saving(alloc: Global, bytes: &[u8]) -> Result<Answer, Memory>

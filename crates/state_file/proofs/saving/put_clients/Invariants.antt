@@ -1,5 +1,5 @@
 use Rattle.std.proofs.Common.{◌≡◌, ◌++◌, drop, map}
-use Rattle.client_node.specs.State.{stopped}
+use Rattle.client.specs.State.{stopped}
 use Rattle.state_file.specs.Texts.{clients_text}
 use Rattle.state_file.proofs.saving.put_clients.Given as goal
 

@@ -1,8 +1,0 @@
-use Rattle.std.proofs.Common.{◌≡◌, ◌++◌}
-use Rattle.restart.specs.Parts as durable
-use Rattle.book_core.specs.Senders.{senders_of}
-use Rattle.book_core.proofs.starting.restored_senders.Given as goal
-
--- those that were made, and those that are left
-abbrev pub invariant-loop-part : goal.invariant-loop-part
-invariant-loop-part l = senders_of l.rows.items ++ durable.senders_of l.part-iterator.rest.items ≡ durable.senders_of l.fn.parts.items

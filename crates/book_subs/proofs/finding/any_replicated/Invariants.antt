@@ -1,8 +1,0 @@
-use Rattle.std.proofs.Common.{◌≡◌, drop}
-use Rattle.std.specs.List.{list_any}
-use Rattle.geo_base.specs.Subscription.{Subscription}
-use Rattle.book_subs.specs.SubBook.{subs_of}
-use Rattle.book_subs.proofs.finding.any_replicated.Given as goal
-
-abbrev pub invariant-loop-sub : goal.invariant-loop-sub
-invariant-loop-sub l = list_any (λ (s : Subscription). s.replicated) (subs_of l.subs) ≡ list_any (λ (s : Subscription). s.replicated) (subs_of (drop l.sub-index l.subs))

@@ -1,0 +1,22 @@
+-- The packet of bytes that an event takes, and what it stands for.
+use Rattle.std.specs.Prelude.{◌≡◌, ℕ, List, Option, Some, None, ⊤}
+use Rattle.geo_base.specs.declared.packet.Packet.{Packet}
+use Rattle.frame_values.specs.Standing.{Reads}
+use Rattle.frame_laws.specs.BytePackets.{BytePacket, StandsForPacket}
+
+-- the next packet of a link stands for the machine's: both are there, or neither
+abbrev pub StandsForInput : List (List ℕ) → Option BytePacket → Option Packet → Type 0
+StandsForInput names None None = ⊤
+StandsForInput names (Some b) (Some p) = StandsForPacket names b p
+StandsForInput names b p = ⊥
+
+-- what was read of it: the value that its bytes say
+pub record ReadsPacket (names : List (List ℕ)) (b : BytePacket) (p : Packet) : Type 0 where
+  pub session : p.session ≡ b.session
+  pub stamp : p.stamp ≡ b.stamp
+  pub frame : Reads names b.frame p.frame
+
+abbrev pub ReadsInput : List (List ℕ) → Option BytePacket → Option Packet → Type 0
+ReadsInput names None None = ⊤
+ReadsInput names (Some b) (Some p) = ReadsPacket names b p
+ReadsInput names b p = ⊥

@@ -1,0 +1,96 @@
+//! How a prepared event becomes of a broker's state: whole, or up to a stop between two of its durable writes.
+ghost use Rattle.std.specs.Prelude.{◌≡◌, IfOk, OnErr, OnOk, Option};
+ghost use Rattle.std.specs.Option.{option_copied};
+ghost use Rattle.geo_base.specs.declared.packet.Packet.{Packet};
+ghost use Rattle.geo_base.specs.Plan.{done, halted};
+ghost use Rattle.broker_state.specs.Prepared.{plan_in};
+ghost use Rattle.broker.specs.Events.{IsOfNode, NumbersRise, plan_at_node};
+ghost use Rattle.broker.specs.Input.{StandsForInput};
+ghost use Rattle.broker.specs.Node.{IsDone, IsReady, SameNode};
+
+use crate::node::TopicNode;
+use crate::packet::LinkPacket;
+use broker_state::{Outgoing, Prepared};
+use geo_base::{Event, Memory};
+use std::alloc::Global;
+
+/// What an event did: whether it was not enabled, and the packets to send.
+#[derive(Debug, Drop)]
+pub struct Acted {
+    pub idle: bool,
+    pub sent: Vec<Outgoing>,
+}
+
+impl TopicNode {
+    /// Does what was prepared: its durable writes in order, and then its changes in memory. It takes no memory and can't fail.
+    pub fn commit(&mut self, prepared: Prepared)
+        requires { IsReady self.old prepared }
+        ensures broker { self.new.broker ≡ done self.old.site.per_ledger self.old.broker (plan_in self.old.broker prepared) }
+        ensures node { SameNode self.old self.new }
+    {
+        self.book.commit(prepared);
+    }
+
+    /// Does an event, with the next packet of the link that it takes from. All memory is taken first; an `Err` is want of it, and
+    /// then nothing has changed.
+    #[tactic(auto, using(crate::proofs::Acts::act_done, crate::proofs::Ready::ready_without))]
+    pub fn act(
+        &mut self,
+        alloc: Global,
+        event: &Event,
+        input: Option<&LinkPacket>,
+    ) -> Result<Acted, Memory>
+        requires node { IsOfNode self.old event.now }
+        requires numbers { NumbersRise self.old event.now }
+        ensures done { (v : Option Packet) → StandsForInput self.old.site.clusters (option_copied input.entry) v
+            → IfOk result (λ a. IsDone self.old self.new (plan_at_node self.old event.now v) a.idle a.sent.items) }
+        ensures err { OnErr result (self.new.broker ≡ self.old.broker) }
+        ensures node { SameNode self.old self.new }
+    {
+        let mut prepared = self.prepare(alloc, event, input)?;
+        let idle = prepared.is_idle();
+        let sent = prepared.take_sent(alloc);
+        self.commit(prepared);
+        Ok(Acted { idle, sent })
+    }
+
+    /// Stops the broker behind the first `writes` durable writes of an event: what they wrote stays, a ledger opens, what is in
+    /// memory is lost, and nothing is sent. An `Err` is want of memory, and then nothing has changed.
+    pub fn halt(
+        &mut self,
+        alloc: Global,
+        writes: u32,
+        event: &Event,
+        input: Option<&LinkPacket>,
+    ) -> Result<(), Memory>
+        requires node { IsOfNode self.old event.now }
+        requires numbers { NumbersRise self.old event.now }
+        ensures halted { (v : Option Packet) → StandsForInput self.old.site.clusters (option_copied input.entry) v
+            → OnOk result (self.new.broker ≡ halted self.old.site.per_ledger self.old.broker writes (plan_at_node self.old event.now v)) }
+        ensures err { OnErr result (self.new.broker ≡ self.old.broker) }
+        ensures node { SameNode self.old self.new }
+    {
+        let prepared = self.prepare(alloc, event, input)?;
+        let stop = self.prepare_stop(alloc, writes, prepared)?;
+        self.commit(stop);
+        Ok(())
+    }
+
+    /// The stop, as an event of its own. Only room is made.
+    fn prepare_stop(
+        &mut self,
+        alloc: Global,
+        writes: u32,
+        prepared: Prepared,
+    ) -> Result<Prepared, Memory>
+        requires { IsReady self.old prepared }
+        ensures halted { IfOk result (λ q. done self.old.site.per_ledger self.old.broker (plan_in self.old.broker q) ≡ halted self.old.site.per_ledger self.old.broker writes (plan_in self.old.broker prepared)) }
+        ensures ready { IfOk result (IsReady self.new) }
+        ensures broker { self.new.broker ≡ self.old.broker }
+        ensures node { SameNode self.old self.new }
+    {
+        let room = prepared.write_count() + 1;
+        self.book.reserve_entries(room)?;
+        prepared.halted(alloc, writes as usize)
+    }
+}

@@ -1,0 +1,117 @@
+//! Which events a broker can do.
+ghost use Rattle.std.specs.Prelude.{◌≡◌, ◌<◌, ◌^◌, true, length};
+ghost use Rattle.geo_base.specs.Broker.{sender_at};
+ghost use Rattle.broker_offers.specs.Seeking.{SeekFits};
+ghost use Rattle.broker_plans.specs.Prepared.{MarkerFits};
+ghost use Rattle.broker.specs.Events.{IsClients, IsHere, IsLink, IsOfNode, NumbersRise, SeekRises, SessionRises};
+
+use crate::node::TopicNode;
+use crate::preparing::name_at;
+use broker_plans::{place_named, sub_at};
+use geo_base::Event;
+
+/// How far a session's number may rise.
+const SESSIONS: u64 = 9_223_372_036_854_775_808;
+
+impl TopicNode {
+    /// Whether an event is one of this broker, with its numbers of clusters and clients in range, and the numbers that it raises
+    /// still have room to rise. Every event of a run has.
+    pub fn accepts(&self, event: &Event) -> bool
+        ensures node { result ≡ true → IsOfNode self.now event.now }
+        ensures numbers { result ≡ true → NumbersRise self.now event.now }
+    {
+        self.is_own(event)
+            && self.marker_fits()
+            && self.session_rises(event)
+            && self.seeks_rise(event)
+    }
+
+    fn is_own(&self, event: &Event) -> bool
+        ensures { result ≡ true → IsOfNode self.now event.now }
+    {
+        match *event {
+            Event::Serve { cluster, client } | Event::Drop { cluster, client } => {
+                self.is_of_client(cluster, client)
+            }
+            Event::Reset {
+                topic,
+                source,
+                target,
+            }
+            | Event::Read {
+                topic,
+                source,
+                target,
+            }
+            | Event::Receipt {
+                topic,
+                source,
+                target,
+                ..
+            } => self.is_link(topic, source, target),
+            Event::Take {
+                topic,
+                source,
+                target,
+                ..
+            } => self.is_link(topic, target, source),
+            Event::Snap { topic, cluster }
+            | Event::Offer { topic, cluster, .. }
+            | Event::Seek { topic, cluster, .. }
+            | Event::Restart { topic, cluster } => self.is_here(topic, cluster),
+            Event::Go { .. } | Event::Get { .. } | Event::Reconnect { .. } => false,
+        }
+    }
+
+    fn is_of_client(&self, cluster: u32, client: u32) -> bool
+        ensures { result ≡ true → IsClients self.now cluster client }
+    {
+        cluster == self.site.own() && (client as usize) < self.book.sessions().len()
+    }
+
+    fn is_here(&self, topic: u32, cluster: u32) -> bool
+        ensures { result ≡ true → IsHere self.now topic cluster }
+    {
+        topic == self.topic && cluster == self.site.own()
+    }
+
+    fn is_link(&self, topic: u32, cluster: u32, other: u32) -> bool
+        ensures { result ≡ true → IsLink self.now topic cluster other }
+    {
+        self.is_here(topic, cluster) && (other as usize) < self.site.clusters().len()
+    }
+
+    fn marker_fits(&self) -> bool
+        ensures { result ≡ true → MarkerFits self.now.site self.now.broker }
+    {
+        self.book.next_marker() < u64::MAX
+    }
+
+    fn session_rises(&self, event: &Event) -> bool
+        requires { IsOfNode self.now event.now }
+        ensures { result ≡ true → SessionRises self.now.broker event.now }
+    {
+        match *event {
+            Event::Reset { target, .. } => self.book.sender(target).sender().session() < SESSIONS,
+            _ => true,
+        }
+    }
+
+    fn seeks_rise(&self, event: &Event) -> bool
+        ensures { result ≡ true → SeekRises self.now.names self.now.broker event.now }
+    {
+        match *event {
+            Event::Seek { sub, .. } => self.seek_fits(name_at(self.names.as_slice(), sub)),
+            _ => true,
+        }
+    }
+
+    fn seek_fits(&self, name: &[u8]) -> bool
+        ensures { result ≡ true → SeekFits self.now.broker name.now }
+    {
+        match place_named(&self.book, name) {
+            None => true,
+            Some(place) => sub_at(&self.book, place).durable().seeks < u64::MAX,
+        }
+    }
+}

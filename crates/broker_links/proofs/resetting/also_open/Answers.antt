@@ -1,0 +1,11 @@
+use Rattle.broker_links.proofs.Resets.{opens_sent}
+use Rattle.broker_links.proofs.resetting.also_open.Goals as goal
+
+pub also_send-sent-requires : goal.also_send-sent-requires
+also_send-sent-requires c =
+    let brief = c.in_ok-frame.ensures.brief in
+    record { simple = brief.simple; readable = brief.readable; small = brief.small }
+
+pub returns : goal.returns
+returns c =
+    opens_sent c.args.site.now c.args.remote c.args.session c.in_ok-frame.frame c.args.prepared c.in_ok-with.with c.in_ok-frame.ensures.frame c.in_ok-with.ensures

@@ -1,0 +1,51 @@
+-- The parts of an offer.
+use Rattle.std.specs.Prelude.{ℕ, List, [], ◌∷◌, ◌++◌, Option, Some, None, slice_get}
+use Rattle.geo_base.specs.declared.change.Change.TheVariants as change
+use Rattle.geo_base.specs.declared.entry.Entry.{Entry}
+use Rattle.geo_base.specs.declared.snapshot.CachedSnapshot.{CachedSnapshot}
+use Rattle.geo_base.specs.Broker.{Broker, Site}
+use Rattle.geo_base.specs.Cache.{cached}
+use Rattle.geo_base.specs.Dispatcher.{consumer_at, pick}
+use Rattle.geo_base.specs.Entry.{key_bytes}
+use Rattle.geo_base.specs.Offering.{message, offer_entry}
+use Rattle.geo_base.specs.Plan.{Plan, idle_plan, plan_of, unless_found}
+use Rattle.geo_base.specs.Subscription.{Subscription}
+use Rattle.broker_subs.specs.declared.changing.SubChange.TheVariants as sub_change
+use Rattle.broker_subs.specs.declared.writing.SubWrite.{SubWrite}
+use Rattle.broker_state.specs.declared.write.BookWrite.{BookWrite}
+use Rattle.broker_plans.specs.Updates.{cursor_writes}
+use Rattle.broker_state.specs.Prepared.{PreparedBook, quiet_book}
+use Rattle.broker_state.specs.declared.prepared.Outgoing.{Outgoing}
+use Rattle.broker_state.specs.declared.change.BookChange.{BookChange}
+use Rattle.broker_state.specs.declared.change.BookChange.TheVariants as book_change
+
+-- what becomes of an index that is due
+abbrev pub offer_index : Site → Broker → Subscription → ℕ → Plan
+offer_index h b s i = unless_found idle_plan (slice_get b.entries i) (λ e. offer_entry h b s i e)
+
+-- what becomes of a message: it goes to the consumer that it is for, if that has a permit
+abbrev pub gives : Site → Broker → Subscription → ℕ → Entry → Plan
+gives h b s i e =
+    unless_found idle_plan (pick s.kind s.consumers (key_bytes e.meta.key)) (λ at.
+    plan_of [] (change.Given s.name i at ∷ []) (message h b i e (consumer_at s.consumers at)))
+
+-- the event that gives an index to the consumer at a place in the order
+abbrev pub given_book : ℕ → ℕ → ℕ → Outgoing → PreparedBook
+given_book k i at o = record (quiet_book k) { changes = book_change.Sub (sub_change.Given i at) ∷ []; sent = o ∷ [] }
+
+-- the snapshots of a subscription once a marker brought one, if it did
+abbrev pub cached_with : List CachedSnapshot → Option CachedSnapshot → List CachedSnapshot
+cached_with cs None = cs
+cached_with cs (Some c) = cached cs c
+
+abbrev pub cache_changes : Option CachedSnapshot → List BookChange
+cache_changes None = []
+cache_changes (Some c) = book_change.Sub (sub_change.Cache c) ∷ []
+
+-- the changes of an offer that passes a marker
+abbrev pub passing_changes : Option CachedSnapshot → ℕ → List BookChange
+passing_changes o i = cache_changes o ++ book_change.Sub (sub_change.Passed i) ∷ book_change.Sub sub_change.Acked ∷ []
+
+-- the event that writes the cursor of the subscription at a place, with an update that follows if one does, and then makes changes
+abbrev pub writing_book : ℕ → SubWrite → Option BookWrite → List BookChange → PreparedBook
+writing_book k w o cs = record (quiet_book k) { writes = cursor_writes w o; changes = cs }

@@ -1,0 +1,21 @@
+use Rattle.std.proofs.Common.{◌≡◌, true, false}
+use Rattle.geo_base.specs.Topic.{accepts}
+use Rattle.broker_plans.proofs.Keeping.{new_stored, old_stored, stores_is, stream_tells}
+use Rattle.broker_plans.proofs.receiving.storing.Goals as goal
+
+pub returns-then-not-accepts-clause-prepared : goal.returns-then-not-accepts-clause-prepared
+returns-then-not-accepts-clause-prepared c =
+    let b = c.args.book.now.broker in
+    let e = c.args.entry in
+    let told = stream_tells b.entries e.ident c.in_ok-stream.stream c.accepts.result c.in_ok-stream.ensures c.accepts.ensures in
+    let old : accepts b.entries e.ident ≡ false = cc in
+    old_stored c.args.site.now b e c.quiet-prepared.result old c.quiet-prepared.ensures
+
+pub returns-clause-prepared : goal.returns-clause-prepared
+returns-clause-prepared c =
+    let b = c.args.book.now.broker in
+    let e = c.args.entry in
+    let told = stream_tells b.entries e.ident c.in_ok-stream.stream c.accepts.result c.in_ok-stream.ensures c.accepts.ensures in
+    let new : accepts b.entries e.ident ≡ true = cc in
+    let is = stores_is e c.in_ok-stream.stream c.quiet-prepared.result c.write.new.self c.in_ok-stream.ensures c.quiet-prepared.ensures c.in_ok-write.ensures in
+    new_stored c.args.site.now b e c.write.new.self new c.requires.storable is

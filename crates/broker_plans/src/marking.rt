@@ -1,0 +1,55 @@
+//! Entries that a broker stores.
+ghost use Rattle.std.specs.Prelude.{◌≡◌, IfOk};
+ghost use Rattle.geo_base.specs.Storing.{own_marker};
+ghost use Rattle.broker_plans.specs.Prepared.{IsAt, MarkerFits};
+ghost use Rattle.broker_plans.specs.Updates.{appending};
+
+use crate::site::Site;
+use broker_state::{Book, BookWrite};
+use dedup_table::Stream;
+use geo_base::{
+    Blob, Content, Entry, Ident, Marker, Memory, Metadata, ProducerName, Sequence, Targets, Text,
+};
+use std::alloc::Global;
+
+/// The name of the producer that a cluster writes its markers as (own).
+const MARKER_PRODUCER: &str = "pulsar.marker";
+
+/// A marker that the own cluster writes next, for targets, which have these names.
+pub fn own_marker(
+    alloc: Global,
+    site: &Site,
+    book: &Book,
+    marker: Marker,
+    to: Targets,
+    names: Sequence<Text>,
+) -> Result<Entry, Memory>
+    requires at { IsAt site.now book.now }
+    requires number { MarkerFits site.now book.now.broker }
+    ensures { IfOk result (λ e. e ≡ own_marker site.now book.now.broker marker to names) }
+{
+    Ok(Entry {
+        ident: Ident {
+            origin: site.own(),
+            producer: ProducerName::any(alloc, MARKER_PRODUCER)?,
+            seq: book.next_marker(),
+        },
+        content: Content::Marked(marker),
+        to,
+        meta: Metadata {
+            publish_time: 0,
+            key: None,
+            names,
+            rest: Blob::new(alloc),
+        },
+        payload: Blob::new(alloc),
+    })
+}
+
+/// The write that stores an entry.
+pub fn appending(alloc: Global, entry: Entry) -> Result<BookWrite, Memory>
+    ensures { IfOk result (λ w. w ≡ appending entry) }
+{
+    let stream = Stream::of(alloc, &entry.ident)?;
+    Ok(BookWrite::Append { entry, stream })
+}

@@ -1,0 +1,221 @@
+//! The update that may follow a write of a subscription's cursor (PIP-33).
+ghost use Rattle.std.specs.Prelude.{◌≡◌, ◌+◌, ◌<◌, ◌≤◌, true, is_some, length, IfOk, IfSome, OnOk};
+ghost use Rattle.std.specs.List.{All};
+ghost use Rattle.geo_base.specs.Cursor.{below, mark, with_indexes};
+ghost use Rattle.geo_base.specs.Updating.{passed_over};
+ghost use Rattle.broker_subs.specs.Steps.{SubWriteFits, acks_needed, sub_written};
+ghost use Rattle.broker_subs.specs.Table.{room_at, sub_at};
+ghost use Rattle.broker_state.specs.Prepared.{quiet_book};
+ghost use Rattle.broker_state.specs.Room.{WritesHaveRoom};
+ghost use Rattle.broker_plans.specs.Prepared.{IsAt, MarkerFits, SameState};
+ghost use Rattle.broker_plans.specs.Updates.{IsAppend, cursor_writes, update_after, update_at};
+
+use crate::finding::sub_at;
+use crate::marking::{appending, own_marker};
+use crate::site::Site;
+use broker_state::{Book, BookWrite, Prepared};
+use broker_subs::{Sub, SubWrite};
+use cursor_acks::Cursor;
+use geo_base::{EntryStore, Memory, Sequence, Targets};
+use snapshot_cache::SnapshotCache;
+use std::alloc::Global;
+
+/// The update that follows a write of the cursor of the subscription at a place, which has these snapshots then.
+pub fn update_after(
+    alloc: Global,
+    site: &Site,
+    book: &Book,
+    place: usize,
+    write: &SubWrite,
+    cache: &SnapshotCache,
+) -> Result<Option<BookWrite>, Memory>
+    requires at { IsAt site.now book.now }
+    requires number { MarkerFits site.now book.now.broker }
+    requires place { place < length book.now.broker.subs }
+    requires fits { SubWriteFits book.now.broker.entries (sub_at book.now.broker.subs place) write.now }
+    ensures { IfOk result (λ o. o ≡ update_after site.now book.now.broker place write.now cache.now) }
+{
+    let sub = sub_at(book, place);
+    let mark = mark_after(alloc, sub, write, book.store())?;
+    update_at(alloc, site, book, sub, mark, cache)
+}
+
+/// An event that begins with a write of the cursor of the subscription at a place and the update that follows it, with room for
+/// them, and for so many consumers that join or indexes that are given there.
+#[tactic(auto, using(crate::proofs::Updates::cursor_room))]
+pub fn begin_write(
+    alloc: Global,
+    book: &mut Book,
+    place: usize,
+    room: usize,
+    write: SubWrite,
+    update: Option<BookWrite>,
+) -> Result<Prepared, Memory>
+    requires place { place < length book.old.broker.subs }
+    requires update { IfSome update IsAppend }
+    ensures prepared { IfOk result (λ p. p ≡ record (quiet_book place) { writes = cursor_writes write update }) }
+    ensures kept { SameState book.old book.new }
+    ensures writes { OnOk result (WritesHaveRoom book.new.room place (cursor_writes write update)) }
+    ensures given { OnOk result ((room_at book.new.room.subs place).room ≡ room) }
+    ensures senders { book.new.room.senders ≡ book.old.room.senders }
+{
+    reserve(
+        book,
+        place,
+        room,
+        acks_needed(&write),
+        entries_needed(&update),
+    )?;
+    let mut plan = Prepared::quiet(alloc, place);
+    plan.write(BookWrite::Sub(write))?;
+    if let Some(update) = update {
+        plan.write(update)?;
+    }
+    Ok(plan)
+}
+
+/// Makes room at the subscription at a place, and for so many entries.
+fn reserve(
+    book: &mut Book,
+    place: usize,
+    room: usize,
+    acks: usize,
+    entries: usize,
+) -> Result<(), Memory>
+    requires place { place < length book.old.broker.subs }
+    ensures kept { SameState book.old book.new }
+    ensures given { OnOk result ((room_at book.new.room.subs place).room ≡ room) }
+    ensures acks { OnOk result (acks ≤ (room_at book.new.room.subs place).acks) }
+    ensures entries { OnOk result (entries ≤ book.new.room.entries) }
+    ensures streams { OnOk result (entries ≤ book.new.room.streams) }
+    ensures senders { book.new.room.senders ≡ book.old.room.senders }
+{
+    book.reserve_sub(place, room, acks)?;
+    book.reserve_entries(entries)
+}
+
+/// For how many entries an update needs room.
+fn entries_needed(update: &Option<BookWrite>) -> usize
+    ensures { is_some update.now ≡ true → 1 ≤ result }
+{
+    if update.is_some() { 1 } else { 0 }
+}
+
+/// For how many acknowledged indexes a write needs room.
+fn acks_needed(write: &SubWrite) -> usize
+    ensures { result ≡ acks_needed write.now }
+{
+    match write {
+        SubWrite::Acks(indexes) => indexes.len(),
+        SubWrite::AckTo(_) | SubWrite::Seek(_) => 1,
+        SubWrite::Passed { runs, .. } => *runs,
+        SubWrite::Alter { .. } => 0,
+    }
+}
+
+/// The write of the update that tells the other clusters of a subscription whose mark-delete has come so far, if it is replicated
+/// and passes one of these snapshots.
+fn update_at(
+    alloc: Global,
+    site: &Site,
+    book: &Book,
+    sub: &Sub,
+    mark: u64,
+    cache: &SnapshotCache,
+) -> Result<Option<BookWrite>, Memory>
+    requires at { IsAt site.now book.now }
+    requires number { MarkerFits site.now book.now.broker }
+    ensures { IfOk result (λ o. o ≡ update_at site.now book.now.broker sub.now.sub.name sub.now.sub.replicated mark cache.now) }
+{
+    if !sub.is_replicated() {
+        return Ok(None);
+    }
+    match cache.passed(mark) {
+        None => Ok(None),
+        Some(cut) => {
+            let marker = sub_update::make(alloc, sub.name(), cut)?;
+            let names = Sequence::new(alloc);
+            let entry = own_marker(alloc, site, book, marker, Targets::All, names)?;
+            Ok(Some(appending(alloc, entry)?))
+        }
+    }
+}
+
+/// The mark-delete of a subscription's cursor after a write, which is not done yet.
+fn mark_after<S: EntryStore>(
+    alloc: Global,
+    sub: &Sub,
+    write: &SubWrite,
+    store: &S,
+) -> Result<u64, Memory>
+    requires { SubWriteFits (S.entries store.now) sub.now.sub write.now }
+    ensures { IfOk result (λ m. m ≡ mark (sub_written (S.entries store.now) write.now sub.now.sub).cursor) }
+{
+    match write {
+        SubWrite::Acks(indexes) => mark_with_each(alloc, sub.cursor(), indexes.as_slice(), store),
+        SubWrite::AckTo(index) => mark_with_all_to(alloc, sub.cursor(), *index, store),
+        SubWrite::Passed { index, from, .. } => {
+            mark_with_passed(alloc, sub.cursor(), *index, *from, store)
+        }
+        SubWrite::Seek(index) => Ok(Cursor::all(alloc, *index)?.mark_delete()),
+        SubWrite::Alter { .. } => Ok(sub.cursor().mark_delete()),
+    }
+}
+
+/// With some indexes acknowledged.
+fn mark_with_each<S: EntryStore>(
+    alloc: Global,
+    cursor: &Cursor,
+    indexes: &[u64],
+    store: &S,
+) -> Result<u64, Memory>
+    requires { All (λ i. i < length (S.entries store.now)) indexes.now }
+    ensures { IfOk result (λ m. m ≡ mark (with_indexes cursor.now.indexes indexes.now)) }
+{
+    let mut with = cursor.copy(alloc)?;
+    for index in indexes {
+        with.reserve(1)?;
+        match with.ack_one(*index, store.len() as u64) {
+            Ok(()) => {}
+            Err(_) => unreachable!(),
+        }
+    }
+    Ok(with.mark_delete())
+}
+
+/// With all indexes up to one acknowledged.
+fn mark_with_all_to<S: EntryStore>(
+    alloc: Global,
+    cursor: &Cursor,
+    index: u64,
+    store: &S,
+) -> Result<u64, Memory>
+    requires { index < length (S.entries store.now) }
+    ensures { IfOk result (λ m. m ≡ mark (with_indexes cursor.now.indexes (below (index + 1)))) }
+{
+    let mut with = cursor.copy(alloc)?;
+    with.reserve(1)?;
+    match with.ack_to(index, store.len() as u64) {
+        Ok(()) => Ok(with.mark_delete()),
+        Err(_) => unreachable!(),
+    }
+}
+
+/// With what an update of a cluster passes over acknowledged.
+fn mark_with_passed<S: EntryStore>(
+    alloc: Global,
+    cursor: &Cursor,
+    index: u64,
+    from: u32,
+    store: &S,
+) -> Result<u64, Memory>
+    requires { index < length (S.entries store.now) }
+    ensures { IfOk result (λ m. m ≡ mark (with_indexes cursor.now.indexes (passed_over from 0 (index + 1) (S.entries store.now)))) }
+{
+    let mut with = cursor.copy(alloc)?;
+    with.reserve(sub_update::runs(&with, store, index, from))?;
+    match sub_update::apply(&mut with, store, index, from) {
+        Ok(()) => Ok(with.mark_delete()),
+        Err(_) => unreachable!(),
+    }
+}

@@ -1,0 +1,79 @@
+//! Snap: a snapshot begins with a request to all other clusters, where a subscription is replicated and none is being made (PIP-33).
+ghost use Rattle.std.specs.Prelude.{◌≡◌, ◌≤◌, ◌&&◌, is_none, length, IfOk};
+ghost use Rattle.std.specs.List.{list_any};
+ghost use Rattle.geo_base.specs.Builder.{snapshot_id};
+ghost use Rattle.geo_base.specs.Markers.{asks, snap};
+ghost use Rattle.geo_base.specs.Subscription.{Subscription};
+ghost use Rattle.broker_state.specs.Room.{HasRoom};
+ghost use Rattle.broker_plans.specs.Prepared.{IsAt, IsPrepared, MarkerFits, SameState};
+ghost use Rattle.broker_plans.specs.Storable.{most_id};
+
+use crate::markers::request;
+use broker_plans::{Site, appending};
+use broker_state::{Book, BookChange, Prepared};
+use geo_base::{EntryStore, Memory, Position, Text};
+use snapshot_builder::Builder;
+use std::alloc::Global;
+
+/// What the beginning of a snapshot will do, among at least two clusters; it is not enabled where no subscription is replicated, or
+/// where a snapshot is being made. Only room is made; an `Err` is want of memory.
+#[tactic(auto, using(crate::proofs::Plans::not_asked, crate::proofs::Plans::idle_room, crate::proofs::Plans::asks_now))]
+pub fn prepare_snap(alloc: Global, site: &Site, book: &mut Book) -> Result<Prepared, Memory>
+    requires at { IsAt site.now book.old }
+    requires number { MarkerFits site.now book.old.broker }
+    requires remotes { 2 ≤ length site.now.clusters }
+    ensures prepared { IfOk result (IsPrepared site.now book.old.broker (snap site.now book.old.broker)) }
+    ensures room { IfOk result (HasRoom book.new.room) }
+    ensures kept { SameState book.old book.new }
+{
+    if !may_ask(book) {
+        return Ok(Prepared::idle(alloc));
+    }
+    book.reserve_entries(1)?;
+    let name = site.cluster_name(site.own()).as_str();
+    let id = snapshot_id(alloc, name, book.store().next())?;
+    let prepared = asking(alloc, site, book, &id)?;
+    Ok(prepared)
+}
+
+/// Whether a subscription is replicated and no snapshot is being made.
+fn may_ask(book: &Book) -> bool
+    ensures { result ≡ (list_any (λ (s : Subscription). s.replicated) book.now.broker.subs && is_none book.now.broker.builder) }
+{
+    book.subs().any_replicated() && book.builder().is_none()
+}
+
+/// A request of this id is stored, and a builder begins.
+#[tactic(auto, using(crate::proofs::Plans::asked, crate::proofs::Plans::asked_room, crate::proofs::Heard::started_builder))]
+fn asking(alloc: Global, site: &Site, book: &Book, id: &Text) -> Result<Prepared, Memory>
+    requires at { IsAt site.now book.now }
+    requires number { MarkerFits site.now book.now.broker }
+    requires remotes { 2 ≤ length site.now.clusters }
+    requires short { length id.now ≤ most_id }
+    requires entries { 1 ≤ book.now.room.entries }
+    requires streams { 1 ≤ book.now.room.streams }
+    ensures prepared { IfOk result (IsPrepared site.now book.now.broker (asks site.now book.now.broker id.now)) }
+    ensures room { IfOk result (HasRoom book.now.room) }
+{
+    let clusters = site.clusters().len() as u32;
+    let builder = Builder::start(alloc, id.as_str(), site.own(), clusters)?;
+    let asked = request(alloc, site, book, id.as_str())?;
+    let mut plan = Prepared::quiet(alloc, 0);
+    plan.write(appending(alloc, asked)?)?;
+    plan.change(BookChange::Building {
+        builder: Some(builder),
+    })?;
+    Ok(plan)
+}
+
+/// A snapshot's id: the cluster's name and the position of its request, as `a:0:1` (own).
+#[tactic(auto, using(crate::proofs::Sizes::short_id))]
+fn snapshot_id(alloc: Global, cluster: &str, position: Position) -> Result<Text, Memory>
+    requires { length cluster.now ≤ 16 }
+    ensures id { IfOk result (λ id. id ≡ snapshot_id cluster.now position) }
+    ensures short { IfOk result (λ id. length id ≤ most_id) }
+{
+    let ledger = position.ledger;
+    let entry = position.entry;
+    Ok(Text::from_string(format!(in alloc; "{cluster}:{ledger}:{entry}")?))
+}

@@ -1,0 +1,12 @@
+use Rattle.std.proofs.Common.{sym}
+use Rattle.broker_serving.specs.Serving.{open_at}
+use Rattle.broker_serving.proofs.Commands.{not_carried}
+use Rattle.broker_serving.proofs.Shapes.{same_plan}
+use Rattle.broker_serving.proofs.serving.serve_other.Goals as goal
+
+pub returns-in_default-clause-prepared : goal.returns-in_default-clause-prepared
+returns-in_default-clause-prepared c =
+    let h = c.args.site.now in
+    let b = c.args.book.now.broker in
+    same_plan h b _ _ c.closing.result
+    (sym (not_carried h b c.args.client (open_at b c.args.client) c.args.frame c.requires.producers c.requires.consumers c.in_default.not-Flow c.in_default.not-Ack c.in_default.not-Ping c.in_default.not-Pong)) c.closing.ensures.prepared

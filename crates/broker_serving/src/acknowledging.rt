@@ -1,0 +1,209 @@
+//! A broker and its clients' consumers: ACK.
+ghost use Rattle.std.specs.Prelude.{◌≡◌, ◌<◌, ◌++◌, ◌∷◌, [], if◌then◌else◌, length, IfOk, IfSome, OnOk};
+ghost use Rattle.std.specs.List.{All};
+ghost use Rattle.geo_base.specs.declared.change.Change.TheVariants as change;
+ghost use Rattle.geo_base.specs.Acknowledging.{acked_indexes, allows_cumulative, cumulative_indexes, serve_ack, stored_indexes, up_to, with_stored};
+ghost use Rattle.geo_base.specs.Plan.{plan_of};
+ghost use Rattle.geo_base.specs.Storing.{cursor_write};
+ghost use Rattle.geo_base.specs.Subscribing.{consumed_by};
+ghost use Rattle.broker_subs.specs.Steps.{SubWriteFits, machine_sub_write};
+ghost use Rattle.broker_subs.specs.Table.{sub_at};
+ghost use Rattle.broker_state.specs.Room.{HasRoom};
+ghost use Rattle.broker_plans.specs.Prepared.{IsAt, IsPrepared, MarkerFits, SameState};
+ghost use Rattle.broker_plans.specs.Storable.{IsWritable};
+ghost use Rattle.broker_serving.specs.Acknowledging.{WritesAcks};
+
+use crate::answering::ignoring;
+use broker_plans::{Site, begin_write, place_consumed, sub_at, update_after};
+use broker_state::{Book, BookChange, Prepared};
+use broker_subs::{SubChange, SubWrite};
+use geo_base::{AckKind, Memory, Position, Sequence, SubKind};
+use std::alloc::Global;
+
+/// What ACK names.
+#[derive(Debug, Drop)]
+pub(crate) struct Acked {
+    pub id: u64,
+    pub kind: AckKind,
+    pub positions: Sequence<Position>,
+}
+
+/// What ACK will do: the consumer's subscription acknowledges the positions that are stored, or all up to the one position.
+#[tactic(auto, using(crate::proofs::Acks::no_acks, crate::proofs::Acks::some_acks))]
+pub(crate) fn serve_ack(
+    alloc: Global,
+    site: &Site,
+    book: &mut Book,
+    client: u32,
+    acked: &Acked,
+) -> Result<Prepared, Memory>
+    requires at { IsAt site.now book.old }
+    requires number { MarkerFits site.now book.old.broker }
+    requires stored { IsWritable site.now book.old.broker }
+    ensures prepared { IfOk result (IsPrepared site.now book.old.broker (serve_ack site.now book.old.broker acked.now.kind acked.now.positions (consumed_by book.old.broker.subs client acked.now.id))) }
+    ensures room { IfOk result (HasRoom book.new.room) }
+    ensures kept { SameState book.old book.new }
+{
+    let Some(place) = place_consumed(book, client, acked.id) else {
+        return Ok(ignoring(alloc, site, book));
+    };
+    match acks(alloc, book, place, acked)? {
+        None => Ok(ignoring(alloc, site, book)),
+        Some(write) => acknowledging(alloc, site, book, place, write),
+    }
+}
+
+/// A write of the cursor of the subscription at a place, the update that follows it, and nothing acknowledged is out or due from
+/// then on.
+#[tactic(auto, using(crate::proofs::Acks::acked, crate::proofs::Acks::ack_room, broker_plans::proofs::Updates::update_appends))]
+fn acknowledging(
+    alloc: Global,
+    site: &Site,
+    book: &mut Book,
+    place: usize,
+    write: SubWrite,
+) -> Result<Prepared, Memory>
+    requires at { IsAt site.now book.old }
+    requires number { MarkerFits site.now book.old.broker }
+    requires stored { IsWritable site.now book.old.broker }
+    requires place { place < length book.old.broker.subs }
+    requires fits { SubWriteFits book.old.broker.entries (sub_at book.old.broker.subs place) write }
+    ensures prepared { IfOk result (IsPrepared site.now book.old.broker (plan_of (cursor_write site.now book.old.broker (sub_at book.old.broker.subs place) (machine_sub_write (sub_at book.old.broker.subs place).name book.old.broker.entries write)) (change.Acked (sub_at book.old.broker.subs place).name ∷ []) [])) }
+    ensures room { IfOk result (HasRoom book.new.room) }
+    ensures kept { SameState book.old book.new }
+{
+    let _own = site.own();
+    let update = update_after(
+        alloc,
+        site,
+        book,
+        place,
+        &write,
+        sub_at(book, place).cache(),
+    )?;
+    let mut plan = begin_write(alloc, book, place, 0, write, update)?;
+    plan.change(BookChange::Sub(SubChange::Acked))?;
+    Ok(plan)
+}
+
+/// The write that an ACK asks of the subscription at a place, where it names what is stored.
+fn acks(alloc: Global, book: &Book, place: usize, acked: &Acked) -> Result<Option<SubWrite>, Memory>
+    requires { place < length book.now.broker.subs }
+    ensures { IfOk result (WritesAcks book.now.broker.entries (sub_at book.now.broker.subs place) (acked_indexes book.now.broker.ledgers (sub_at book.now.broker.subs place).kind acked.now.positions acked.now.kind)) }
+{
+    let positions = acked.positions.as_slice();
+    match acked.kind {
+        AckKind::Individual => acks_each(alloc, book, place, positions),
+        AckKind::Cumulative => acks_allowed(book, place, positions),
+    }
+}
+
+/// Each of some positions that are stored.
+#[tactic(auto, using(crate::proofs::Acks::writes_some))]
+fn acks_each(
+    alloc: Global,
+    book: &Book,
+    place: usize,
+    positions: &[Position],
+) -> Result<Option<SubWrite>, Memory>
+    requires { place < length book.now.broker.subs }
+    ensures { IfOk result (WritesAcks book.now.broker.entries (sub_at book.now.broker.subs place) (stored_indexes book.now.broker.ledgers positions.now)) }
+{
+    let indexes = stored_indexes(alloc, book, positions)?;
+    Ok(some_acks(book, place, indexes))
+}
+
+/// Some indexes, if there are any.
+#[tactic(auto, using(crate::proofs::Acks::writes_none, crate::proofs::Acks::each_of))]
+fn some_acks(book: &Book, place: usize, indexes: Sequence<u64>) -> Option<SubWrite>
+    requires { All (λ i. i < length book.now.broker.entries) indexes }
+    ensures { WritesAcks book.now.broker.entries (sub_at book.now.broker.subs place) indexes result }
+{
+    if indexes.len() == 0 {
+        return None;
+    }
+    Some(SubWrite::Acks(indexes))
+}
+
+/// All up to a position, if the subscription's kind allows it.
+#[tactic(auto, using(crate::proofs::Acks::writes_none))]
+fn acks_allowed(
+    book: &Book,
+    place: usize,
+    positions: &[Position],
+) -> Result<Option<SubWrite>, Memory>
+    requires { place < length book.now.broker.subs }
+    ensures { IfOk result (WritesAcks book.now.broker.entries (sub_at book.now.broker.subs place) (if allows_cumulative (sub_at book.now.broker.subs place).kind then cumulative_indexes book.now.broker.ledgers positions.now else [])) }
+{
+    if !allows_cumulative(sub_at(book, place).kind()) {
+        return Ok(None);
+    }
+    Ok(acks_to(book, place, positions))
+}
+
+/// All up to a position, if it is the only one and is stored.
+fn acks_to(book: &Book, place: usize, positions: &[Position]) -> Option<SubWrite>
+    ensures { WritesAcks book.now.broker.entries (sub_at book.now.broker.subs place) (cumulative_indexes book.now.broker.ledgers positions.now) result }
+{
+    up_to(book, place, only_index(book, positions))
+}
+
+/// All up to an index, if there is one.
+#[tactic(auto, using(crate::proofs::Acks::writes_none, crate::proofs::Acks::writes_to))]
+fn up_to(book: &Book, place: usize, index: Option<u64>) -> Option<SubWrite>
+    requires { IfSome index (λ i. i < length book.now.broker.entries) }
+    ensures { WritesAcks book.now.broker.entries (sub_at book.now.broker.subs place) (up_to index) result }
+{
+    match index {
+        None => None,
+        Some(index) => Some(SubWrite::AckTo(index)),
+    }
+}
+
+/// The index of the one position, if there is only one and it is stored.
+fn only_index(book: &Book, positions: &[Position]) -> Option<u64>
+    ensures only { cumulative_indexes book.now.broker.ledgers positions.now ≡ up_to result }
+    ensures within { IfSome result (λ i. i < length book.now.broker.entries) }
+{
+    let [position] = positions else {
+        return None;
+    };
+    book.index_of(*position)
+}
+
+/// Whether messages are acknowledged all up to one (Pulsar manual: those of a Shared or Key_Shared subscription are one by one).
+fn allows_cumulative(kind: SubKind) -> bool
+    ensures { result ≡ allows_cumulative kind }
+{
+    matches!(kind, SubKind::Exclusive | SubKind::Failover)
+}
+
+/// The indexes of the positions that are stored.
+fn stored_indexes(
+    alloc: Global,
+    book: &Book,
+    positions: &[Position],
+) -> Result<Sequence<u64>, Memory>
+    ensures indexes { IfOk result (λ is. is ≡ stored_indexes book.now.broker.ledgers positions.now) }
+    ensures within { IfOk result (λ is. All (λ i. i < length book.now.broker.entries) is) }
+{
+    let mut indexes = Sequence::new(alloc);
+    for position in positions {
+        add(&mut indexes, book.index_of(*position), book)?;
+    }
+    Ok(indexes)
+}
+
+/// One more index, if there is one.
+#[tactic(auto, using(crate::proofs::Acks::all_with))]
+fn add(indexes: &mut Sequence<u64>, index: Option<u64>, book: &Book) -> Result<(), Memory>
+    requires old { All (λ i. i < length book.now.broker.entries) indexes.old }
+    requires one { IfSome index (λ i. i < length book.now.broker.entries) }
+    ensures indexes { OnOk result (indexes.new ≡ indexes.old ++ with_stored index []) }
+    ensures within { OnOk result (All (λ i. i < length book.now.broker.entries) indexes.new) }
+{
+    match index {
+        None => Ok(()),
+        Some(index) => indexes.push(index),
+    }
+}

@@ -1,0 +1,291 @@
+//! A broker and its clients' consumers: SUBSCRIBE.
+ghost use Rattle.std.specs.Prelude.{◌≡◌, ◌<◌, ◌∷◌, [], ◌&&◌, true, false, None, Some, not, length, IfOk};
+ghost use Rattle.std.specs.Str.{bytes_eq};
+ghost use Rattle.geo_base.specs.declared.write.Write.TheVariants as write;
+ghost use Rattle.geo_base.specs.Broker.{sub_named};
+ghost use Rattle.geo_base.specs.Name.{is_name};
+ghost use Rattle.geo_base.specs.Subscribing.{altering, has_room, is_busy, joins, same_kind, serve_subscribe, subscribes};
+ghost use Rattle.broker_subs.specs.Table.{room_at, sub_at};
+ghost use Rattle.broker_state.specs.Prepared.{quiet_book};
+ghost use Rattle.broker_state.specs.Room.{HasRoom};
+ghost use Rattle.broker_plans.specs.Prepared.{IsPrepared, SameState};
+ghost use Rattle.broker_serving.specs.Serving.{IsOpen, open_at};
+ghost use Rattle.broker_serving.specs.Subscribing.{alter_writes, altered, attach, denial, joining};
+
+use crate::answering::{CONSUMER_BUSY, UNKNOWN_ERROR, answered, refusing};
+use broker_plans::{Site, place_named, sub_at};
+use broker_state::{Book, BookChange, BookWrite, Prepared};
+use broker_subs::{Sub, SubChange, SubWrite};
+use geo_base::limits::SUBSCRIPTIONS;
+use geo_base::{Consumer, Frame, Memory, NameFault, SubKind, SubName, Text, name_text};
+use std::alloc::Global;
+
+/// What SUBSCRIBE asks for.
+#[derive(Debug, Drop)]
+pub(crate) struct Joining {
+    pub topic: Text,
+    pub sub: Text,
+    pub kind: SubKind,
+    pub id: u64,
+    pub request: u64,
+    pub earliest: bool,
+    pub replicated: bool,
+}
+
+/// What SUBSCRIBE will do.
+pub(crate) fn serve_subscribe(
+    alloc: Global,
+    site: &Site,
+    book: &mut Book,
+    client: u32,
+    asked: &Joining,
+) -> Result<Prepared, Memory>
+    requires open { IsOpen book.old.broker client }
+    ensures prepared { IfOk result (IsPrepared site.now book.old.broker (serve_subscribe site.now book.old.broker client (open_at book.old.broker client) asked.now.topic asked.now.sub asked.now.kind asked.now.id asked.now.request asked.now.earliest asked.now.replicated)) }
+    ensures room { IfOk result (HasRoom book.new.room) }
+    ensures kept { SameState book.old book.new }
+{
+    match denial(site, book, client, asked) {
+        Some(code) => refusing(alloc, site, book, client, asked.request, code),
+        None => subscribe(alloc, site, book, client, asked),
+    }
+}
+
+/// Why a client may not subscribe, as a ServerError, if it may not: unknown for another topic, for a name that is none, and for a
+/// subscription beyond the most that a topic has; busy for a client that has a consumer.
+fn denial(site: &Site, book: &Book, client: u32, asked: &Joining) -> Option<u64>
+    ensures denial { result ≡ denial site.now book.now.broker client asked.now.topic asked.now.sub }
+    ensures named { result ≡ None → is_name asked.now.sub ≡ true }
+{
+    if !admits(site, book, asked) {
+        return Some(UNKNOWN_ERROR);
+    }
+    if book.subs().is_attached(client) {
+        return Some(CONSUMER_BUSY);
+    }
+    None
+}
+
+/// Whether a subscription of this name and topic is here or may be made.
+fn admits(site: &Site, book: &Book, asked: &Joining) -> bool
+    ensures admits { result ≡ (bytes_eq asked.now.topic site.now.topic && is_name asked.now.sub && has_room book.now.broker asked.now.sub) }
+    ensures named { result ≡ true → is_name asked.now.sub ≡ true }
+{
+    asked.topic.as_bytes() == site.topic().as_str().as_bytes()
+        && is_name(asked.sub.as_bytes())
+        && has_room(book, &asked.sub)
+}
+
+/// Whether bytes are a name.
+fn is_name(word: &[u8]) -> bool
+    ensures { result ≡ is_name word.now }
+{
+    name_text(word).is_some()
+}
+
+#[tactic(auto, using(broker_plans::proofs::Places::many))]
+fn has_room(book: &Book, sub: &Text) -> bool
+    ensures { result ≡ has_room book.now.broker sub.now }
+{
+    place_named(book, sub.as_bytes()).is_some() || book.subs().len() < SUBSCRIPTIONS
+}
+
+/// A consumer joins a subscription, which is created where there is none.
+fn subscribe(
+    alloc: Global,
+    site: &Site,
+    book: &mut Book,
+    client: u32,
+    asked: &Joining,
+) -> Result<Prepared, Memory>
+    requires open { IsOpen book.old.broker client }
+    requires named { is_name asked.now.sub ≡ true }
+    ensures prepared { IfOk result (IsPrepared site.now book.old.broker (subscribes client (open_at book.old.broker client) asked.now.sub asked.now.kind asked.now.id asked.now.request asked.now.earliest asked.now.replicated (sub_named book.old.broker.subs asked.now.sub))) }
+    ensures room { IfOk result (HasRoom book.new.room) }
+    ensures kept { SameState book.old book.new }
+{
+    match place_named(book, asked.sub.as_bytes()) {
+        None => creating(alloc, site, book, client, asked),
+        Some(place) => join_unless_busy(alloc, site, book, client, place, asked),
+    }
+}
+
+/// A consumer joins the subscription of its name, which is at a place, unless it is busy.
+fn join_unless_busy(
+    alloc: Global,
+    site: &Site,
+    book: &mut Book,
+    client: u32,
+    place: usize,
+    asked: &Joining,
+) -> Result<Prepared, Memory>
+    requires open { IsOpen book.old.broker client }
+    requires place { place < length book.old.broker.subs }
+    requires there { sub_named book.old.broker.subs asked.now.sub ≡ Some (sub_at book.old.broker.subs place) }
+    ensures prepared { IfOk result (IsPrepared site.now book.old.broker (subscribes client (open_at book.old.broker client) asked.now.sub asked.now.kind asked.now.id asked.now.request asked.now.earliest asked.now.replicated (Some (sub_at book.old.broker.subs place)))) }
+    ensures room { IfOk result (HasRoom book.new.room) }
+    ensures kept { SameState book.old book.new }
+{
+    if is_busy(book, place, asked.kind) {
+        refusing(alloc, site, book, client, asked.request, CONSUMER_BUSY)
+    } else {
+        join(alloc, site, book, client, place, asked)
+    }
+}
+
+/// Whether consumers are at the subscription at a place that one of a kind can't join.
+fn is_busy(book: &Book, place: usize, kind: SubKind) -> bool
+    requires { place < length book.now.broker.subs }
+    ensures { result ≡ is_busy kind (sub_at book.now.broker.subs place) }
+{
+    sub_at(book, place).is_busy(kind)
+}
+
+/// A consumer joins a subscription that is created first.
+fn creating(
+    alloc: Global,
+    site: &Site,
+    book: &mut Book,
+    client: u32,
+    asked: &Joining,
+) -> Result<Prepared, Memory>
+    requires open { IsOpen book.old.broker client }
+    requires named { is_name asked.now.sub ≡ true }
+    requires missing { sub_named book.old.broker.subs asked.now.sub ≡ None }
+    ensures prepared { IfOk result (IsPrepared site.now book.old.broker (joins client (open_at book.old.broker client) asked.now.sub asked.now.id asked.now.request (write.Create asked.now.sub asked.now.kind asked.now.replicated (not asked.now.earliest) ∷ []))) }
+    ensures room { IfOk result (HasRoom book.new.room) }
+    ensures kept { SameState book.old book.new }
+{
+    book.reserve_places(1)?;
+    let plan = create_plan(alloc, site, book, client, asked)?;
+    let success = Frame::Success {
+        request: asked.request,
+    };
+    let prepared = answered(alloc, site, book, client, plan, success)?;
+    Ok(prepared)
+}
+
+/// The subscription is created, and the consumer joins it.
+fn create_plan(
+    alloc: Global,
+    site: &Site,
+    book: &Book,
+    client: u32,
+    asked: &Joining,
+) -> Result<Prepared, Memory>
+    requires named { is_name asked.now.sub ≡ true }
+    requires missing { sub_named book.now.broker.subs asked.now.sub ≡ None }
+    requires places { book.now.room.places ≡ 1 }
+    ensures prepared { IfOk result (IsPrepared site.now book.now.broker (joining client asked.now.sub asked.now.id (write.Create asked.now.sub asked.now.kind asked.now.replicated (not asked.now.earliest) ∷ []))) }
+    ensures room { IfOk result (HasRoom book.now.room) }
+{
+    let name = sub_name(alloc, &asked.sub)?;
+    let sub = Sub::new(alloc, name, asked.kind, asked.replicated, 1, 1)?;
+    let mut plan = Prepared::quiet(alloc, book.subs().len());
+    plan.write(BookWrite::Create {
+        sub,
+        latest: !asked.earliest,
+    })?;
+    plan.change(attach(client, asked.id))?;
+    Ok(plan)
+}
+
+/// A consumer joins the subscription at a place.
+fn join(
+    alloc: Global,
+    site: &Site,
+    book: &mut Book,
+    client: u32,
+    place: usize,
+    asked: &Joining,
+) -> Result<Prepared, Memory>
+    requires open { IsOpen book.old.broker client }
+    requires place { place < length book.old.broker.subs }
+    requires free { is_busy asked.now.kind (sub_at book.old.broker.subs place) ≡ false }
+    ensures prepared { IfOk result (IsPrepared site.now book.old.broker (joins client (open_at book.old.broker client) (sub_at book.old.broker.subs place).name asked.now.id asked.now.request (altering (sub_at book.old.broker.subs place) asked.now.kind asked.now.replicated))) }
+    ensures room { IfOk result (HasRoom book.new.room) }
+    ensures kept { SameState book.old book.new }
+{
+    book.reserve_sub(place, 1, 0)?;
+    let plan = join_plan(alloc, site, book, client, place, asked)?;
+    let success = Frame::Success {
+        request: asked.request,
+    };
+    let prepared = answered(alloc, site, book, client, plan, success)?;
+    Ok(prepared)
+}
+
+/// The subscription at a place takes the kind that came, where it has another one, and the consumer joins it.
+fn join_plan(
+    alloc: Global,
+    site: &Site,
+    book: &Book,
+    client: u32,
+    place: usize,
+    asked: &Joining,
+) -> Result<Prepared, Memory>
+    requires place { place < length book.now.broker.subs }
+    requires free { is_busy asked.now.kind (sub_at book.now.broker.subs place) ≡ false }
+    requires given { (room_at book.now.room.subs place).room ≡ 1 }
+    ensures prepared { IfOk result (IsPrepared site.now book.now.broker (joining client (sub_at book.now.broker.subs place).name asked.now.id (altering (sub_at book.now.broker.subs place) asked.now.kind asked.now.replicated))) }
+    ensures room { IfOk result (HasRoom book.now.room) }
+{
+    let altered = altering(sub_at(book, place), asked.kind, asked.replicated);
+    let mut plan = altering_plan(alloc, place, altered)?;
+    plan.change(attach(client, asked.id))?;
+    Ok(plan)
+}
+
+/// The consumer comes last in order, without permits.
+fn attach(client: u32, id: u64) -> BookChange
+    ensures { result ≡ attach client id }
+{
+    BookChange::Sub(SubChange::Attach(Consumer {
+        client,
+        id,
+        permits: 0,
+    }))
+}
+
+/// The event that alters the subscription at a place, where it is altered.
+fn altering_plan(alloc: Global, place: usize, altered: Option<SubWrite>) -> Result<Prepared, Memory>
+    ensures { IfOk result (λ p. p ≡ record (quiet_book place) { writes = alter_writes altered }) }
+{
+    let mut plan = Prepared::quiet(alloc, place);
+    if let Some(write) = altered {
+        plan.write(BookWrite::Sub(write))?;
+    }
+    Ok(plan)
+}
+
+/// The write that gives a subscription the kind that came, and the mark that it is replicated, where that changes it.
+fn altering(sub: &Sub, kind: SubKind, replicated: bool) -> Option<SubWrite>
+    ensures { result ≡ altered sub.now.sub kind replicated }
+{
+    let now = sub.is_replicated();
+    if is_same_kind(kind, sub.kind()) && (now || !replicated) {
+        return None;
+    }
+    Some(SubWrite::Alter {
+        kind,
+        replicated: now || replicated,
+    })
+}
+
+fn is_same_kind(one: SubKind, other: SubKind) -> bool
+    ensures { result ≡ same_kind one other }
+{
+    one == other
+}
+
+/// The name that a text is.
+fn sub_name(alloc: Global, text: &Text) -> Result<SubName, Memory>
+    requires { is_name text.now ≡ true }
+    ensures { IfOk result (λ name. name ≡ text.now) }
+{
+    match SubName::read(alloc, text.as_str()) {
+        Ok(name) => Ok(name),
+        Err(NameFault::Memory) => Err(Memory),
+        Err(_) => unreachable!(),
+    }
+}

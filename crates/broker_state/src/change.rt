@@ -1,0 +1,55 @@
+//! Changes in a broker's memory.
+
+use broker_subs::SubChange;
+use geo_base::Session;
+use snapshot_builder::Builder;
+
+/// One change in memory, with all the memory that it takes. The subscription that it is of is the prepared event's.
+#[derive(Debug, Drop)]
+pub enum BookChange {
+    /// The session that is open on the forward link from a cluster.
+    Receiver {
+        source: u32,
+        session: Option<u64>,
+    },
+    /// What a client has open.
+    Client {
+        client: u32,
+        session: Option<Session>,
+    },
+    /// A client's consumers leave, wherever it has any.
+    Detach {
+        client: u32,
+    },
+    /// The subscription's consumers or snapshots change.
+    Sub(SubChange),
+    /// A sender's session begins, which the other side has not opened yet.
+    Opening {
+        remote: u32,
+    },
+    /// The other side opened it.
+    Opened {
+        remote: u32,
+    },
+    /// An entry was sent, and its receipt is awaited.
+    Pend {
+        remote: u32,
+        index: u64,
+    },
+    /// A sender has read what stands below an index.
+    ReadTo {
+        remote: u32,
+        index: u64,
+    },
+    /// A receipt came for the entry that was sent under a number.
+    Unpend {
+        remote: u32,
+        number: u64,
+    },
+    /// The snapshot that is being made.
+    Building {
+        builder: Option<Builder>,
+    },
+    /// A restart: what is in memory is lost.
+    Forget,
+}

@@ -1,0 +1,122 @@
+//! Changes in memory, made. None takes memory or can fail.
+ghost use Rattle.std.specs.Prelude.{◌≡◌, ◌<◌, ◌≤◌, ◌+◌, None, List, Option, ℕ, length, map};
+ghost use Rattle.geo_base.specs.Broker.{changed};
+ghost use Rattle.geo_base.specs.declared.change.Change.TheVariants as change;
+ghost use Rattle.geo_base.specs.declared.session.Session.{Session};
+ghost use Rattle.broker_subs.specs.Steps as sub;
+ghost use Rattle.broker_subs.specs.Table.{names_of, room_at, sub_at};
+ghost use Rattle.broker_state.specs.Fits.{ChangeFits, ChangePlaceFits, SameShape};
+ghost use Rattle.broker_state.specs.Room.{ChangeLeaves, change_room, change_senders};
+ghost use Rattle.broker_state.specs.Senders as sender;
+ghost use Rattle.broker_state.specs.Writes.{machine_change};
+
+use crate::book::Book;
+use crate::change::BookChange;
+use crate::sender_row::SenderStep;
+use broker_subs::SubChange;
+use geo_base::Session;
+use replicator::Receiver;
+
+impl Book {
+    /// Makes one change in memory of an event about the subscription at a place.
+    pub(crate) fn change(&mut self, place: usize, change: BookChange)
+        requires place { ChangePlaceFits place (length self.old.broker.subs) change }
+        requires fits { ChangeFits place self.old.broker change }
+        requires room { change_room change ≤ (room_at self.old.room.subs place).room }
+        requires senders { change_senders change ≤ self.old.room.senders }
+        ensures broker { self.new.broker ≡ changed self.old.broker (machine_change (sub_at self.old.broker.subs place).name change) }
+        ensures names { names_of self.new.broker.subs ≡ names_of self.old.broker.subs }
+        ensures own { self.new.own ≡ self.old.own }
+        ensures per_ledger { self.new.per_ledger ≡ self.old.per_ledger }
+        ensures shape { SameShape self.old.broker self.new.broker }
+        ensures room { ChangeLeaves place change self.old.room self.new.room }
+    {
+        match change {
+            BookChange::Receiver { source, session } => self.receive(source, session),
+            BookChange::Client { client, session } => self.sessions[client as usize] = session,
+            BookChange::Detach { client } => self.subs.leave(client),
+            BookChange::Sub(change) => self.change_sub(place, change),
+            BookChange::Opening { remote } => self.senders.step(remote, SenderStep::Begin),
+            BookChange::Opened { remote } => self.senders.step(remote, SenderStep::Opened),
+            BookChange::Pend { remote, index } => self
+                .senders
+                .step(remote, SenderStep::Pend(index)),
+            BookChange::ReadTo { remote, index } => {
+                self.senders.step(remote, SenderStep::ReadTo(index));
+            }
+            BookChange::Unpend { remote, number } => {
+                self.senders.step(remote, SenderStep::Unpend(number));
+            }
+            BookChange::Building { builder } => self.builder = builder,
+            BookChange::Forget => self.forget(),
+        }
+    }
+
+    /// The session that is open on the forward link from a cluster.
+    fn receive(&mut self, source: u32, session: Option<u64>)
+        requires { source < length self.old.broker.receivers }
+        ensures { self.new ≡ record self.old { broker = changed self.old.broker (change.Receiver source session) } }
+    {
+        self.receivers[source as usize] = receiver_of(session);
+    }
+
+    /// The consumers or snapshots of the subscription at a place change.
+    #[tactic(auto, using(crate::proofs::Steps::sub_changed_is))]
+    fn change_sub(&mut self, place: usize, change: SubChange)
+        requires place { place < length self.old.broker.subs }
+        requires room { sub.room_needed change ≤ (room_at self.old.room.subs place).room }
+        requires fits { sub.SubChangeFits (sub_at self.old.broker.subs place) change }
+        ensures broker { self.new.broker ≡ changed self.old.broker (sub.machine_sub_change (sub_at self.old.broker.subs place).name change) }
+        ensures names { names_of self.new.broker.subs ≡ names_of self.old.broker.subs }
+        ensures own { self.new.own ≡ self.old.own }
+        ensures per_ledger { self.new.per_ledger ≡ self.old.per_ledger }
+        ensures room { (room_at self.old.room.subs place).room ≡ (room_at self.new.room.subs place).room + sub.room_needed change }
+        ensures rest { self.new.room ≡ record self.old.room { subs = self.new.room.subs } }
+    {
+        self.subs.change(place, change);
+    }
+
+    /// A restart: what is in memory is lost.
+    fn forget(&mut self)
+        ensures broker { self.new.broker ≡ changed self.old.broker change.Forget }
+        ensures names { names_of self.new.broker.subs ≡ names_of self.old.broker.subs }
+        ensures own { self.new.own ≡ self.old.own }
+        ensures per_ledger { self.new.per_ledger ≡ self.old.per_ledger }
+        ensures room { self.new.room ≡ self.old.room }
+    {
+        self.senders.restart();
+        close_each(self.receivers.as_mut_slice());
+        self.subs.clear();
+        end_each(self.sessions.as_mut_slice());
+        self.builder = None;
+    }
+}
+
+/// A receiver whose session is open, if one is.
+fn receiver_of(session: Option<u64>) -> Receiver
+    ensures { result ≡ session }
+{
+    let mut receiver = Receiver::new();
+    if let Some(number) = session {
+        receiver.open(number);
+    }
+    receiver
+}
+
+/// No session is open on any forward link.
+fn close_each(receivers: &mut [Receiver])
+    ensures { receivers.new ≡ map (λ (r : Option ℕ). None) receivers.old }
+{
+    for receiver in receivers {
+        receiver.close();
+    }
+}
+
+/// No client has a session.
+fn end_each(sessions: &mut [Option<Session>])
+    ensures { sessions.new ≡ map (λ (s : Option Session). None) sessions.old }
+{
+    for session in sessions {
+        *session = None;
+    }
+}

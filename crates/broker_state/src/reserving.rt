@@ -1,0 +1,57 @@
+//! Room for the steps of an event, in the tables that it touches. These are the calls of a broker's state that take memory.
+ghost use Rattle.std.specs.Prelude.{◌≡◌, ◌<◌, ◌≤◌, length, OnOk};
+ghost use Rattle.broker_subs.specs.Table.{room_at};
+
+use crate::book::Book;
+use geo_base::{EntryStore, Memory};
+
+impl Book {
+    /// Makes room for `n` more entries, each of a new stream, or ledgers.
+    pub fn reserve_entries(&mut self, n: usize) -> Result<(), Memory>
+        ensures broker { self.new.broker ≡ self.old.broker }
+        ensures own { self.new.own ≡ self.old.own }
+        ensures per_ledger { self.new.per_ledger ≡ self.old.per_ledger }
+        ensures entries { OnOk result (n ≤ self.new.room.entries) }
+        ensures streams { OnOk result (n ≤ self.new.room.streams) }
+        ensures rest { self.new.room ≡ record self.old.room { entries = self.new.room.entries; streams = self.new.room.streams } }
+    {
+        self.store.reserve(n)?;
+        self.dedup.reserve(n)
+    }
+
+    /// Makes room for `n` more subscriptions.
+    pub fn reserve_places(&mut self, n: usize) -> Result<(), Memory>
+        ensures broker { self.new.broker ≡ self.old.broker }
+        ensures own { self.new.own ≡ self.old.own }
+        ensures per_ledger { self.new.per_ledger ≡ self.old.per_ledger }
+        ensures places { OnOk result (self.new.room.places ≡ n) }
+        ensures rest { self.new.room ≡ record self.old.room { places = self.new.room.places } }
+    {
+        self.subs.reserve(n)
+    }
+
+    /// Makes room at the subscription at a place: for so many consumers that join and indexes that are given, and for so many
+    /// acknowledged indexes.
+    pub fn reserve_sub(&mut self, place: usize, room: usize, acks: usize) -> Result<(), Memory>
+        requires { place < length self.old.broker.subs }
+        ensures broker { self.new.broker ≡ self.old.broker }
+        ensures own { self.new.own ≡ self.old.own }
+        ensures per_ledger { self.new.per_ledger ≡ self.old.per_ledger }
+        ensures room { OnOk result ((room_at self.new.room.subs place).room ≡ room) }
+        ensures acks { OnOk result (acks ≤ (room_at self.new.room.subs place).acks) }
+        ensures rest { self.new.room ≡ record self.old.room { subs = self.new.room.subs } }
+    {
+        self.subs.reserve_at(place, room, acks)
+    }
+
+    /// Makes room for `n` more indexes that a sender is acknowledged or sends.
+    pub fn reserve_senders(&mut self, n: usize) -> Result<(), Memory>
+        ensures broker { self.new.broker ≡ self.old.broker }
+        ensures own { self.new.own ≡ self.old.own }
+        ensures per_ledger { self.new.per_ledger ≡ self.old.per_ledger }
+        ensures senders { OnOk result (self.new.room.senders ≡ n) }
+        ensures rest { self.new.room ≡ record self.old.room { senders = self.new.room.senders } }
+    {
+        self.senders.reserve(n)
+    }
+}

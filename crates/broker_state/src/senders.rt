@@ -1,0 +1,129 @@
+//! The senders of a broker, one for each cluster; the own one is unused.
+ghost use Rattle.std.specs.Prelude.{◌≡◌, ◌<◌, ◌≤◌, ◌+◌, ◌^◌, length, map, slice_set, slice_index_or, replicate, IfOk, OnOk};
+ghost use Rattle.geo_base.specs.Sender.{new_sender, sender_restarted};
+ghost use Rattle.broker_state.specs.Senders.{AllHaveRoom, StepFits, room_needed, row_restarted, senders_of, stepped};
+
+use crate::sender_row::{SenderRow, SenderStep};
+use geo_base::Memory;
+use std::alloc::Global;
+use std::marker::Model;
+
+/// The senders by cluster, and how many more steps that take a place have room at each.
+#[derive(Debug, Drop)]
+pub struct SenderTable {
+    pub(crate) senders: Vec<SenderRow>,
+    room: usize,
+}
+
+impl Model for SenderTable {
+    ghost use Rattle.broker_state.specs.Senders.{AllHaveRoom, SenderBooks, senders_of};
+
+    ghost Value = { SenderBooks };
+
+    ghost view = { λ t. record { senders = senders_of t.senders.items; room = t.room } };
+
+    ghost invariant = { λ t. AllHaveRoom t.room t.senders.items };
+}
+
+impl SenderTable {
+    /// New senders of cluster `own`, one of so many.
+    pub fn new(alloc: Global, own: u32, clusters: u32) -> Result<SenderTable, Memory>
+        ensures { IfOk result (λ t. t ≡ record { senders = replicate clusters new_sender; room = 0 }) }
+    {
+        let mut senders = Vec::new(alloc);
+        for remote in 0..clusters {
+            match senders.push(SenderRow::new(alloc, own, remote)) {
+                Ok(()) => {}
+                Err(_) => return Err(Memory),
+            }
+        }
+        Ok(SenderTable { senders, room: 0 })
+    }
+
+    /// The senders of a vector, in order; takes no memory.
+    pub fn from_vec(senders: Vec<SenderRow>) -> SenderTable
+        ensures { result ≡ record { senders = senders_of senders.items; room = 0 } }
+    {
+        SenderTable { senders, room: 0 }
+    }
+
+    /// The sender to a cluster.
+    pub fn at(&self, remote: u32) -> &SenderRow
+        requires { remote < length self.now.senders }
+        ensures { result.now.sender ≡ slice_index_or self.now.senders remote new_sender }
+    {
+        &self.senders[remote as usize]
+    }
+
+    /// How many senders there are.
+    pub fn len(&self) -> usize
+        ensures { result ≡ length self.now.senders }
+    {
+        self.senders.len()
+    }
+
+    /// Makes room for so many more steps of each sender.
+    pub fn reserve(&mut self, room: usize) -> Result<(), Memory>
+        ensures same { self.new.senders ≡ self.old.senders }
+        ensures ok { OnOk result (self.new.room ≡ room) }
+    {
+        self.room = 0;
+        reserve_each(self.senders.as_mut_slice(), room)?;
+        self.room = room;
+        Ok(())
+    }
+
+    /// Does one step of the sender to a cluster. It takes no memory.
+    pub fn step(&mut self, remote: u32, step: SenderStep)
+        requires remote { remote < length self.old.senders }
+        requires room { room_needed step ≤ self.old.room }
+        requires fits { StepFits step (slice_index_or self.old.senders remote new_sender) }
+        ensures senders { self.new.senders ≡ slice_set self.old.senders remote (stepped step (slice_index_or self.old.senders remote new_sender)) }
+        ensures room { self.new.room + room_needed step ≡ self.old.room }
+    {
+        self.senders[remote as usize].step(step);
+        self.room -= places(step);
+    }
+
+    /// A restart: what is in memory is lost.
+    pub fn restart(&mut self)
+        ensures senders { self.new.senders ≡ map sender_restarted self.old.senders }
+        ensures room { self.new.room ≡ self.old.room }
+    {
+        restart_each(self.senders.as_mut_slice());
+    }
+}
+
+/// How many places a step takes.
+fn places(step: SenderStep) -> usize
+    ensures { result ≡ room_needed step }
+{
+    match step {
+        SenderStep::Acknowledge(_) | SenderStep::Pend(_) => 1,
+        SenderStep::Session(_)
+        | SenderStep::Begin
+        | SenderStep::Opened
+        | SenderStep::ReadTo(_)
+        | SenderStep::Unpend(_) => 0,
+    }
+}
+
+/// Makes room in each sender.
+fn reserve_each(senders: &mut [SenderRow], room: usize) -> Result<(), Memory>
+    ensures same { senders_of senders.new ≡ senders_of senders.old }
+    ensures ok { OnOk result (AllHaveRoom room senders.new) }
+{
+    for sender in senders {
+        sender.reserve(room)?;
+    }
+    Ok(())
+}
+
+/// Each sender loses what is in memory.
+fn restart_each(senders: &mut [SenderRow])
+    ensures { senders.new ≡ map row_restarted senders.old }
+{
+    for sender in senders {
+        sender.restart();
+    }
+}

@@ -1,0 +1,126 @@
+//! A broker over a restart: what is durable of it, and what it is again.
+ghost use Rattle.std.specs.Prelude.{◌≡◌, ◌++◌, ◌∷◌, [], None, length, map, replicate, IfOk, OnOk};
+ghost use Rattle.geo_base.specs.Sender.{sender_restarted};
+ghost use Rattle.durable_parts.specs.Durable.{broker_of, durable_part};
+ghost use Rattle.durable_parts.specs.Parts as durable;
+ghost use Rattle.broker_state.specs.Book.{no_room};
+ghost use Rattle.broker_state.specs.Senders.{senders_of};
+
+use crate::book::{Book, closed_receivers, no_sessions};
+use crate::sender_row::SenderRow;
+use crate::senders::SenderTable;
+use broker_subs::SubTable;
+use durable_parts::{Durable, DurableSender, DurableSenders, recover};
+use geo_base::Memory;
+use std::alloc::Global;
+
+impl Book {
+    /// What is durable.
+    pub fn durable(&self, alloc: Global) -> Result<Durable, Memory>
+        ensures broker { IfOk result (λ d. broker_of d ≡ durable_part self.now.broker) }
+        ensures own { IfOk result (λ d. d.own ≡ self.now.own) }
+        ensures per_ledger { IfOk result (λ d. d.store.per_ledger ≡ self.now.per_ledger) }
+    {
+        Ok(Durable {
+            own: self.own,
+            store: self.store.copy(alloc)?,
+            subs: self.subs.durable(alloc)?,
+            senders: self.senders.durable(alloc)?,
+        })
+    }
+
+    /// A broker as it is after a restart, with no session of so many clients.
+    pub fn from_durable(alloc: Global, durable: Durable, clients: usize) -> Result<Book, Memory>
+        ensures broker { IfOk result (λ b. b.broker ≡ record (broker_of durable) { receivers = replicate (length durable.senders) None; sessions = replicate clients None }) }
+        ensures own { IfOk result (λ b. b.own ≡ durable.own) }
+        ensures per_ledger { IfOk result (λ b. b.per_ledger ≡ durable.store.per_ledger) }
+    {
+        let recovered = recover(alloc, &durable)?;
+        let Durable {
+            own,
+            store,
+            subs,
+            senders,
+        } = durable;
+        let senders = SenderTable::restored(alloc, own, senders)?;
+        let receivers = closed_receivers(alloc, senders.len())?;
+        Ok(Book {
+            own,
+            store,
+            dedup: recovered.dedup,
+            next_marker: recovered.next_marker,
+            senders,
+            receivers,
+            subs: SubTable::restored(alloc, subs)?,
+            sessions: no_sessions(alloc, clients)?,
+            builder: None,
+        })
+    }
+}
+
+impl SenderTable {
+    /// What is durable of the senders.
+    pub fn durable(&self, alloc: Global) -> Result<DurableSenders, Memory>
+        ensures { IfOk result (λ d. d ≡ map sender_restarted self.now.senders) }
+    {
+        Ok(DurableSenders::from_vec(durable_senders(alloc, self.senders.as_slice())?))
+    }
+
+    /// The senders of cluster `own` as they are after a restart, from what is durable of them.
+    pub fn restored(alloc: Global, own: u32, parts: DurableSenders) -> Result<SenderTable, Memory>
+        ensures { IfOk result (λ t. t.senders ≡ parts) }
+    {
+        let rows = restored_senders(alloc, own, parts.into_vec())?;
+        Ok(SenderTable::from_vec(rows))
+    }
+}
+
+impl SenderRow {
+    /// What is durable.
+    pub fn durable(&self, alloc: Global) -> Result<DurableSender, Memory>
+        ensures { IfOk result (λ d. durable.sender_of d ≡ sender_restarted self.now.sender) }
+    {
+        Ok(DurableSender {
+            session: self.sender().session(),
+            cursor: self.cursor().copy(alloc)?,
+        })
+    }
+}
+
+fn durable_senders(alloc: Global, rows: &[SenderRow]) -> Result<Vec<DurableSender>, Memory>
+    ensures { IfOk result (λ ds. durable.senders_of ds.items ≡ map sender_restarted (senders_of rows.now)) }
+{
+    let mut parts = Vec::new(alloc);
+    for row in rows {
+        add(&mut parts, row.durable(alloc)?)?;
+    }
+    Ok(parts)
+}
+
+/// A sender's cluster is its place; a cluster's number has 32 bits.
+fn restored_senders(
+    alloc: Global,
+    own: u32,
+    parts: Vec<DurableSender>,
+) -> Result<Vec<SenderRow>, Memory>
+    ensures { IfOk result (λ rows. senders_of rows.items ≡ durable.senders_of parts.items) }
+{
+    let mut rows = Vec::new(alloc);
+    for part in parts {
+        let Ok(remote) = u32::try_from(rows.len()) else {
+            return Err(Memory);
+        };
+        add(
+            &mut rows,
+            SenderRow::restored(alloc, own, remote, part.session, part.cursor),
+        )?;
+    }
+    Ok(rows)
+}
+
+fn add<T: Drop>(items: &mut Vec<T>, item: T) -> Result<(), Memory>
+    ensures { OnOk result (items.new.items ≡ items.old.items ++ item ∷ []) }
+{
+    items.push(item)?;
+    Ok(())
+}

@@ -1,0 +1,24 @@
+//! Durable writes of a broker.
+
+use broker_subs::{Sub, SubWrite};
+use dedup_table::Stream;
+use geo_base::Entry;
+
+/// One durable write, with all the memory that it takes. The subscription that it is of is the prepared event's.
+#[derive(Debug, Drop)]
+pub enum BookWrite {
+    /// An entry is stored; `stream` is that of its identity.
+    Append { entry: Entry, stream: Stream },
+    /// A subscription is created, at Latest or at Earliest.
+    Create { sub: Sub, latest: bool },
+    /// The subscription is no more.
+    Delete,
+    /// The subscription's cursor, kind or mark is written.
+    Sub(SubWrite),
+    /// A sender's cursor gains an index.
+    SenderAck { remote: u32, index: u64 },
+    /// A sender has a new session.
+    SessionNumber { remote: u32, session: u64 },
+    /// A ledger is opened.
+    Ledger,
+}

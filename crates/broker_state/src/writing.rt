@@ -1,0 +1,131 @@
+//! Durable writes, done. None takes memory or can fail.
+ghost use Rattle.std.specs.Prelude.{◌≡◌, ◌<◌, ◌≤◌, ◌+◌, ◌-◌, ◌^◌, ◌++◌, ◌∷◌, [], None, true, length, max, min, if◌then◌else◌};
+ghost use Rattle.dedup_table.specs.Table.{stream_of};
+ghost use Rattle.geo_base.specs.Broker.{sub_named, written};
+ghost use Rattle.geo_base.specs.Entry.{is_own_marker};
+ghost use Rattle.geo_base.specs.Topic.{accepts};
+ghost use Rattle.geo_base.specs.declared.write.Write.TheVariants as write;
+ghost use Rattle.broker_subs.specs.Steps as sub;
+ghost use Rattle.broker_subs.specs.Table.{is_new, names_of, room_at, sub_at};
+ghost use Rattle.broker_state.specs.Fits.{PlaceFits, SameShape, WriteFits, names_after};
+ghost use Rattle.broker_state.specs.Room.{AcksFit, WriteLeaves, entries_of, places_of, senders_of, streams_of};
+ghost use Rattle.broker_state.specs.Writes.{machine_write};
+
+use crate::book::Book;
+use crate::sender_row::SenderStep;
+use crate::write::BookWrite;
+use broker_subs::{Sub, SubWrite};
+use dedup_table::Stream;
+use geo_base::{Entry, EntryStore};
+
+/// The producer of a cluster's own markers.
+const MARKER_PRODUCER: &[u8] = b"pulsar.marker";
+
+impl Book {
+    /// Does one durable write of an event about the subscription at a place.
+    pub(crate) fn write(&mut self, place: usize, write: BookWrite)
+        requires place { PlaceFits place (length self.old.broker.subs) write }
+        requires fits { WriteFits self.old.broker.entries place self.old.broker write }
+        requires entries { entries_of write ≤ self.old.room.entries }
+        requires streams { streams_of write ≤ self.old.room.streams }
+        requires places { places_of write ≤ self.old.room.places }
+        requires acks { AcksFit (room_at self.old.room.subs place).acks write }
+        requires senders { senders_of write ≤ self.old.room.senders }
+        ensures broker { self.new.broker ≡ written self.old.per_ledger self.old.broker (machine_write (sub_at self.old.broker.subs place).name self.old.broker.entries write) }
+        ensures names { names_of self.new.broker.subs ≡ names_after place (names_of self.old.broker.subs) write }
+        ensures own { self.new.own ≡ self.old.own }
+        ensures per_ledger { self.new.per_ledger ≡ self.old.per_ledger }
+        ensures shape { SameShape self.old.broker self.new.broker }
+        ensures room { WriteLeaves place write self.old.room self.new.room }
+    {
+        match write {
+            BookWrite::Append { entry, stream } => self.append(entry, stream),
+            BookWrite::Create { sub, latest } => self.create(sub, latest),
+            BookWrite::Delete => self.subs.delete(place),
+            BookWrite::Sub(write) => self.write_sub(place, write),
+            BookWrite::SenderAck { remote, index } => {
+                self.senders.step(remote, SenderStep::Acknowledge(index));
+            }
+            BookWrite::SessionNumber { remote, session } => {
+                self.senders.step(remote, SenderStep::Session(session));
+            }
+            BookWrite::Ledger => {
+                self.store.open_ledger();
+            }
+        }
+    }
+
+    /// An entry is stored.
+    #[tactic(auto, using(dedup_table::proofs::Tells::tells_more, crate::proofs::Markers::marker_more))]
+    fn append(&mut self, entry: Entry, stream: Stream)
+        requires accepted { accepts self.old.broker.entries entry.ident ≡ true }
+        requires stream { stream ≡ stream_of entry.ident }
+        requires entries { 0 < self.old.room.entries }
+        requires streams { 0 < self.old.room.streams }
+        ensures broker { self.new.broker ≡ written self.old.per_ledger self.old.broker (write.Append entry) }
+        ensures own { self.new.own ≡ self.old.own }
+        ensures per_ledger { self.new.per_ledger ≡ self.old.per_ledger }
+        ensures entries { self.old.room.entries ≤ self.new.room.entries + 1 }
+        ensures streams { self.old.room.streams ≤ self.new.room.streams + 1 }
+        ensures rest { self.new.room ≡ record self.old.room { entries = self.new.room.entries; streams = self.new.room.streams } }
+    {
+        self.dedup.note(stream, entry.ident.seq);
+        self.next_marker = marker_after(self.own, self.next_marker, &entry);
+        self.store.append(entry);
+    }
+
+    /// A subscription is created, last in order.
+    #[tactic(auto, using(crate::proofs::Steps::created_is))]
+    fn create(&mut self, sub: Sub, latest: bool)
+        requires new { is_new sub }
+        requires acks { 0 < sub.acks }
+        requires absent { sub_named self.old.broker.subs sub.sub.name ≡ None }
+        requires places { 0 < self.old.room.places }
+        ensures broker { self.new.broker ≡ written self.old.per_ledger self.old.broker (write.Create sub.sub.name sub.sub.kind sub.sub.replicated latest) }
+        ensures names { names_of self.new.broker.subs ≡ names_of self.old.broker.subs ++ sub.sub.name ∷ [] }
+        ensures own { self.new.own ≡ self.old.own }
+        ensures per_ledger { self.new.per_ledger ≡ self.old.per_ledger }
+        ensures places { self.old.room.places ≤ self.new.room.places + 1 }
+        ensures room { (room_at self.new.room.subs (length self.old.broker.subs)).room ≡ sub.room }
+        ensures acks { sub.acks ≤ (room_at self.new.room.subs (length self.old.broker.subs)).acks + 1 }
+        ensures rest { self.new.room ≡ record self.old.room { places = self.new.room.places; subs = self.new.room.subs } }
+    {
+        let len = self.store.len() as u64;
+        self.subs.create(sub, latest, len);
+    }
+
+    /// The cursor, kind or mark of the subscription at a place is written.
+    #[tactic(auto, using(crate::proofs::Steps::sub_written_is))]
+    fn write_sub(&mut self, place: usize, write: SubWrite)
+        requires place { place < length self.old.broker.subs }
+        requires acks { sub.acks_needed write ≤ (room_at self.old.room.subs place).acks }
+        requires fits { sub.SubWriteFits self.old.broker.entries (sub_at self.old.broker.subs place) write }
+        ensures broker { self.new.broker ≡ written self.old.per_ledger self.old.broker (sub.machine_sub_write (sub_at self.old.broker.subs place).name self.old.broker.entries write) }
+        ensures names { names_of self.new.broker.subs ≡ names_of self.old.broker.subs }
+        ensures own { self.new.own ≡ self.old.own }
+        ensures per_ledger { self.new.per_ledger ≡ self.old.per_ledger }
+        ensures room { (room_at self.new.room.subs place).room ≡ (room_at self.old.room.subs place).room }
+        ensures acks { sub.acks_after (room_at self.old.room.subs place).acks write ≤ (room_at self.new.room.subs place).acks }
+        ensures rest { self.new.room ≡ record self.old.room { subs = self.new.room.subs } }
+    {
+        self.subs.write(place, write, &self.store);
+    }
+}
+
+/// The sequence id of the next own marker after one more entry.
+fn marker_after(own: u32, next: u64, entry: &Entry) -> u64
+    ensures { result ≡ (if is_own_marker own entry.now then max next (min (entry.now.ident.seq + 1) (2 ^ 64 - 1)) else next) }
+{
+    if is_own_marker(own, entry) {
+        next.max(entry.ident.seq.saturating_add(1))
+    } else {
+        next
+    }
+}
+
+/// Whether an entry is a marker that a cluster stored first, of whatever kind.
+fn is_own_marker(own: u32, entry: &Entry) -> bool
+    ensures { result ≡ is_own_marker own entry.now }
+{
+    entry.ident.origin == own && entry.ident.producer.as_bytes() == MARKER_PRODUCER
+}

@@ -1,0 +1,43 @@
+-- Packets of bytes, and the machine's packets that they are.
+use Rattle.std.specs.Prelude.{◌≡◌, ℕ, List, [], ◌∷◌, Option, Some, None}
+use Rattle.geo_base.specs.declared.packet.Out.{Out}
+use Rattle.geo_base.specs.declared.packet.Packet.{Packet}
+use Rattle.geo_base.specs.Client.{Client}
+use Rattle.pulsar_frames.specs.declared.frame.Frame.{Frame}
+use Rattle.pulsar_frames.specs.Frames.{IsFrameText}
+use Rattle.frame_values.specs.Coded.{IsWritten}
+use Rattle.frame_values.specs.Standing.{StandFor}
+use Rattle.client.specs.declared.packet.Outgoing.{Outgoing}
+
+-- the next packet of a link: the session that it was sent in, and the bytes of its frame
+pub record BytePacket : Type 0 where
+  pub session : ℕ
+  pub bytes : List ℕ
+
+-- The packet stands for one of the machine: it was sent in the same session, and its bytes stand for the frame.
+pub record StandsFor (names : List (List ℕ)) (b : BytePacket) (p : Packet) : Type 0 where
+  pub session : p.session ≡ b.session
+  pub frame : StandFor names b.bytes p.frame
+
+-- the same of the next packet of a link, where it has one
+abbrev pub StandsForNext : List (List ℕ) → Option BytePacket → Option Packet → Type 0
+StandsForNext names None None = Unit {0}
+StandsForNext names (Some b) (Some p) = StandsFor names b p
+StandsForNext names b p = ⊥
+
+-- It was sent on another connection than the client has now, or its bytes are a text of no frame.
+pub data IsDiscarded (k : Client) (b : BytePacket) : Type 0 where
+  of_another : (b.session ≡ k.connection → ⊥) → IsDiscarded k b
+  unread : ((f : Frame) → IsFrameText b.bytes f → ⊥) → IsDiscarded k b
+
+-- the packet of the machine, its frame as its canonical text
+pub record IsWrittenOut (names : List (List ℕ)) (o : Outgoing) (m : Out) : Type 0 where
+  pub to : o.to ≡ m.to
+  pub session : o.session ≡ m.session
+  pub frame : IsWritten names m.frame o.frame
+
+-- one by one
+abbrev pub AreWritten : List (List ℕ) → List Outgoing → List Out → Type 0
+AreWritten names [] [] = Unit {0}
+AreWritten names (o ∷ os) (m ∷ ms) = IsWrittenOut names o m × AreWritten names os ms
+AreWritten names os ms = ⊥

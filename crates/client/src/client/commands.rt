@@ -1,0 +1,165 @@
+//! The frames that a client sends for its lines.
+ghost use Rattle.std.specs.Prelude.{◌≡◌, ◌≤◌, ◌++◌, true, length, Some, IfOk, OnOk};
+ghost use Rattle.geo_base.specs.Client.{command, id_of, published, target_names};
+ghost use Rattle.geo_base.specs.Message.{is_message};
+ghost use Rattle.geo_base.specs.Scripted.{is_optional_name};
+ghost use Rattle.client.specs.Site.{is_short_line};
+ghost use Rattle.client.specs.Changing.{as_connected};
+
+use crate::client::Client;
+use crate::client::outgoing::{ClientOut, Connection, add};
+use crate::site::ClientSite;
+use geo_base::limits::CLUSTERS;
+use geo_base::{
+    Blob, ClusterName, Content, Entry, Frame, Ident, Line, Memory, Metadata, Sequence, Targets,
+    Text, optional_text_copy,
+};
+use std::alloc::Global;
+
+/// What a `pub` line says, where it stands.
+#[derive(Clone, Copy, Debug)]
+struct PubLine<'a> {
+    seq: u64,
+    to: Targets,
+    key: &'a Option<Text>,
+    text: &'a Blob,
+}
+
+impl<'a> PubLine<'a> {
+    fn new(seq: u64, to: Targets, key: &'a Option<Text>, text: &'a Blob) -> PubLine<'a>
+        ensures seq { result.seq ≡ seq }
+        ensures to { result.to ≡ to }
+        ensures key { result.key.now ≡ key.now }
+        ensures text { result.text.now ≡ text.now }
+    {
+        PubLine { seq, to, key, text }
+    }
+}
+
+impl Client {
+    /// Adds what is sent on a connection for a line that is in force or unanswered; other lines are sent once. A line's index is
+    /// its request id.
+    #[tactic(auto, using(crate::proofs::Published::key_is_name, crate::proofs::Published::text_is_short))]
+    pub(super) fn add_command(
+        &self,
+        alloc: Global,
+        site: &ClientSite,
+        connection: Connection,
+        index: usize,
+        line: &Line,
+        sent: &mut Vec<ClientOut>,
+    ) -> Result<(), Memory>
+        requires { is_short_line line.now ≡ true }
+        ensures { OnOk result (sent.new.items ≡ sent.old.items ++ command site.now.setup site.now.declared (as_connected connection self.now) index (Some line.now)) }
+    {
+        let frame = match line {
+            Line::Produce => Frame::Producer {
+                topic: Text::from_str(alloc, site.topic_name())?,
+                id: index as u64,
+                request: index as u64,
+                name: Some(Text::from_str(alloc, site.name().as_str())?),
+            },
+            Line::Pub { seq, to, key, text } => Frame::Send {
+                id: id_of(self.produce),
+                seq: *seq,
+                source: None,
+                entry: self.published(alloc, site, connection, PubLine::new(*seq, *to, key, text))?,
+            },
+            Line::Sub {
+                sub,
+                kind,
+                earliest,
+                replicated,
+            } => Frame::Subscribe {
+                topic: Text::from_str(alloc, site.topic_name())?,
+                sub: sub.copy(alloc)?,
+                kind: *kind,
+                id: index as u64,
+                request: index as u64,
+                consumer: Some(Text::from_str(alloc, site.name().as_str())?),
+                earliest: *earliest,
+                replicated: *replicated,
+            },
+            Line::Flow { permits } => Frame::Flow {
+                id: id_of(self.sub),
+                permits: *permits as u64,
+            },
+            // the others are sent once
+            _ => return Ok(()),
+        };
+        add(sent, connection.to_broker(frame))
+    }
+
+    /// The message that a `pub` line publishes on a connection.
+    fn published(
+        &self,
+        alloc: Global,
+        site: &ClientSite,
+        connection: Connection,
+        line: PubLine<'_>,
+    ) -> Result<Entry, Memory>
+        requires key { is_optional_name line.key.now ≡ true }
+        requires text { length line.text.now ≤ 1024 }
+        ensures entry { IfOk result (λ e. e ≡ published site.now.setup site.now.declared (as_connected connection self.now) line.entry.seq line.entry.to line.entry.key.now line.entry.text.now) }
+        ensures message { IfOk result (λ e. is_message e ≡ true) }
+    {
+        Ok(Entry {
+            ident: Ident {
+                origin: connection.cluster,
+                producer: site.name().copy(alloc)?,
+                seq: line.seq,
+            },
+            content: Content::Data,
+            to: line.to,
+            meta: Metadata {
+                publish_time: 0,
+                key: optional_text_copy(alloc, line.key)?,
+                names: target_names(alloc, site.clusters(), line.to)?,
+                rest: Blob::new(alloc),
+            },
+            payload: line.text.copy(alloc)?,
+        })
+    }
+}
+
+/// The id of a producer or a consumer: the index of its line in force.
+pub(super) fn id_of(line: Option<usize>) -> u64
+    ensures { result ≡ id_of line }
+{
+    match line {
+        Some(index) => index as u64,
+        None => 0,
+    }
+}
+
+/// The names of a target list's clusters, in cluster order; none where it is for all.
+fn target_names(
+    alloc: Global,
+    clusters: &[ClusterName],
+    to: Targets,
+) -> Result<Sequence<Text>, Memory>
+    requires { length clusters.now ≤ CLUSTERS }
+    ensures { IfOk result (λ names. names ≡ target_names 0 to clusters.now) }
+{
+    match to {
+        Targets::All => Ok(Sequence::new(alloc)),
+        Targets::Only(bits) => named_clusters(alloc, clusters, bits),
+    }
+}
+
+fn named_clusters(
+    alloc: Global,
+    clusters: &[ClusterName],
+    bits: u8,
+) -> Result<Sequence<Text>, Memory>
+    requires { length clusters.now ≤ CLUSTERS }
+    ensures { IfOk result (λ names. names ≡ target_names 0 (Targets.Only bits) clusters.now) }
+{
+    let mut names = Sequence::new(alloc);
+    for (number, name) in clusters.iter().enumerate() {
+        if Targets::Only(bits).contains(number as u32) {
+            names.push(Text::from_str(alloc, name.as_str())?)?;
+        }
+    }
+    Ok(names)
+}

@@ -1,0 +1,208 @@
+//! `get`: a client takes the next packet of its current cluster's link.
+ghost use Rattle.std.specs.Prelude.{Option, Some, ◌≡◌, ◌<◌, true, false, not, length, remove, IfOk, OnOk, OnErr, IfSome, IfNone};
+ghost use Rattle.std.specs.List.{list_any};
+ghost use Rattle.std.specs.Option.{option_copied};
+ghost use Rattle.geo_base.specs.Getting.{answered, get, got_frame, got_message, is_duplicate, is_number, publishes, received, with_error, with_receipt, without_seq};
+ghost use Rattle.geo_base.specs.declared.packet.Packet.{Packet};
+ghost use Rattle.client.specs.Counted.{CanCount};
+ghost use Rattle.client.specs.Packets.{IsDiscarded, StandsFor, StandsForNext};
+
+use crate::client::Client;
+use crate::packet::Incoming;
+use crate::site::ClientSite;
+use frame_values::read_value;
+use geo_base::{Entry, Frame, Held, Ident, Line, Memory, Place, Position};
+use std::alloc::Global;
+
+impl Client {
+    /// A client takes a packet, or finds none, which is idle; the answer is whether it took one. What was sent on another
+    /// connection, and bytes that can't be read, are discarded. An `Err` is want of memory, and changes nothing.
+    pub fn get(
+        &mut self,
+        alloc: Global,
+        site: &ClientSite,
+        input: Option<&Incoming>,
+    ) -> Result<bool, Memory>
+        requires { CanCount self.old }
+        // For each packet of the machine that the next packet stands for, the client is the machine's after it.
+        ensures client { (v : Option Packet) → StandsForNext site.now.setup.clusters (option_copied input.entry) v → OnOk result (self.new ≡ (get site.now.declared self.old v).client) }
+        ensures took { (v : Option Packet) → StandsForNext site.now.setup.clusters (option_copied input.entry) v → IfOk result (λ took. not took ≡ (get site.now.declared self.old v).idle) }
+        ensures discarded { IfSome (option_copied input.entry) (λ i. IsDiscarded self.old i → OnOk result (self.new ≡ self.old)) }
+        ensures err { OnErr result (self.new ≡ self.old) }
+    {
+        match input {
+            None => Ok(false),
+            Some(packet) => {
+                self.take(alloc, site, packet)?;
+                Ok(true)
+            }
+        }
+    }
+
+    /// A packet came.
+    fn take(&mut self, alloc: Global, site: &ClientSite, packet: &Incoming) -> Result<(), Memory>
+        requires { CanCount self.old }
+        ensures client { (p : Packet) → StandsFor site.now.setup.clusters packet.now p → OnOk result (self.new ≡ (get site.now.declared self.old (Some p)).client) }
+        ensures discarded { IsDiscarded self.old packet.now → OnOk result (self.new ≡ self.old) }
+        ensures err { OnErr result (self.new ≡ self.old) }
+    {
+        if packet.session() != self.connection {
+            return Ok(());
+        }
+        let frame = read_value(alloc, site.clusters(), packet.bytes())?;
+        self.get_frame(alloc, site, &frame)?;
+        Ok(())
+    }
+
+    /// A frame of the current connection came.
+    fn get_frame(&mut self, alloc: Global, site: &ClientSite, frame: &Frame) -> Result<(), Memory>
+        requires { CanCount self.old }
+        ensures ok { OnOk result (self.new ≡ got_frame site.now.declared self.old frame.now) }
+        ensures err { OnErr result (self.new ≡ self.old) }
+    {
+        match frame {
+            Frame::SendReceipt { seq, position, .. } => {
+                self.get_receipt(site, *seq, *position);
+            }
+            Frame::SendError { seq, .. } => self.get_refusal(site, *seq),
+            Frame::Error { .. } => self.errors += 1,
+            Frame::Message {
+                id,
+                position,
+                source,
+                entry,
+            } => {
+                return self.get_message(alloc, *id, *position, source, entry);
+            }
+            _ => {}
+        }
+        Ok(())
+    }
+
+    /// A message came: its origin is the cluster that it was replicated from, else the client's own.
+    fn get_message(
+        &mut self,
+        alloc: Global,
+        id: u64,
+        position: Position,
+        source: &Option<Place>,
+        entry: &Entry,
+    ) -> Result<(), Memory>
+        ensures ok { OnOk result (self.new ≡ got_message self.old id position source.now entry.now) }
+        ensures err { OnErr result (self.new ≡ self.old) }
+    {
+        let origin = match source {
+            None => self.cluster,
+            Some(Place::Known(cluster)) => *cluster,
+            Some(Place::Stranger(_)) => return Ok(()),
+        };
+        self.receive(alloc, id, position, origin, &entry.ident)
+    }
+
+    /// A message that was first stored at `origin` came for a consumer's id. It is held and got where that is the one of the `sub`
+    /// line in force.
+    fn receive(
+        &mut self,
+        alloc: Global,
+        id: u64,
+        position: Position,
+        origin: u32,
+        ident: &Ident,
+    ) -> Result<(), Memory>
+        ensures ok { OnOk result (self.new ≡ received self.old id (record { origin = origin; producer = ident.now.producer; seq = ident.now.seq }) position) }
+        ensures err { OnErr result (self.new ≡ self.old) }
+    {
+        if !is_line(self.sub, id) {
+            return Ok(());
+        }
+        let held = Ident {
+            origin,
+            producer: ident.producer.copy(alloc)?,
+            seq: ident.seq,
+        };
+        let got = held.copy(alloc)?;
+        self.got.reserve(1)?;
+        self.held.push(Held {
+            ident: held,
+            position,
+        })?;
+        self.got.push_reserved(got);
+        Ok(())
+    }
+
+    /// The receipt of a publish came: of a stored entry, or of a duplicate.
+    fn get_receipt(&mut self, site: &ClientSite, seq: u64, position: Option<Position>)
+        requires { CanCount self.old }
+        ensures { self.new ≡ answered site.now.declared self.old seq (with_receipt self.old (is_duplicate position)) }
+    {
+        let Some(at) = first_publish(site, &self.unanswered, seq) else {
+            return;
+        };
+        self.unanswered.remove(at);
+        if is_duplicate(position) {
+            self.duplicates += 1;
+        } else {
+            self.receipts += 1;
+        }
+    }
+
+    /// A publish was refused.
+    fn get_refusal(&mut self, site: &ClientSite, seq: u64)
+        requires { CanCount self.old }
+        ensures { self.new ≡ answered site.now.declared self.old seq (with_error self.old) }
+    {
+        let Some(at) = first_publish(site, &self.unanswered, seq) else {
+            return;
+        };
+        self.unanswered.remove(at);
+        self.errors += 1;
+    }
+}
+
+/// Whether an id is that of a line in force.
+fn is_line(line: Option<usize>, id: u64) -> bool
+    ensures { result ≡ is_number id line }
+{
+    match line {
+        Some(index) => index as u64 == id,
+        None => false,
+    }
+}
+
+/// Whether a receipt's position is the one of what stands nowhere.
+fn is_duplicate(position: Option<Position>) -> bool
+    ensures { result ≡ is_duplicate position }
+{
+    matches!(
+        position,
+        Some(Position {
+            ledger: u64::MAX,
+            entry: u64::MAX
+        })
+    )
+}
+
+/// The place of the first publish of a sequence id among indexes of lines.
+fn first_publish(site: &ClientSite, unanswered: &[usize], seq: u64) -> Option<usize>
+    ensures within { IfSome result (λ at. at < length unanswered.now) }
+    ensures found { IfSome result (λ at. list_any (publishes site.now.declared seq) unanswered.now ≡ true) }
+    ensures rest { IfSome result (λ at. without_seq site.now.declared unanswered.now seq ≡ remove unanswered.now at) }
+    ensures none { IfNone result (list_any (publishes site.now.declared seq) unanswered.now ≡ false) }
+{
+    for (at, index) in unanswered.iter().enumerate() {
+        if publishes(site, *index, seq) {
+            return Some(at);
+        }
+    }
+    None
+}
+
+/// Whether a client's line at an index publishes a sequence id.
+fn publishes(site: &ClientSite, index: usize, seq: u64) -> bool
+    ensures { result ≡ publishes site.now.declared seq index }
+{
+    match site.line(index) {
+        Some(line) => matches!(line, Line::Pub { seq: published, .. } if *published == seq),
+        None => false,
+    }
+}

@@ -1,0 +1,107 @@
+//! `go`: a client does its next line.
+ghost use Rattle.std.specs.Prelude.{◌≡◌, ◌<◌, ◌^◌, ◌&&◌, true, nat_lt, length, is_some, Some, IfOk};
+ghost use Rattle.geo_base.specs.Client.{command};
+ghost use Rattle.geo_base.specs.Going.{go, go_line, most_unanswered};
+ghost use Rattle.client.specs.Site.{is_short_line};
+ghost use Rattle.client.specs.Changing.{ClientFits, acted, as_connected};
+ghost use Rattle.client.specs.Counted.{CanCount};
+ghost use Rattle.client.specs.Prepared.{IsPrepared};
+
+use crate::client::Client;
+use crate::client::change::ClientChange;
+use crate::client::plan::Plan;
+use crate::client::prepared::Prepared;
+use crate::site::ClientSite;
+use geo_base::limits::UNANSWERED;
+use geo_base::{Line, Memory};
+use std::alloc::Global;
+
+impl Client {
+    /// What will be done where a client does its next line. It is idle where the client is not connected, has no line left,
+    /// publishes without a `produce` line in force or with 256 publishes without receipt, gives permits or ends its consumer
+    /// without a `sub` line in force, ends its producer without a `produce` line in force or with a publish without receipt, or
+    /// acknowledges what it does not hold. Nothing changes; an `Err` is want of memory.
+    #[tactic(auto, using(crate::proofs::Preparing::prepared_is, crate::proofs::Preparing::prepared_fits))]
+    pub fn prepare_go(&self, alloc: Global, site: &ClientSite) -> Result<Prepared, Memory>
+        requires { CanCount self.now }
+        ensures prepared { IfOk result (λ p. IsPrepared site.now.setup.clusters self.now p (go site.now.setup site.now.declared self.now)) }
+        ensures fits { IfOk result (λ p. ClientFits p.change self.now) }
+    {
+        let plan = self.plan_go(alloc, site)?;
+        let prepared = Prepared::write(alloc, site.clusters(), plan)?;
+        Ok(prepared)
+    }
+
+    /// What the client's next line does.
+    #[tactic(auto, unfolding(geo_base::specs::Going::go))]
+    fn plan_go(&self, alloc: Global, site: &ClientSite) -> Result<Plan, Memory>
+        requires { CanCount self.now }
+        ensures acted { IfOk result (λ p. acted p self.now ≡ go site.now.setup site.now.declared self.now) }
+        ensures fits { IfOk result (λ p. ClientFits p.change self.now) }
+    {
+        if !self.is_connected {
+            return Ok(Plan::idle(alloc));
+        }
+        match site.line(self.done) {
+            Some(line) => self.goes(alloc, site, line),
+            None => Ok(Plan::idle(alloc)),
+        }
+    }
+
+    /// What a line does.
+    fn goes(&self, alloc: Global, site: &ClientSite, line: &Line) -> Result<Plan, Memory>
+        requires short { is_short_line line.now ≡ true }
+        requires more { self.now.done < 2 ^ 63 }
+        requires count { CanCount self.now }
+        ensures acted { IfOk result (λ p. acted p self.now ≡ go_line site.now.setup site.now.declared self.now (Some line.now)) }
+        ensures fits { IfOk result (λ p. ClientFits p.change self.now) }
+    {
+        match line {
+            Line::Produce => self.sends(alloc, site, ClientChange::Produces, line),
+            Line::Pub { .. } => {
+                if !self.can_publish() {
+                    return Ok(Plan::idle(alloc));
+                }
+                self.sends(alloc, site, ClientChange::Publishes, line)
+            }
+            Line::Sub { .. } => self.sends(alloc, site, ClientChange::Subscribes, line),
+            Line::Flow { .. } => {
+                if self.sub.is_none() {
+                    return Ok(Plan::idle(alloc));
+                }
+                self.sends(alloc, site, ClientChange::Permits, line)
+            }
+            Line::Ack { ident } => self.acknowledges(alloc, ident),
+            Line::AckTo { ident } => self.acknowledges_to(alloc, ident),
+            Line::AckAll => self.acknowledges_all(alloc),
+            Line::Unsub => self.unsubscribes(alloc),
+            Line::Close => self.closes_consumer(alloc),
+            Line::CloseProducer => self.closes_producer(alloc),
+            Line::Ping => self.pings(alloc),
+            Line::Move { cluster } => self.moves(alloc, site, *cluster),
+        }
+    }
+
+    /// Whether a `produce` line is in force, and one more publish may wait for its receipt.
+    fn can_publish(&self) -> bool
+        ensures { result ≡ (is_some self.now.produce && nat_lt (length self.now.unanswered) most_unanswered) }
+    {
+        self.produce.is_some() && self.unanswered.len() < UNANSWERED
+    }
+
+    /// The next line makes a change, and its command is sent.
+    fn sends(
+        &self,
+        alloc: Global,
+        site: &ClientSite,
+        change: ClientChange,
+        line: &Line,
+    ) -> Result<Plan, Memory>
+        requires { is_short_line line.now ≡ true }
+        ensures { IfOk result (λ p. p ≡ record { change = Some change; sent = command site.now.setup site.now.declared (as_connected (record { cluster = self.now.cluster; number = self.now.connection }) self.now) self.now.done (Some line.now) }) }
+    {
+        let mut sent = Vec::new(alloc);
+        self.add_command(alloc, site, self.connection(), self.done, line, &mut sent)?;
+        Ok(Plan::new(change, sent))
+    }
+}

@@ -1,0 +1,64 @@
+//! What an event will do at a client, its packets as bytes.
+ghost use Rattle.std.specs.Prelude.{◌≡◌, [], not, is_some, IfOk};
+ghost use Rattle.client.specs.Packets.{AreWritten};
+
+use crate::client::change::ClientChange;
+use crate::client::outgoing::write_all;
+use crate::client::plan::Plan;
+use crate::packet::Outgoing;
+use geo_base::{ClusterName, Memory};
+use std::alloc::Global;
+use std::marker::Model;
+
+/// What the client changes, nothing where the event is idle, and the packets that it sends, in order.
+#[derive(Debug, Drop)]
+pub struct Prepared {
+    change: Option<ClientChange>,
+    sent: Vec<Outgoing>,
+}
+
+impl Model for Prepared {
+    ghost use Rattle.client.specs.Prepared.{PreparedClient};
+
+    ghost Value = { PreparedClient };
+
+    ghost view = { λ p. record { change = p.change; sent = p.sent.items } };
+}
+
+impl Prepared {
+    /// A plan whose packets are written; `names` are those of the clusters.
+    pub(super) fn write(
+        alloc: Global,
+        names: &[ClusterName],
+        plan: Plan,
+    ) -> Result<Prepared, Memory>
+        ensures change { IfOk result (λ p. p.change ≡ plan.change) }
+        ensures sent { IfOk result (λ p. AreWritten names.now p.sent plan.sent) }
+    {
+        let Plan { change, sent } = plan;
+        let sent = write_all(alloc, names, sent.as_slice())?;
+        Ok(Prepared { change, sent })
+    }
+
+    /// Whether the event is not enabled.
+    pub fn is_idle(&self) -> bool
+        ensures { result ≡ not (is_some self.now.change) }
+    {
+        self.change.is_none()
+    }
+
+    /// What is sent, which is taken out.
+    pub fn take_sent(&mut self, alloc: Global) -> Vec<Outgoing>
+        ensures sent { result.items ≡ self.old.sent }
+        ensures rest { self.new ≡ record self.old { sent = [] } }
+    {
+        std::mem::replace(&mut self.sent, Vec::new(alloc))
+    }
+
+    /// What the client changes.
+    pub(super) fn into_change(self) -> Option<ClientChange>
+        ensures { result ≡ self.change }
+    {
+        self.change
+    }
+}

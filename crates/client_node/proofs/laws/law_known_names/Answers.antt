@@ -1,8 +1,0 @@
-use Rattle.client_node.proofs.KnownNames.{goes_known, reconnects_known}
-use Rattle.client_node.proofs.laws.law_known_names.Goals as goal
-
-pub returns-clause-goes : goal.returns-clause-goes
-returns-clause-goes c = goes_known
-
-pub returns-clause-reconnects : goal.returns-clause-reconnects
-returns-clause-reconnects c = reconnects_known

@@ -1,0 +1,9 @@
+pub mod Contents
+pub mod Writing
+pub mod One
+pub mod Sized
+pub mod Entries
+pub mod Counting
+pub mod Fitting
+pub mod Known
+pub mod Bare

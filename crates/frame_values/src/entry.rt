@@ -1,0 +1,99 @@
+//! Entries of the machine, and the messages that carry them in a frame.
+ghost use Rattle.std.specs.Prelude.{◌≡◌, ◌≤◌, List, length, IfOk, OnOk};
+ghost use Rattle.std.specs.Option.{option_copied, option_map};
+ghost use Rattle.geo_base.specs.Sizes.{place_name};
+ghost use Rattle.pb_fields.specs.Canonical.{text};
+ghost use Rattle.pb_fields.specs.declared.field.Field.{Field};
+ghost use Rattle.frame_values.specs.Texts.{marker_number, metadata_of};
+ghost use Rattle.frame_values.specs.Values.{IsContent, IsEntryOf};
+ghost use Rattle.std.specs.List.{AllByRecursion};
+ghost use Rattle.pb_fields.specs.Field.{IsField};
+ghost use Rattle.message_meta.specs.Known.{IsRest, joined};
+
+use crate::content::{content_of, marker_number};
+use crate::place::{name_of, optional_place, targets_of};
+use geo_base::limits::CLUSTERS;
+use geo_base::{
+    Blob, ClusterName, Content, Entry, Ident, Memory, Metadata, Place, ProducerName, Sequence, Text,
+};
+use message_meta::KnownMeta;
+use pb_fields::{ByteList, FieldList, write_fields};
+use pulsar_frames::Body;
+use std::alloc::Global;
+
+/// The entry that a message in a frame is, and where it says that it was stored first.
+pub(crate) struct Carried {
+    pub source: Option<Place>,
+    pub entry: Entry,
+}
+
+/// Reads a message.
+pub(crate) fn entry_of(alloc: Global, names: &[ClusterName], body: Body) -> Result<Carried, Memory>
+    requires { length names.now ≤ CLUSTERS }
+    ensures is { IfOk result (λ c. IsEntryOf names.now body c.source c.entry) }
+    ensures rest { IfOk result (λ c. IsRest c.entry.meta.rest) }
+{
+    let Body { meta, payload } = body;
+    let rest = fields_text(alloc, &meta.rest)?;
+    let producer = ProducerName::from_text(meta.producer);
+    let to = targets_of(names, meta.replicate_to.as_slice());
+    let (content, payload) = content_of(alloc, names, meta.marker, payload)?;
+    Ok(Carried {
+        source: optional_place(names, meta.replicated_from),
+        entry: Entry {
+            ident: Ident {
+                origin: 0,
+                producer,
+                seq: meta.seq,
+            },
+            content,
+            to,
+            meta: Metadata {
+                publish_time: meta.publish_time,
+                key: meta.key,
+                names: meta.replicate_to,
+                rest,
+            },
+            payload,
+        },
+    })
+}
+
+/// The bytes of fields that nobody reads. An `Err` is want of memory.
+pub fn fields_text(alloc: Global, fields: &FieldList) -> Result<Blob, Memory>
+    ensures text { IfOk result (λ b. b ≡ text fields.now) }
+    ensures fields { OnOk result (AllByRecursion IsField fields.now) }
+{
+    let mut bytes = ByteList::new(alloc);
+    write_fields(&mut bytes, fields)?;
+    Ok(Blob::from_vec(bytes.into_vec()))
+}
+
+/// The metadata of an entry, each part where it stands.
+pub fn known_of<'a>(
+    names: &'a [ClusterName],
+    source: &'a Option<Place>,
+    entry: &'a Entry,
+) -> KnownMeta<'a>
+    ensures { (rest : List Field) → joined result rest ≡ metadata_of names.entry.now source.entry.now entry.entry.now rest }
+{
+    KnownMeta {
+        producer: entry.ident.producer.as_str(),
+        seq: entry.ident.seq,
+        publish_time: entry.meta.publish_time,
+        replicated_from: source_name(names, source),
+        key: &entry.meta.key,
+        replicate_to: &entry.meta.names,
+        marker: marker_number(&entry.content),
+    }
+}
+
+/// The name of the cluster that a message was replicated from, where it was.
+fn source_name<'a>(names: &'a [ClusterName], source: &'a Option<Place>) -> Option<&'a str>
+    ensures { option_copied result ≡ option_map (place_name names.entry.now) source.entry.now }
+{
+    match source {
+        None => None,
+        Some(place) => Some(name_of(names, place)),
+    }
+}

@@ -1,0 +1,197 @@
+//! Writing a value as its canonical text.
+ghost use Rattle.std.specs.Prelude.{◌≡◌, ◌-◌, true, false, IfOk, IfErr};
+ghost use Rattle.geo_base.specs.declared.frame.Frame.TheVariants as frame;
+ghost use Rattle.geo_base.specs.FrameSizes.{frame_size};
+ghost use Rattle.message_meta.specs.Known.{IsRest};
+ghost use Rattle.pulsar_commands.specs.Parts.{kind_of};
+ghost use Rattle.pulsar_frames.specs.Canonical.{IsTooLarge};
+ghost use Rattle.pulsar_frames.specs.Frames.{carries};
+ghost use Rattle.frame_values.specs.Coded.{IsCarriedFault, IsCarriedText, IsWritable, IsWritten, carries_entry};
+ghost use Rattle.frame_values.specs.Texts.{is_readable, unread_bytes};
+
+use crate::command::command_of;
+use crate::content::canonical_payload;
+use crate::entry::known_of;
+use geo_base::{Blob, ClusterName, Entry, Frame, Memory, Place, Position};
+use pulsar_commands::Command;
+use pulsar_frames::{Frame as WireFrame, FrameFault, write_carrying, write_frame};
+use std::alloc::Global;
+
+/// The canonical text of the frame that a value is written as; `names` are those of the clusters, by their numbers. Where
+/// the machine says nothing, CONNECT names the client `geo-client`, CONNECTED the server `geo-broker`, the text of an error
+/// is `error`, and a SEND is one message (own). `Memory` where there is no room for it.
+#[tactic(auto, using(crate::proofs::Writing::not_large))]
+pub fn write_value(alloc: Global, names: &[ClusterName], frame: &Frame) -> Result<Blob, Memory>
+    requires { IsWritable names.now frame.now }
+    ensures { IfOk result (IsWritten names.now frame.now) }
+{
+    match try_write_value(alloc, names, frame) {
+        Ok(bytes) => Ok(bytes),
+        Err(why) => match why {
+            FrameFault::Memory => Err(Memory),
+            _ => unreachable!(),
+        },
+    }
+}
+
+/// Whether a value has a text: bytes that can't be read are written by nobody.
+#[tactic(auto, using(crate::proofs::Entries::unreadable_is))]
+pub fn is_readable(value: &Frame) -> bool
+    ensures readable { result ≡ is_readable value.now }
+    ensures unreadable { result ≡ false → value.now ≡ frame.Unreadable }
+{
+    !matches!(value, Frame::Unreadable)
+}
+
+/// The same of a value whose size nobody judged: `TooLarge` where its text passes the limit on frames, and `Memory` are
+/// all that can be wrong.
+pub fn try_write_value(
+    alloc: Global,
+    names: &[ClusterName],
+    frame: &Frame,
+) -> Result<Blob, FrameFault>
+    requires readable { is_readable frame.now ≡ true }
+    requires rest { IsRest (unread_bytes frame.now) }
+    ensures written { IfOk result (IsWritten names.now frame.now) }
+    // The size that the machine computes, without its own four bytes, is all that can be too large.
+    ensures fault { IfErr result (IsTooLarge (frame_size names.now frame.now - 4)) }
+{
+    match frame {
+        Frame::Send {
+            id,
+            seq,
+            source,
+            entry,
+        } => send_text(alloc, names, *id, *seq, source, entry),
+        Frame::Message {
+            id,
+            position,
+            source,
+            entry,
+        } => message_text(alloc, names, *id, *position, source, entry),
+        _ => simple_text(alloc, names, frame),
+    }
+}
+
+/// The canonical text of a SEND of an entry, which is written from where it is stored, without a copy of it.
+#[tactic(auto, using(crate::proofs::Writing::not_large))]
+pub fn write_send(
+    alloc: Global,
+    names: &[ClusterName],
+    id: u64,
+    seq: u64,
+    source: &Option<Place>,
+    entry: &Entry,
+) -> Result<Blob, Memory>
+    requires { IsWritable names.now (frame.Send id seq source.now entry.now) }
+    ensures { IfOk result (IsWritten names.now (frame.Send id seq source.now entry.now)) }
+{
+    match send_text(alloc, names, id, seq, source, entry) {
+        Ok(bytes) => Ok(bytes),
+        Err(why) => match why {
+            FrameFault::Memory => Err(Memory),
+            _ => unreachable!(),
+        },
+    }
+}
+
+/// The canonical text of a MESSAGE of an entry, which is written from where it is stored, without a copy of it.
+#[tactic(auto, using(crate::proofs::Writing::not_large))]
+pub fn write_message(
+    alloc: Global,
+    names: &[ClusterName],
+    id: u64,
+    position: Position,
+    source: &Option<Place>,
+    entry: &Entry,
+) -> Result<Blob, Memory>
+    requires { IsWritable names.now (frame.Message id position source.now entry.now) }
+    ensures { IfOk result (IsWritten names.now (frame.Message id position source.now entry.now)) }
+{
+    match message_text(alloc, names, id, position, source, entry) {
+        Ok(bytes) => Ok(bytes),
+        Err(why) => match why {
+            FrameFault::Memory => Err(Memory),
+            _ => unreachable!(),
+        },
+    }
+}
+
+#[tactic(auto, using(crate::proofs::Writing::send_written, crate::proofs::Writing::send_fault))]
+fn send_text(
+    alloc: Global,
+    names: &[ClusterName],
+    id: u64,
+    seq: u64,
+    source: &Option<Place>,
+    entry: &Entry,
+) -> Result<Blob, FrameFault>
+    requires { IsRest entry.now.meta.rest }
+    ensures written { IfOk result (IsWritten names.now (frame.Send id seq source.now entry.now)) }
+    ensures fault { IfErr result (IsTooLarge (frame_size names.now (frame.Send id seq source.now entry.now) - 4)) }
+{
+    let command = Command::Send {
+        producer_id: id,
+        sequence_id: seq,
+        num_messages: 1,
+    };
+    carried_text(alloc, names, &command, source, entry)
+}
+
+#[tactic(auto, using(crate::proofs::Writing::message_written, crate::proofs::Writing::message_fault))]
+fn message_text(
+    alloc: Global,
+    names: &[ClusterName],
+    id: u64,
+    position: Position,
+    source: &Option<Place>,
+    entry: &Entry,
+) -> Result<Blob, FrameFault>
+    requires { IsRest entry.now.meta.rest }
+    ensures written { IfOk result (IsWritten names.now (frame.Message id position source.now entry.now)) }
+    ensures fault { IfErr result (IsTooLarge (frame_size names.now (frame.Message id position source.now entry.now) - 4)) }
+{
+    let command = Command::Message {
+        consumer_id: id,
+        message_id: position,
+    };
+    carried_text(alloc, names, &command, source, entry)
+}
+
+/// The text of a frame of a command that carries an entry.
+#[tactic(auto, using(crate::proofs::Writing::carried_is, crate::proofs::Writing::carried_fault))]
+fn carried_text(
+    alloc: Global,
+    names: &[ClusterName],
+    command: &Command,
+    source: &Option<Place>,
+    entry: &Entry,
+) -> Result<Blob, FrameFault>
+    requires carries { carries (kind_of command.now) ≡ true }
+    requires rest { IsRest entry.now.meta.rest }
+    ensures text { IfOk result (IsCarriedText names.now command.now source.now entry.now) }
+    ensures fault { IfErr result (IsCarriedFault names.now command.now source.now entry.now) }
+{
+    let known = known_of(names, source, entry);
+    let rest = entry.meta.rest.as_slice();
+    match canonical_payload(alloc, names, &entry.content, &entry.payload)? {
+        None => write_carrying(alloc, command, known, rest, entry.payload.as_slice()),
+        Some(text) => write_carrying(alloc, command, known, rest, text.as_slice()),
+    }
+}
+
+/// The text of a frame that carries no message.
+#[tactic(auto, using(crate::proofs::Writing::simple_complete, crate::proofs::Writing::simple_written, crate::proofs::Writing::simple_fault))]
+fn simple_text(alloc: Global, names: &[ClusterName], frame: &Frame) -> Result<Blob, FrameFault>
+    requires simple { carries_entry frame.now ≡ false }
+    requires readable { is_readable frame.now ≡ true }
+    ensures written { IfOk result (IsWritten names.now frame.now) }
+    ensures fault { IfErr result (IsTooLarge (frame_size names.now frame.now - 4)) }
+{
+    let command = command_of(alloc, frame)?;
+    let whole = WireFrame {
+        command,
+        body: None,
+    };
+    write_frame(alloc, &whole)
+}

@@ -1,5 +1,0 @@
-use Rattle.std.proofs.Common.{length}
-use Rattle.geo_world.proofs.stops.+restart_all.Given as goal
-
-abbrev pub decreases-restart_all : goal.decreases-restart_all
-decreases-restart_all l = length l.nodes.now

@@ -1,0 +1,82 @@
+//! A broker that takes packets of one link.
+ghost use Rattle.std.specs.Prelude.{◌≡◌, IfOk};
+ghost use Rattle.hostile_inputs.specs.Setting.{setting};
+
+use anyhow::{Result, bail};
+use broker::{LinkPacket, TopicNode};
+use broker_plans::Site;
+use broker_state::Outgoing;
+use geo_base::{ClusterName, EntryStore, Event, Fate, Stamp, TopicName};
+use std::alloc::Global;
+
+/// Cluster b takes the next packet of the link from cluster a.
+const TAKE: Event = Event::Take {
+    topic: 0,
+    source: 0,
+    target: 1,
+    fate: Fate::Good,
+};
+
+/// Entries of a ledger: the table stores three at most.
+const PER_LEDGER: u64 = 8;
+
+/// How many durable writes of an event a stop lets through.
+const WRITES: u32 = 1;
+
+/// What the broker of topic t at cluster b knows, one of a, b and c.
+fn site(alloc: Global) -> Result<Site>
+    ensures { IfOk result (λ s. s ≡ setting) }
+{
+    let mut clusters = Vec::new(alloc);
+    clusters.push(ClusterName::read(alloc, "a")?)?;
+    clusters.push(ClusterName::read(alloc, "b")?)?;
+    clusters.push(ClusterName::read(alloc, "c")?)?;
+    Ok(Site::new(1, clusters, TopicName::read(alloc, "t")?, PER_LEDGER))
+}
+
+/// The broker before anything has happened.
+pub fn node(alloc: Global) -> Result<TopicNode>
+    ensures { IfOk result (λ v. v.site ≡ setting) }
+{
+    let site = site(alloc)?;
+    Ok(TopicNode::new(alloc, 0, site, Vec::new(alloc), 0)?)
+}
+
+/// The packets that answer a packet of a session.
+pub fn take(
+    alloc: Global,
+    node: &mut TopicNode,
+    session: u64,
+    frame: &[u8],
+) -> Result<Vec<Outgoing>>
+    ensures { node.new.site ≡ node.old.site }
+{
+    if !node.accepts(&TAKE) {
+        bail!("the broker does not accept the event");
+    }
+    let packet = LinkPacket::new(session, Stamp::new(1), frame);
+    let acted = node.act(alloc, &TAKE, Some(&packet))?;
+    Ok(acted.sent)
+}
+
+/// The broker stops behind the first durable write of a packet of a session.
+pub fn stop(alloc: Global, node: &mut TopicNode, session: u64, frame: &[u8]) -> Result<()>
+    ensures { node.new.site ≡ node.old.site }
+{
+    if !node.accepts(&TAKE) {
+        bail!("the broker does not accept the event");
+    }
+    let packet = LinkPacket::new(session, Stamp::new(1), frame);
+    node.halt(alloc, WRITES, &TAKE, Some(&packet))?;
+    Ok(())
+}
+
+/// How many entries the broker has after it was saved and loaded.
+pub fn kept(alloc: Global, node: &TopicNode) -> Result<usize>
+    requires { node.now.site ≡ setting }
+{
+    let durable = node.durable(alloc)?;
+    let site = site(alloc)?;
+    let loaded = TopicNode::from_durable(alloc, 0, site, Vec::new(alloc), durable, 0)?;
+    Ok(loaded.store().len())
+}

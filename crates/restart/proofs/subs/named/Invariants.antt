@@ -1,7 +1,0 @@
-use Rattle.std.proofs.Common.{◌≡◌, drop}
-use Rattle.geo_base.specs.Broker.{sub_named}
-use Rattle.restart.specs.Parts.{subs_of}
-use Rattle.restart.proofs.subs.named.Given as goal
-
-abbrev pub invariant-loop-sub : goal.invariant-loop-sub
-invariant-loop-sub l = sub_named (subs_of l.subs) l.name ≡ sub_named (subs_of (drop l.sub-index l.subs)) l.name

@@ -1,0 +1,11 @@
+use Rattle.state_brokers.proofs.Rows.{senders_step}
+use Rattle.state_brokers.proofs.Tails.{sender_below}
+use Rattle.state_brokers.proofs.writing.put_senders.Goals as goal
+
+pub put_place-requires : goal.put_place-requires
+put_place-requires c =
+    rw c.index-senders-cluster.is (sender_below c.args.entries c.args.senders.now c.loop-cluster.cluster _ c.requires c.loop-cluster-test.true)
+
+pub loop-cluster-preserved : goal.loop-cluster-preserved
+loop-cluster-preserved c =
+    senders_step c.args.entries c.args.own c.args.senders.now c.loop-cluster.cluster _ c.loop-cluster.out c.put_place.new.out _ c.loop-cluster-test.true c.loop-cluster.invariant (rw c.index-senders-cluster.is at c.in_ok-put_place.ensures)

@@ -1,0 +1,61 @@
+//! An entry as its metadata's text and its payload.
+ghost use Rattle.std.specs.Prelude.{◌≡◌, ◌++◌, IfOk, OnOk};
+ghost use Rattle.message_meta.specs.Known.{IsRest};
+ghost use Rattle.state_entries.specs.Texts.{AreShort, HasMetadata, HasTexts, entry_text, metadata_text, source_of};
+
+use frame_values::{canonical_payload, known_of};
+use geo_base::{Blob, ClusterName, Entry, Memory, Place};
+use pb_fields::ByteList;
+use state_items::put_text;
+use std::alloc::Global;
+
+/// Appends an entry of the topic of a cluster: the text of its metadata, and its payload. A text of 2^32 bytes, whose length has no
+/// four bytes, counts as want of memory.
+#[tactic(auto, using(crate::proofs::Written::texts_are, crate::proofs::Written::both_short))]
+pub fn put_entry(
+    alloc: Global,
+    out: &mut Blob,
+    names: &[ClusterName],
+    own: u32,
+    entry: &Entry,
+) -> Result<(), Memory>
+    requires { IsRest entry.now.meta.rest }
+    ensures text { OnOk result (out.new ≡ out.old ++ entry_text names.now own entry.now) }
+    ensures right { OnOk result (HasTexts names.now own entry.now) }
+    ensures short { OnOk result (AreShort names.now own entry.now) }
+{
+    let metadata = metadata_text(alloc, names, own, entry)?;
+    put_text(out, metadata.as_slice())?;
+    match canonical_payload(alloc, names, &entry.content, &entry.payload)? {
+        None => put_text(out, entry.payload.as_slice()),
+        Some(text) => put_text(out, text.as_slice()),
+    }
+}
+
+/// The text of an entry's metadata.
+fn metadata_text(
+    alloc: Global,
+    names: &[ClusterName],
+    own: u32,
+    entry: &Entry,
+) -> Result<ByteList, Memory>
+    requires { IsRest entry.now.meta.rest }
+    ensures text { IfOk result (λ b. b ≡ metadata_text names.now own entry.now) }
+    ensures right { OnOk result (HasMetadata names.now own entry.now) }
+{
+    let source = source_of(own, entry.ident.origin);
+    let known = known_of(names, &source, entry);
+    let bytes = known.write_with(alloc, entry.meta.rest.as_slice())?;
+    Ok(bytes)
+}
+
+/// The cluster that an entry was replicated from, where it was.
+fn source_of(own: u32, origin: u32) -> Option<Place>
+    ensures { result ≡ source_of own origin }
+{
+    if origin == own {
+        None
+    } else {
+        Some(Place::Known(origin))
+    }
+}

@@ -1,8 +1,0 @@
-use Rattle.topic_node.specs.Events.{plan_at_node}
-use Rattle.topic_node.proofs.Acts.{halt_done}
-use Rattle.topic_node.proofs.node.TopicNode.halt.Goals as goal
-
-pub returns-clause-halted : goal.returns-clause-halted
-returns-clause-halted c v stands =
-    halt_done c.args.self.now c.prepare.new.self c.prepare_stop.new.self c.commit.new.self c.args.writes (plan_at_node c.args.self.now c.args.event.now v) c.in_ok-prepared.prepared c.in_ok-stop.stop
-    (c.in_ok-prepared.ensures.prepared v stands) c.prepare.ensures.broker c.prepare.ensures.node.site c.prepare_stop.ensures.broker c.prepare_stop.ensures.node.site c.in_ok-stop.ensures.halted c.commit.ensures.broker

@@ -1,5 +1,0 @@
-use Rattle.topic_node.proofs.ReadFrames.{reads_frame}
-use Rattle.topic_node.proofs.reading.read_packet.Goals as goal
-
-pub returns-clause-read : goal.returns-clause-read
-returns-clause-read c = reads_frame c.clusters.result.now c.frame.result.now c.in_ok-frame.frame c.in_ok-frame.ensures.value c.in_ok-frame.ensures.rest

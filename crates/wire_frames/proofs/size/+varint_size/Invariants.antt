@@ -1,4 +1,0 @@
-use Rattle.wire_frames.proofs.size.+varint_size.Given as goal
-
-abbrev pub decreases-varint_size : goal.decreases-varint_size
-decreases-varint_size l = l.n

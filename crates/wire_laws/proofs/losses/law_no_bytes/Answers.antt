@@ -1,5 +1,0 @@
-use Rattle.wire_laws.proofs.Unread.{no_bytes}
-use Rattle.wire_laws.proofs.losses.law_no_bytes.Goals as goal
-
-pub returns : goal.returns
-returns c = no_bytes

@@ -1,5 +1,0 @@
-use Rattle.wire_laws.proofs.Plain.{told}
-use Rattle.wire_laws.proofs.telling.plain_told.Goals as goal
-
-pub returns : goal.returns
-returns c = told

@@ -1,8 +1,0 @@
-use Rattle.wire_links.proofs.Simulated.{packet_stands, stamp_is}
-use Rattle.wire_links.proofs.laws.law_next.Goals as goal
-
-pub returns-clause-packet : goal.returns-clause-packet
-returns-clause-packet c = packet_stands
-
-pub returns-clause-stamp : goal.returns-clause-stamp
-returns-clause-stamp c = stamp_is

@@ -1,5 +1,0 @@
-use Rattle.wire_links.proofs.Simulated.{opening_stands}
-use Rattle.wire_links.proofs.laws.law_opening.Goals as goal
-
-pub returns : goal.returns
-returns c = opening_stands

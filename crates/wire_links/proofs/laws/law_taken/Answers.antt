@@ -1,5 +1,0 @@
-use Rattle.wire_links.proofs.Simulated.{taken_stands}
-use Rattle.wire_links.proofs.laws.law_taken.Goals as goal
-
-pub returns : goal.returns
-returns c = taken_stands

@@ -1,7 +1,0 @@
-use Rattle.std.proofs.Common.{◌≡◌, []}
-use Rattle.wire_links.specs.Queues.{Queue}
-use Rattle.wire_links.proofs.Mapped.{mapped_to}
-use Rattle.wire_links.proofs.table.discard_links.Given as goal
-
-abbrev pub invariant-loop-link : goal.invariant-loop-link
-invariant-loop-link l = l.link-items ≡ mapped_to (λ (q : Queue). []) l.link-index l.fn.links

@@ -1,0 +1,131 @@
+-- A stop in the midst of an event's writes leads to the machine's world after it.
+use Rattle.std.proofs.Common.{◌≡◌, ℕ, ◌+◌, List, refl, sym, ◌∙◌, ap, subst}
+use Rattle.std.proofs.lemmas.List.{map-set}
+use Rattle.std.specs.Prelude.{Option, Some, None, Result, Ok, Err, OnErr, OnOk, slice_index_or, slice_set}
+use Rattle.geo_base.specs.declared.event.Event.{Event}
+use Rattle.geo_base.specs.declared.memory.Memory.{Memory}
+use Rattle.geo_base.specs.declared.packet.Packet.{Packet}
+use Rattle.geo_base.specs.Broker.{Broker, Site, no_broker}
+use Rattle.geo_base.specs.Happening.{halts_planned}
+use Rattle.geo_base.specs.Plan.{Plan, halted}
+use Rattle.geo_base.specs.Planned.{planned}
+use Rattle.geo_base.specs.Setup.{Setup}
+use Rattle.geo_base.specs.World.{World}
+use Rattle.script_text.specs.Scenario.{IsEvent}
+use Rattle.broker.specs.Input.{StandsForInput}
+use Rattle.broker.specs.Node.{NodeBook, SameNode}
+use Rattle.frame_laws.specs.BytePackets.{BytePacket}
+use Rattle.links.specs.declared.name.LinkName.{LinkName}
+use Rattle.wire_ends.specs.declared.packet.WirePacket.{WirePacket}
+use Rattle.links.specs.Queues.{packet_on, taken_from}
+use Rattle.world_kept.proofs.Keeping.{broker_halted, counts}
+use Rattle.world_kept.specs.Events.{IsBrokers, node_of, plan_in, taken_in, takes_of}
+use Rattle.world_kept.specs.Kept.{Kept, broker_stopped}
+use Rattle.world_kept.specs.Standing.{Stands, limit_of}
+use Rattle.world_kept.specs.Reached.{Reached}
+use Rattle.world.specs.declared.fault.RunFault.{RunFault}
+use Rattle.world.specs.declared.fault.RunFault.TheVariants as fault
+use Rattle.world.specs.declared.place.Place.{Place}
+use Rattle.world.specs.Steps.{IsHalted, IsStopped, Leads, halted_at, place_at}
+use Rattle.world.specs.World.{AreNodes, IsAt, SameWorld, WorldBook, brokers_of, kept_of, node_at}
+use Rattle.world.proofs.Leading.{failed, plan_is, takes_stands}
+use Rattle.world.proofs.Nodes.{are_set, next_is, same_world, sent_of}
+use Rattle.world.proofs.Places.{broker_is, in_range_is, node_below, node_is}
+
+abbrev pub IsErr : Result (Unit {0}) RunFault → Type 0
+IsErr (Ok unit) = ⊥
+IsErr (Err f) = Unit {0}
+
+pub ok_err : (unit : Unit {0}) (f : RunFault) → Ok unit ≡ Err f → ⊥
+ok_err unit f is = subst (λ (r : Result (Unit {0}) RunFault). IsErr r) (sym is) tt
+
+-- ---- at the broker
+
+halts : (old new : WorldBook) (n : ℕ) (takes : Option LinkName) (e : Event) (k : ℕ) (u : NodeBook) (r : Result (Unit {0}) Memory) (i : Option BytePacket)
+    → i ≡ sent_of (packet_on old.links takes) → SameNode (node_at old.nodes n) u → new ≡ record old { nodes = slice_set old.nodes n u }
+    → ((v : Option Packet) → StandsForInput (node_at old.nodes n).site.clusters i v → OnOk r (u.broker ≡ halted_at (node_at old.nodes n) e k v))
+    → OnOk r (IsHalted n takes e k old new)
+halts old new n takes e k u (Err m) i taken same is f = tt
+halts old new n takes e k u (Ok unit) i taken same is f =
+    let names = (node_at old.nodes n).site.clusters in
+    rw is (record {
+      broker = λ v both.
+          map-set (λ (c : NodeBook). c.broker) old.nodes n u
+          ∙ ap (λ (c : Broker). slice_set (brokers_of old.nodes) n c)
+          (f v (subst (λ (j : Option BytePacket). StandsForInput names j v) (sym taken) (next_is names (packet_on old.links takes) v both)));
+      same = λ s h. are_set s old.nodes n u same h;
+      rest = refl;
+    })
+
+pub halted_none : (old new : WorldBook) (n : ℕ) (takes : Option LinkName) (e : Event) (k : ℕ) (u : NodeBook) (r : Result (Unit {0}) Memory)
+    → packet_on old.links takes ≡ None → SameNode (node_at old.nodes n) u → new ≡ record old { nodes = slice_set old.nodes n u }
+    → ((v : Option Packet) → StandsForInput (node_at old.nodes n).site.clusters None v → OnOk r (u.broker ≡ halted_at (node_at old.nodes n) e k v))
+    → OnOk r (IsHalted n takes e k old new)
+halted_none old new n takes e k u r taken same is f = halts old new n takes e k u r None (ap sent_of (sym taken)) same is f
+
+pub halted_some : (old new : WorldBook) (n : ℕ) (takes : Option LinkName) (e : Event) (k : ℕ) (u : NodeBook) (r : Result (Unit {0}) Memory) (p : WirePacket) (i : BytePacket) (f : List ℕ)
+    → Some p ≡ packet_on old.links takes → i ≡ record { session = p.session; stamp = p.stamp; frame = f } → f ≡ p.frame
+    → SameNode (node_at old.nodes n) u → new ≡ record old { nodes = slice_set old.nodes n u }
+    → ((v : Option Packet) → StandsForInput (node_at old.nodes n).site.clusters (Some i) v → OnOk r (u.broker ≡ halted_at (node_at old.nodes n) e k v))
+    → OnOk r (IsHalted n takes e k old new)
+halted_some old new n takes e k u r p i f taken packet bytes same is stands =
+    halts old new n takes e k u r (Some i)
+    (ap (λ (j : BytePacket). Some j) (packet ∙ ap (λ (b : List ℕ). record { session = p.session; stamp = p.stamp; frame = b }) bytes) ∙ ap sent_of taken) same is stands
+
+pub halt_same : (old new : WorldBook) (n : ℕ) (u : NodeBook) (r : Result (Unit {0}) Memory) → SameNode (node_at old.nodes n) u
+    → new ≡ record old { nodes = slice_set old.nodes n u } → OnErr r (u.broker ≡ (node_at old.nodes n).broker) → OnErr r (SameWorld old new)
+halt_same old new n u (Ok unit) same is broker = tt
+halt_same old new n u (Err m) same is broker = same_world old new n u same broker is
+
+pub stopped : (old mid new : WorldBook) (n : ℕ) (takes : Option LinkName) (e : Event) (k : ℕ) → IsHalted n takes e k old mid
+    → new ≡ record mid { links = taken_from takes mid.links; events = mid.events + 1 } → IsStopped n takes e k old new
+stopped old mid new n takes e k h is =
+    let all : new ≡ record old { nodes = mid.nodes; links = taken_from takes old.links; events = old.events + 1 } =
+    is ∙ ap (λ (b : WorldBook). record b { links = taken_from takes b.links; events = b.events + 1 }) h.rest in
+    rw all (record {
+      kept = λ v both. ap (λ (bs : List Broker). record (kept_of old) { brokers = bs; links = taken_from takes old.links; events = old.events + 1 }) (h.broker v both);
+      same = h.same;
+    })
+
+-- ---- in the world
+
+halts_to : (s : Setup) (b : WorldBook) (w : World) (e : Event) (k : ℕ) → IsAt s b → IsBrokers e → IsEvent s e → Stands s (kept_of b) w
+    → halted_at (node_at b.nodes (node_of s e)) e k (taken_in s w e) ≡ halted s.per_ledger (slice_index_or (kept_of b).brokers (node_of s e) no_broker) k (plan_in s w e)
+halts_to s b w e k h brokers here stands =
+    let v = node_at b.nodes (node_of s e) in
+    ap (λ (q : Plan). halted v.site.per_ledger v.broker k q) (plan_is s b w e h brokers here stands)
+    ∙ ap (λ (g : Site). halted g.per_ledger v.broker k (plan_in s w e)) (node_is s b e h brokers here).site
+    ∙ ap (λ (c : Broker). halted s.per_ledger c k (plan_in s w e)) (sym (broker_is b.nodes (node_of s e) (node_below s b e h brokers here)))
+
+pub leads_halted : (s : Setup) (old new : WorldBook) (w : World) (e : Event) (place : Place) (n k : ℕ) (unit : Unit {0}) → IsAt s old → IsBrokers e → IsEvent s e
+    → place ≡ place_at s e → n ≡ node_of s e → Reached s w → Stands s (kept_of old) w → IsStopped n place.takes e k old new
+    → limit_of (old.events + 1) old.idle old.frame_bytes ≡ None → Leads s old new (halts_planned s w k (planned s w e)) (Ok unit)
+leads_halted s old new w e place n k unit h brokers here is number reached stands stop low =
+    let next = halts_planned s w k (planned s w e) in let m : ℕ = node_of s e in
+    let stop_there : IsStopped m (takes_of e) e k old new =
+    subst (λ (i : ℕ). IsStopped i (takes_of e) e k old new) number (subst (λ (a : Place). IsStopped n a.takes e k old new) is stop) in
+    let after = broker_halted s (kept_of old) w k e brokers (in_range_is s e here) stands in
+    let becomes : kept_of new ≡ broker_stopped (kept_of old) m (takes_of e) (halted s.per_ledger (slice_index_or (kept_of old).brokers m no_broker) k (plan_in s w e)) =
+    stop_there.kept (taken_in s w e) (takes_stands s old w e h brokers here reached stands)
+    ∙ ap (λ (c : Broker). broker_stopped (kept_of old) m (takes_of e) c) (halts_to s old w e k h brokers here stands) in
+    record {
+      done = (subst (λ (a : Kept). Stands s a next) (sym becomes) after, counts s _ next after ∙ low);
+      large = λ i past. absurd (ok_err unit (fault.TooLarge i) past);
+    }
+
+pub leads_large : (s : Setup) (old new : WorldBook) (w : World) (e : Event) (k : ℕ) (f : RunFault) → IsBrokers e → IsEvent s e → Stands s (kept_of old) w
+    → ((i : ℕ) → failed f ≡ failed (fault.TooLarge i) → limit_of (old.events + 1) old.idle old.frame_bytes ≡ Some i)
+    → Leads s old new (halts_planned s w k (planned s w e)) (Err f)
+leads_large s old new w e k f brokers here stands large = record {
+  done = tt;
+  large = λ i past. counts s _ (halts_planned s w k (planned s w e)) (broker_halted s (kept_of old) w k e brokers (in_range_is s e here) stands) ∙ large i past;
+}
+
+pub nodes_halted : (s : Setup) (old new : WorldBook) (n : ℕ) (takes : Option LinkName) (e : Event) (k : ℕ) → IsAt s old → IsStopped n takes e k old new → AreNodes s new.nodes
+nodes_halted s old new n takes e k h stop = stop.same s h.nodes
+
+pub nodes_same : (s : Setup) (old new : WorldBook) → IsAt s old → SameWorld old new → AreNodes s new.nodes
+nodes_same s old new h same = same.nodes s h.nodes
+
+pub same_still : (b : WorldBook) → SameWorld b b
+same_still b = record { kept = refl; nodes = λ s h. h }

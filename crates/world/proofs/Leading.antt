@@ -1,0 +1,186 @@
+-- An event of a broker leads to the machine's world after it.
+use Rattle.std.proofs.Common.{◌≡◌, ℕ, ◌+◌, true, false, List, [], ◌∷◌, sym, ◌∙◌, ap, subst}
+use Rattle.std.specs.Prelude.{Some, None, Result, Ok, Err, OnErr, OnOk, slice_index_or}
+use Rattle.geo_base.specs.declared.event.Event.{Event}
+use Rattle.geo_base.specs.declared.packet.Out.{Out}
+use Rattle.geo_base.specs.Broker.{Broker, Site, no_broker}
+use Rattle.geo_base.specs.Happening.{happens}
+use Rattle.geo_base.specs.Plan.{Plan, done}
+use Rattle.geo_base.specs.Planned.{broker_plan}
+use Rattle.geo_base.specs.Setup.{Setup}
+use Rattle.geo_base.specs.World.{World}
+use Rattle.broker_state.specs.Prepared.{PreparedBook}
+use Rattle.broker_state.specs.declared.prepared.Outgoing.{Outgoing}
+use Rattle.broker_plans.specs.Prepared.{ArePackets, IsPrepared}
+use Rattle.script_text.specs.Scenario.{IsEvent}
+use Rattle.broker.proofs.Planned.{node_plan}
+use Rattle.broker.proofs.Ready.{done_is, idle_is}
+use Rattle.broker.specs.Events.{plan_at_node}
+use Rattle.links.specs.Each.{Both, more, none}
+use Rattle.links.specs.Queues.{bytes_of, packet_on}
+use Rattle.links.specs.Standing.{OutsStand}
+use Rattle.world_kept.proofs.Keeping.{broker_done, broker_idle, counts, input}
+use Rattle.world_kept.specs.Events.{IsBrokers, cluster_of, node_of, plan_in, sender_of, taken_in, takes_of, topic_of}
+use Rattle.world_kept.specs.Kept.{Kept, broker_acted, idled}
+use Rattle.world_kept.specs.Standing.{IsInput, Stands, limit_of}
+use Rattle.world_kept.proofs.Reaching.{ground, told_frames}
+use Rattle.world_kept.specs.Reached.{Reached}
+use Rattle.world.specs.declared.fault.RunFault.{RunFault}
+use Rattle.world.specs.declared.fault.RunFault.TheVariants as fault
+use Rattle.world.specs.declared.place.Place.{Place}
+use Rattle.world.specs.Steps.{IsFinished, Leads, PreparesAt, done_at, place_at, wire_outs}
+use Rattle.world.specs.World.{AreNodes, IsAt, SameWorld, WorldBook, kept_of, node_at}
+use Rattle.world.proofs.Places.{at_same, broker_is, in_range_is, node_below, node_is, of_node, of_topic, stands_at}
+
+abbrev pub Answer : Type 0
+Answer = Result (Unit {0}) RunFault
+
+abbrev pub failed : RunFault → Answer
+failed f = Err f
+
+on_both : {X Y Z : Type 0} (r : Answer) → (X → Y → Z) → OnOk r X → OnOk r Y → OnOk r Z
+on_both (Ok u) f x y = f x y
+on_both (Err e) f x y = tt
+
+-- ---- want of memory
+
+abbrev IsWant : Answer → Type 0
+IsWant (Err fault.Memory) = Unit {0}
+IsWant r = ⊥
+
+pub wants : (s : Setup) (old new : WorldBook) (next : World) → Leads s old new next (Err fault.Memory)
+wants s old new next = record { done = tt; large = λ n is. absurd (subst IsWant is tt) }
+
+-- ---- what was prepared
+
+outs_stand : (names : List (List ℕ)) (vs : List Out) (os : List Outgoing) → ArePackets names vs os → OutsStand names (wire_outs os) vs
+outs_stand names [] [] h = none
+outs_stand names (v ∷ vs) (o ∷ os) h = more (record { to = h.0.to; session = h.0.session; frame = h.0.frame }) (outs_stand names vs os h.1)
+outs_stand names [] (o ∷ os) h = absurd h
+outs_stand names (v ∷ vs) [] h = absurd h
+
+-- the machine's plan at the event's broker, with what its packet stands for
+pub plan_is : (s : Setup) (b : WorldBook) (w : World) (e : Event) → IsAt s b → IsBrokers e → IsEvent s e → Stands s (kept_of b) w
+    → plan_at_node (node_at b.nodes (node_of s e)) e (taken_in s w e) ≡ plan_in s w e
+plan_is s b w e h brokers here stands =
+    let v = node_at b.nodes (node_of s e) in let v_in = taken_in s w e in
+    node_plan s (topic_of s e) (cluster_of e) v e v_in (node_is s b e h brokers here) (of_node s b e h brokers here) (of_topic s e)
+    ∙ ap (λ (c : Broker). broker_plan s c e v_in) (stands_at s b w (node_of s e) stands (node_below s b e h brokers here))
+
+pub takes_stands : (s : Setup) (b : WorldBook) (w : World) (e : Event) → IsAt s b → IsBrokers e → IsEvent s e → Reached s w → Stands s (kept_of b) w
+    → Both (IsInput (node_at b.nodes (node_of s e)).site.clusters) (packet_on b.links (takes_of e)) (taken_in s w e)
+takes_stands s b w e h brokers here reached stands =
+    subst (λ (g : Site). Both (IsInput g.clusters) (packet_on b.links (takes_of e)) (taken_in s w e)) (sym (node_is s b e h brokers here).site)
+    (input s (kept_of b) w (takes_of e) (told_frames s w h.setup reached) stands)
+
+prepared_plan : (s : Setup) (b : WorldBook) (w : World) (e : Event) (p : PreparedBook) → IsAt s b → IsBrokers e → IsEvent s e → Reached s w → Stands s (kept_of b) w
+    → PreparesAt b (node_of s e) (takes_of e) e p
+    → IsPrepared (node_at b.nodes (node_of s e)).site (node_at b.nodes (node_of s e)).broker (plan_in s w e) p
+prepared_plan s b w e p h brokers here reached stands prepared =
+    let v = node_at b.nodes (node_of s e) in
+    subst (λ (q : Plan). IsPrepared v.site v.broker q p) (plan_is s b w e h brokers here stands)
+    (prepared (taken_in s w e) (takes_stands s b w e h brokers here reached stands))
+
+-- also where brokers have other room
+prepared_same : (s : Setup) (old mid : WorldBook) (e : Event) (plan : Plan) (p : PreparedBook) → IsAt s old → SameWorld old mid → IsBrokers e → IsEvent s e
+    → IsPrepared (node_at old.nodes (node_of s e)).site (node_at old.nodes (node_of s e)).broker plan p
+    → IsPrepared (node_at mid.nodes (node_of s e)).site (node_at mid.nodes (node_of s e)).broker plan p
+prepared_same s old mid e plan p h same brokers here prepared =
+    let k = at_same s old mid h same in let n : ℕ = node_of s e in
+    let site : (node_at old.nodes n).site ≡ (node_at mid.nodes n).site = (node_is s old e h brokers here).site ∙ sym (node_is s mid e k brokers here).site in
+    let broker : (node_at old.nodes n).broker ≡ (node_at mid.nodes n).broker =
+    sym (broker_is old.nodes n (node_below s old e h brokers here)) ∙ ap (λ (a : Kept). slice_index_or a.brokers n no_broker) (sym same.kept)
+    ∙ broker_is mid.nodes n (node_below s mid e k brokers here) in
+    subst (λ (b : Broker). IsPrepared (node_at mid.nodes n).site b plan p) broker (subst (λ (g : Site). IsPrepared g (node_at old.nodes n).broker plan p) site prepared)
+
+-- the state that it leads to is the machine's
+becomes : (s : Setup) (b : WorldBook) (e : Event) (plan : Plan) (p : PreparedBook) → IsAt s b → IsBrokers e → IsEvent s e
+    → IsPrepared (node_at b.nodes (node_of s e)).site (node_at b.nodes (node_of s e)).broker plan p
+    → done_at (node_at b.nodes (node_of s e)) p ≡ done s.per_ledger (slice_index_or (kept_of b).brokers (node_of s e) no_broker) plan
+becomes s b e plan p h brokers here prepared =
+    let n : ℕ = node_of s e in let v = node_at b.nodes n in
+    done_is v.site v.broker plan p prepared ∙ ap (λ (g : Site). done g.per_ledger v.broker plan) (node_is s b e h brokers here).site
+    ∙ ap (λ (c : Broker). done s.per_ledger c plan) (sym (broker_is b.nodes n (node_below s b e h brokers here)))
+
+-- ---- the event
+
+stands_same : (s : Setup) (old mid : WorldBook) (w : World) → SameWorld old mid → Stands s (kept_of old) w → Stands s (kept_of mid) w
+stands_same s old mid w same stands = subst (λ (k : Kept). Stands s k w) (sym same.kept) stands
+
+pub acted_stands : (s : Setup) (old mid : WorldBook) (w : World) (e : Event) (p : PreparedBook) → IsAt s old → SameWorld old mid → IsBrokers e → IsEvent s e
+    → Reached s w → Stands s (kept_of old) w → PreparesAt old (node_of s e) (takes_of e) e p → p.idle ≡ false
+    → Stands s (broker_acted (kept_of mid) (node_of s e) (sender_of s e) (takes_of e) (done_at (node_at mid.nodes (node_of s e)) p) (wire_outs p.sent)) (happens s w e)
+acted_stands s old mid w e p h same brokers here reached stands prepares busy =
+    let n : ℕ = node_of s e in let plan = plan_in s w e in let k = at_same s old mid h same in
+    let prepared = prepared_same s old mid e plan p h same brokers here (prepared_plan s old w e p h brokers here reached stands prepares) in
+    let v = node_at mid.nodes n in
+    let is : p.idle ≡ plan.idle = idle_is v.site v.broker plan p prepared in
+    let sent : OutsStand s.clusters (wire_outs p.sent) plan.sent =
+    outs_stand s.clusters plan.sent p.sent (subst (λ (g : Site). ArePackets g.clusters plan.sent p.sent) (node_is s mid e k brokers here).site prepared.sent) in
+    subst (λ (c : Broker). Stands s (broker_acted (kept_of mid) n (sender_of s e) (takes_of e) c (wire_outs p.sent)) (happens s w e))
+    (sym (becomes s mid e plan p k brokers here prepared))
+    (broker_done s (kept_of mid) w e (wire_outs p.sent) brokers (in_range_is s e here) (ground s h.setup w reached) (stands_same s old mid w same stands) (sym is ∙ busy) sent)
+
+pub idle_stands : (s : Setup) (old mid : WorldBook) (w : World) (e : Event) (p : PreparedBook) → IsAt s old → SameWorld old mid → IsBrokers e → IsEvent s e
+    → Reached s w → Stands s (kept_of old) w → PreparesAt old (node_of s e) (takes_of e) e p → p.idle ≡ true
+    → Stands s (idled (kept_of mid)) (happens s w e)
+idle_stands s old mid w e p h same brokers here reached stands prepares idle =
+    let v = node_at old.nodes (node_of s e) in let plan = plan_in s w e in
+    let is : p.idle ≡ plan.idle = idle_is v.site v.broker plan p (prepared_plan s old w e p h brokers here reached stands prepares) in
+    broker_idle s (kept_of mid) w e brokers (in_range_is s e here) (stands_same s old mid w same stands) (sym is ∙ idle)
+
+-- a kept world that stands for the machine's next one, where it is what a step comes to
+pub leads_by : (s : Setup) (old new : WorldBook) (k : Kept) (next : World) (r : Answer) → Stands s k next → OnOk r (kept_of new ≡ k)
+    → OnOk r (limit_of k.events k.idle k.frame_bytes ≡ None) → ((n : ℕ) → r ≡ Err (fault.TooLarge n) → limit_of k.events k.idle k.frame_bytes ≡ Some n)
+    → Leads s old new next r
+leads_by s old new k next r stands is within large = record {
+  done = on_both r (λ same low. (subst (λ (a : Kept). Stands s a next) (sym same) stands, counts s k next stands ∙ low)) is within;
+  large = λ n past. counts s k next stands ∙ large n past;
+}
+
+pub on_ok : {X Y : Type 0} (r : Answer) → (X → Y) → OnOk r X → OnOk r Y
+on_ok (Ok u) f x = f x
+on_ok (Err e) f x = tt
+
+pub leads_idle : (s : Setup) (old mid new : WorldBook) (w : World) (e : Event) (place : Place) (n : ℕ) (p : PreparedBook) (r : Answer)
+    → IsAt s old → SameWorld old mid → IsBrokers e → IsEvent s e → place ≡ place_at s e → n ≡ node_of s e → Reached s w → Stands s (kept_of old) w
+    → PreparesAt old n place.takes e p → p.idle ≡ true
+    → OnOk r (new ≡ record mid { idle = mid.idle + 1 }) → OnOk r (limit_of mid.events (mid.idle + 1) mid.frame_bytes ≡ None)
+    → ((i : ℕ) → r ≡ Err (fault.TooLarge i) → limit_of mid.events (mid.idle + 1) mid.frame_bytes ≡ Some i)
+    → Leads s old new (happens s w e) r
+leads_idle s old mid new w e place n p r h same brokers here is number reached stands prepares idle ok within large =
+    let prepared : PreparesAt old (node_of s e) (takes_of e) e p =
+    subst (λ (m : ℕ). PreparesAt old m (takes_of e) e p) number (subst (λ (a : Place). PreparesAt old n a.takes e p) is prepares) in
+    leads_by s old new (idled (kept_of mid)) (happens s w e) r (idle_stands s old mid w e p h same brokers here reached stands prepared idle)
+    (on_ok r (λ all. ap kept_of all) ok) within large
+
+pub leads_done : (s : Setup) (old mid new : WorldBook) (w : World) (e : Event) (place : Place) (n : ℕ) (p : PreparedBook) (r : Answer)
+    → IsAt s old → SameWorld old mid → IsBrokers e → IsEvent s e → place ≡ place_at s e → n ≡ node_of s e → Reached s w → Stands s (kept_of old) w
+    → PreparesAt old n place.takes e p → p.idle ≡ false
+    → OnOk r (IsFinished place n p mid new) → OnOk r (limit_of (mid.events + 1) mid.idle (mid.frame_bytes + bytes_of (wire_outs p.sent)) ≡ None)
+    → ((i : ℕ) → r ≡ Err (fault.TooLarge i) → limit_of (mid.events + 1) mid.idle (mid.frame_bytes + bytes_of (wire_outs p.sent)) ≡ Some i)
+    → Leads s old new (happens s w e) r
+leads_done s old mid new w e place n p r h same brokers here is number reached stands prepares busy ok within large =
+    let prepared : PreparesAt old (node_of s e) (takes_of e) e p =
+    subst (λ (m : ℕ). PreparesAt old m (takes_of e) e p) number (subst (λ (a : Place). PreparesAt old n a.takes e p) is prepares) in
+    let finished : OnOk r (IsFinished (place_at s e) (node_of s e) p mid new) =
+    subst (λ (m : ℕ). OnOk r (IsFinished (place_at s e) m p mid new)) number (subst (λ (a : Place). OnOk r (IsFinished a n p mid new)) is ok) in
+    leads_by s old new (broker_acted (kept_of mid) (node_of s e) (sender_of s e) (takes_of e) (done_at (node_at mid.nodes (node_of s e)) p) (wire_outs p.sent)) (happens s w e) r
+    (acted_stands s old mid w e p h same brokers here reached stands prepared busy)
+    (on_ok r (λ all. all.kept) finished) within large
+
+-- ---- nodes, and a world that has not changed
+
+pub nodes_idle : (s : Setup) (old mid new : WorldBook) (r : Answer) → AreNodes s old.nodes → SameWorld old mid → OnOk r (new ≡ record mid { idle = mid.idle + 1 }) → OnErr r (new ≡ mid)
+    → AreNodes s new.nodes
+nodes_idle s old mid new (Ok u) h same ok err = subst (λ (b : WorldBook). AreNodes s b.nodes) (sym ok) (same.nodes s h)
+nodes_idle s old mid new (Err e) h same ok err = subst (λ (b : WorldBook). AreNodes s b.nodes) (sym err) (same.nodes s h)
+
+pub nodes_done : (s : Setup) (old mid new : WorldBook) (place : Place) (n : ℕ) (p : PreparedBook) (r : Answer) → AreNodes s old.nodes → SameWorld old mid
+    → OnOk r (IsFinished place n p mid new) → OnErr r (new ≡ mid) → AreNodes s new.nodes
+nodes_done s old mid new place n p (Ok u) h same ok err = ok.same s (same.nodes s h)
+nodes_done s old mid new place n p (Err e) h same ok err = subst (λ (b : WorldBook). AreNodes s b.nodes) (sym err) (same.nodes s h)
+
+pub same_err : (old mid new : WorldBook) (r : Answer) → SameWorld old mid → OnErr r (new ≡ mid) → OnErr r (SameWorld old new)
+same_err old mid new (Ok u) same err = tt
+same_err old mid new (Err e) same err = subst (SameWorld old) (sym err) same

@@ -1,0 +1,111 @@
+-- A world as it begins.
+use Rattle.std.proofs.Common.{◌≡◌, ℕ, zero, suc, ◌+◌, ◌*◌, ◌/◌, ◌<◌, List, [], ◌∷◌, ◌++◌, length, map, take, refl, sym, ◌∙◌, ap, subst, arith, add-one, take_all}
+use Rattle.std.proofs.lemmas.List.{length-map, length-replicate, map-append, replicate_more, take_more}
+use Rattle.std.proofs.lemmas.Nat.{div-mul-add}
+use Rattle.std.proofs.lemmas.Option.{get_or_from_slice_get, none-some, slice_get_within}
+use Rattle.std.specs.Prelude.{Some, None, replicate, slice_get, slice_index_or}
+use Rattle.geo_base.specs.Broker.{Broker, new_broker}
+use Rattle.geo_base.specs.Client.{Client, new_client}
+use Rattle.geo_base.specs.Scripted.{IsScripted}
+use Rattle.geo_base.specs.Setup.{Declared, Setup, declared_at, nobody, sub_names}
+use Rattle.geo_base.specs.World.{node, opening_world}
+use Rattle.broker.specs.Events.{IsNodeOf}
+use Rattle.broker.specs.Node.{NodeBook}
+use Rattle.world_kept.proofs.Keeping.{opening}
+use Rattle.world_kept.specs.Kept.{Kept, opening_kept}
+use Rattle.world_kept.specs.Standing.{Stands}
+use Rattle.world_laws.proofs.Sizes.{node_lt}
+use Rattle.world_kept.proofs.Reaching.{opening_reached}
+use Rattle.world.specs.Opening.{AreNew}
+use Rattle.world.specs.World.{AreNodes, IsAt, WorldBook, kept_of, no_node}
+
+-- ---- brokers
+
+pub none_yet : (s : Setup) → AreNew s 0 []
+none_yet s = record { brokers = refl; each = λ t x lt under. absurd (omega (arith, under)) }
+
+-- an item behind others
+pushed_at : {X : Type 0} (P : X → Type 0) (xs : List X) (x d : X) (k : ℕ) → k < length xs + 1 → (k < length xs → P (slice_index_or xs k d)) → (k ≡ length xs → P x)
+    → P (slice_index_or (xs ++ x ∷ []) k d)
+pushed_at P [] x d zero lt before last = last refl
+pushed_at P [] x d (suc k) lt before last = absurd (omega (arith, lt))
+pushed_at P (y ∷ ys) x d zero lt before last = before (omega arith)
+pushed_at P (y ∷ ys) x d (suc k) lt before last =
+    pushed_at P ys x d k (omega (arith, lt)) (λ here. before (omega (arith, here))) (λ is. last (ap suc is))
+
+-- topic and cluster of a broker's number
+same_numbers : (c t x u y : ℕ) → x < c → y < c → u * c + y ≡ t * c + x → (u ≡ t) × (y ≡ x)
+same_numbers c t x u y here there is =
+    let topic : u ≡ t = sym (div-mul-add u c y there) ∙ ap (λ (k : ℕ). k / c) is ∙ div-mul-add t c x here in
+    let rows : u * c ≡ t * c = ap (λ (k : ℕ). k * c) topic in
+    (topic, omega (arith, is, rows))
+
+same_node : (s : Setup) (t x u y : ℕ) (v : NodeBook) → x < length s.clusters → y < length s.clusters → node s u y ≡ node s t x → IsNodeOf s t x v → IsNodeOf s u y v
+same_node s t x u y v here there is h =
+    let same = same_numbers (length s.clusters) t x u y here there is in
+    subst (λ (k : ℕ). IsNodeOf s u k v) (sym same.1) (subst (λ (k : ℕ). IsNodeOf s k x v) (sym same.0) h)
+
+new_size : (s : Setup) (n : ℕ) (vs : List NodeBook) → AreNew s n vs → length vs ≡ n
+new_size s n vs h =
+    sym (length-map vs (λ (v : NodeBook). v.broker)) ∙ ap (λ (bs : List Broker). length bs) h.brokers ∙ length-replicate n (new_broker (length s.clusters) (length s.clients))
+
+pub one_more_node : (s : Setup) (vs : List NodeBook) (t x : ℕ) (v : NodeBook) → x < length s.clusters → AreNew s (t * length s.clusters + x) vs → IsNodeOf s t x v
+    → v.broker ≡ new_broker (length s.clusters) (length s.clients) → AreNew s (t * length s.clusters + (x + 1)) (vs ++ v ∷ [])
+one_more_node s vs t x v here h is broker =
+    let n : ℕ = node s t x in let b = new_broker (length s.clusters) (length s.clients) in let size : length vs ≡ n = new_size s n vs h in
+    let next : n + 1 ≡ t * length s.clusters + (x + 1) = omega arith in
+    subst (λ (k : ℕ). AreNew s k (vs ++ v ∷ [])) next (record {
+      brokers = map-append (λ (u : NodeBook). u.broker) vs (v ∷ []) ∙ ap (λ (bs : List Broker). bs ++ v.broker ∷ []) h.brokers
+          ∙ ap (λ (c : Broker). replicate n b ++ c ∷ []) broker ∙ replicate_more n b;
+      each = λ u y there under. pushed_at (IsNodeOf s u y) vs v no_node (node s u y) (omega (arith, under, size))
+          (λ before. h.each u y there (omega (arith, before, size))) (λ last. same_node s t x u y v here there (last ∙ size) is);
+    })
+
+-- a topic's brokers are behind those of the topics before it
+pub topic_begins : (s : Setup) (t : ℕ) (vs : List NodeBook) → AreNew s (t * length s.clusters) vs → AreNew s (t * length s.clusters + 0) vs
+topic_begins s t vs h = let is : t * length s.clusters ≡ t * length s.clusters + 0 = omega arith in subst (λ (k : ℕ). AreNew s k vs) is h
+
+pub topic_ends : (s : Setup) (t x : ℕ) (vs : List NodeBook) → x ≡ length s.clusters → AreNew s (t * length s.clusters + x) vs → AreNew s ((t + 1) * length s.clusters) vs
+topic_ends s t x vs all h = let is : t * length s.clusters + x ≡ (t + 1) * length s.clusters = grind (arith, all) in subst (λ (k : ℕ). AreNew s k vs) is h
+
+-- ---- names
+
+pub one_name_more : {X : Type 0} (xs : List X) (i : ℕ) (x : X) → slice_get xs i ≡ Some x → take (i + 1) xs ≡ take i xs ++ x ∷ []
+one_name_more xs i x at = take_more xs i x (slice_get_within xs i x at) ∙ ap (λ (y : _). take i xs ++ y ∷ []) (get_or_from_slice_get xs i x x at)
+
+no_more : {X : Type 0} (xs : List X) (i : ℕ) → slice_get xs i ≡ None → take (suc i) xs ≡ take i xs
+no_more [] zero at = refl
+no_more [] (suc i) at = refl
+no_more (x ∷ xs) zero at = absurd (none-some x (sym at))
+no_more (x ∷ xs) (suc i) at = ap (λ ys. x ∷ ys) (no_more xs i at)
+
+pub no_name_more : {X : Type 0} (xs : List X) (i : ℕ) → slice_get xs i ≡ None → take (i + 1) xs ≡ take i xs
+no_name_more xs i at = rw add-one (no_more xs i at)
+
+pub all_names : (s : Setup) (t : ℕ) → IsScripted s → take 32 (sub_names s t) ≡ sub_names s t
+all_names s t h = take_all 32 (sub_names s t) (h.of_a_topic t).1
+
+-- ---- clients
+
+pub one_client_more : (s : Setup) (c : ℕ) (ms : List Client) (m : Client) → c < length s.clients → ms ≡ map new_client (take c s.clients) → m ≡ new_client (declared_at s c)
+    → ms ++ m ∷ [] ≡ map new_client (take (c + 1) s.clients)
+one_client_more s c ms m lt is client =
+    ap (λ (ks : List Client). ks ++ m ∷ []) is ∙ ap (λ (k : Client). map new_client (take c s.clients) ++ k ∷ []) client
+    ∙ sym (ap (λ (ds : List Declared). map new_client ds) (take_more s.clients c nobody lt) ∙ map-append new_client (take c s.clients) (declared_at s c ∷ []))
+
+-- ---- the world
+
+new_nodes : (s : Setup) (vs : List NodeBook) → AreNew s (length s.topics * length s.clusters) vs → AreNodes s vs
+new_nodes s vs h = record { count = new_size s (length s.topics * length s.clusters) vs h; each = λ t x topic cluster. h.each t x cluster (node_lt s t x (topic, cluster)) }
+
+pub new_at : (s : Setup) (b : WorldBook) → IsScripted s → AreNew s (length s.topics * length s.clusters) b.nodes → kept_of b ≡ opening_kept s → IsAt s b
+new_at s b scripted nodes kept =
+    let counts : b.events + b.idle ≡ 0 = ap (λ (k : Kept). k.events + k.idle) kept in let bytes : b.frame_bytes ≡ 0 = ap (λ (k : Kept). k.frame_bytes) kept in
+    record {
+      setup = scripted;
+      nodes = new_nodes s b.nodes nodes;
+      world = opening_world s;
+      reached = opening_reached s;
+      stands = subst (λ (k : Kept). Stands s k (opening_world s)) (sym kept) (opening s);
+      within = record { few = omega (arith, counts); short = omega (arith, bytes) };
+    }

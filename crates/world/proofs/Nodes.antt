@@ -1,0 +1,99 @@
+-- A world of which one broker has another state, or other room.
+use Rattle.std.proofs.Common.{◌≡◌, ℕ, ◌<◌, List, length, sym, ◌∙◌, ap, subst}
+use Rattle.std.proofs.lemmas.List.{get_or-set_same, length-set, map-set}
+use Rattle.std.proofs.Math.Seq.{map-set_same}
+use Rattle.std.specs.Prelude.{Option, Some, None, Result, Ok, Err, IfOk, slice_set}
+use Rattle.geo_base.specs.declared.event.Event.{Event}
+use Rattle.geo_base.specs.declared.memory.Memory.{Memory}
+use Rattle.geo_base.specs.declared.packet.Packet.{Packet}
+use Rattle.geo_base.specs.Broker.{Broker}
+use Rattle.geo_base.specs.Setup.{Setup}
+use Rattle.geo_base.specs.World.{node}
+use Rattle.broker_state.specs.Prepared.{PreparedBook}
+use Rattle.broker_plans.specs.Prepared.{IsPrepared}
+use Rattle.broker.specs.Events.{IsNodeOf, plan_at_node}
+use Rattle.broker.specs.Input.{StandsForInput}
+use Rattle.broker.specs.Node.{IsReady, NodeBook, SameNode}
+use Rattle.frame_laws.specs.BytePackets.{BytePacket}
+use Rattle.links.specs.declared.name.LinkName.{LinkName}
+use Rattle.wire_ends.specs.declared.packet.WirePacket.{WirePacket}
+use Rattle.links.specs.Each.{Both, both, neither}
+use Rattle.links.specs.Queues.{packet_on}
+use Rattle.world_kept.specs.Standing.{IsInput}
+use Rattle.world_laws.proofs.Frames.{at_set}
+use Rattle.world.specs.Steps.{IsSetNode, PreparesAt}
+use Rattle.world.specs.World.{AreNodes, SameWorld, WorldBook, brokers_of, kept_of, no_node, node_at}
+
+node_same : (s : Setup) (t x : ℕ) (v u : NodeBook) → SameNode v u → IsNodeOf s t x v → IsNodeOf s t x u
+node_same s t x v u same is = record { topic = same.topic ∙ is.topic; site = same.site ∙ is.site; names = same.names ∙ is.names }
+
+pub are_set : (s : Setup) (vs : List NodeBook) (n : ℕ) (v : NodeBook) → SameNode (node_at vs n) v → AreNodes s vs → AreNodes s (slice_set vs n v)
+are_set s vs n v same h = record {
+  count = length-set vs n v ∙ h.count;
+  each = λ t x p q. at_set (IsNodeOf s t x) vs n (node s t x) v no_node
+      (λ is. node_same s t x (node_at vs n) v same (subst (λ (m : ℕ). IsNodeOf s t x (node_at vs m)) (sym is) (h.each t x p q))) (h.each t x p q);
+}
+
+-- another state
+pub set_node : (vs us : List NodeBook) (n : ℕ) (v : NodeBook) (b : Broker) → SameNode (node_at vs n) v → v.broker ≡ b → us ≡ slice_set vs n v → IsSetNode vs us n b
+set_node vs us n v b same broker is = rw is (record {
+  brokers = map-set (λ (u : NodeBook). u.broker) vs n v ∙ ap (λ (c : Broker). slice_set (brokers_of vs) n c) broker;
+  same = λ s h. are_set s vs n v same h;
+})
+
+-- other room
+pub same_world : (old new : WorldBook) (n : ℕ) (v : NodeBook) → SameNode (node_at old.nodes n) v → v.broker ≡ (node_at old.nodes n).broker
+    → new ≡ record old { nodes = slice_set old.nodes n v } → SameWorld old new
+same_world old new n v same broker is = rw is (record {
+  kept = ap (λ (bs : List Broker). record (kept_of old) { brokers = bs }) (map-set_same (λ (u : NodeBook). u.broker) old.nodes n v no_node broker);
+  nodes = λ s h. are_set s old.nodes n v same h;
+})
+
+-- ---- what an event takes
+
+flips : (A : Option Packet → Type 0) (r : Result PreparedBook Memory) (P : Option Packet → PreparedBook → Type 0) → ((v : Option Packet) → A v → IfOk r (P v))
+    → IfOk r (λ p. (v : Option Packet) → A v → P v p)
+flips A (Ok p) P f = λ v a. f v a
+flips A (Err m) P f = tt
+
+abbrev pub sent_packet : WirePacket → BytePacket
+sent_packet p = record { session = p.session; stamp = p.stamp; frame = p.frame }
+
+abbrev pub sent_of : Option WirePacket → Option BytePacket
+sent_of None = None
+sent_of (Some p) = Some (sent_packet p)
+
+pub next_is : (names : List (List ℕ)) (o : Option WirePacket) (v : Option Packet) → Both (IsInput names) o v → StandsForInput names (sent_of o) v
+next_is names _ _ neither = tt
+next_is names (Some w) (Some p) (both r) = r
+
+prepares : (old : WorldBook) (n : ℕ) (takes : Option LinkName) (e : Event) (r : Result PreparedBook Memory) (i : Option BytePacket) → i ≡ sent_of (packet_on old.links takes)
+    → ((v : Option Packet) → StandsForInput (node_at old.nodes n).site.clusters i v
+    → IfOk r (IsPrepared (node_at old.nodes n).site (node_at old.nodes n).broker (plan_at_node (node_at old.nodes n) e v)))
+    → IfOk r (PreparesAt old n takes e)
+prepares old n takes e r i is f =
+    let u = node_at old.nodes n in
+    flips (λ (v : Option Packet). Both (IsInput u.site.clusters) (packet_on old.links takes) v) r (λ v p. IsPrepared u.site u.broker (plan_at_node u e v) p)
+    (λ v both. f v (subst (λ (j : Option BytePacket). StandsForInput u.site.clusters j v) (sym is) (next_is u.site.clusters (packet_on old.links takes) v both)))
+
+pub prepares_none : (old : WorldBook) (n : ℕ) (takes : Option LinkName) (e : Event) (r : Result PreparedBook Memory) → packet_on old.links takes ≡ None
+    → ((v : Option Packet) → StandsForInput (node_at old.nodes n).site.clusters None v
+    → IfOk r (IsPrepared (node_at old.nodes n).site (node_at old.nodes n).broker (plan_at_node (node_at old.nodes n) e v)))
+    → IfOk r (PreparesAt old n takes e)
+prepares_none old n takes e r is f = prepares old n takes e r None (ap sent_of (sym is)) f
+
+pub prepares_some : (old : WorldBook) (n : ℕ) (takes : Option LinkName) (e : Event) (r : Result PreparedBook Memory) (w : WirePacket) (i : BytePacket) (f : List ℕ)
+    → Some w ≡ packet_on old.links takes → i ≡ record { session = w.session; stamp = w.stamp; frame = f } → f ≡ w.frame
+    → ((v : Option Packet) → StandsForInput (node_at old.nodes n).site.clusters (Some i) v
+    → IfOk r (IsPrepared (node_at old.nodes n).site (node_at old.nodes n).broker (plan_at_node (node_at old.nodes n) e v)))
+    → IfOk r (PreparesAt old n takes e)
+prepares_some old n takes e r w i f is same bytes stands =
+    prepares old n takes e r (Some i)
+    (ap (λ (j : BytePacket). Some j) (same ∙ ap (λ (b : List ℕ). record { session = w.session; stamp = w.stamp; frame = b }) bytes) ∙ ap sent_of is) stands
+
+ready_at : (vs : List NodeBook) (n : ℕ) (v : NodeBook) (p : PreparedBook) → n < length vs → IsReady v p → IsReady (node_at (slice_set vs n v) n) p
+ready_at vs n v p lt ready = rw (get_or-set_same vs n v no_node lt) ready
+
+pub ready_there : (vs us : List NodeBook) (n : ℕ) (v : NodeBook) (r : Result PreparedBook Memory) → n < length vs → us ≡ slice_set vs n v → IfOk r (IsReady v) → IfOk r (IsReady (node_at us n))
+ready_there vs us n v (Ok p) lt is ready = rw is (ready_at vs n v p lt ready)
+ready_there vs us n v (Err m) lt is ready = tt

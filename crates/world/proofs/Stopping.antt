@@ -1,0 +1,198 @@
+-- A stop of everything leads to the machine's world after it.
+use Rattle.std.proofs.Common.{◌≡◌, ℕ, zero, suc, ◌+◌, ◌*◌, ◌/◌, ◌%◌, ◌<◌, List, [], ◌∷◌, ◌++◌, length, map, take, refl, sym, ◌∙◌, ap, subst, arith}
+use Rattle.std.proofs.lemmas.List.{get_or_default}
+use Rattle.std.proofs.lemmas.Nat.{div-add-mod'}
+use Rattle.std.proofs.Math.Nat.{div-lt_iff_lt-mul, mod-lt}
+use Rattle.std.specs.Prelude.{All, Some, None, Result, Ok, Err, IfOk, OnErr, slice_index_or}
+use Rattle.geo_base.specs.declared.event.Event.TheVariants as event
+use Rattle.geo_base.specs.declared.memory.Memory.{Memory}
+use Rattle.geo_base.specs.Broker.{Broker, Site}
+use Rattle.geo_base.specs.Client.{unconnected}
+use Rattle.geo_base.specs.Happening.{stops}
+use Rattle.geo_base.specs.Plan.{done}
+use Rattle.geo_base.specs.Scripted.{IsScripted}
+use Rattle.geo_base.specs.Seeking.{restart}
+use Rattle.geo_base.specs.Setup.{Setup}
+use Rattle.geo_base.specs.World.{World, node}
+use Rattle.broker_state.specs.Prepared.{PreparedBook, plan_in}
+use Rattle.broker_plans.specs.Prepared.{IsPrepared}
+use Rattle.broker.proofs.Ready.{done_is}
+use Rattle.broker.specs.Events.{IsNodeOf}
+use Rattle.broker.specs.Node.{NodeBook, SameNode}
+use Rattle.links.proofs.Mapped.{left_whole}
+use Rattle.links.specs.Each.{Each, more, none}
+use Rattle.links.specs.Queues.{all_discarded}
+use Rattle.world_kept.proofs.Keeping.{stop}
+use Rattle.world_kept.specs.Kept.{Kept, all_stopped}
+use Rattle.world_kept.specs.Standing.{Stands, limit_of}
+use Rattle.world_laws.proofs.Sizes.{node_lt}
+use Rattle.world_kept.proofs.Reaching.{stop_reached}
+use Rattle.world_kept.specs.Reached.{Reached}
+use Rattle.world.specs.declared.fault.RunFault.{RunFault}
+use Rattle.world.specs.declared.fault.RunFault.TheVariants as fault
+use Rattle.world.specs.Restarts.{CanRestart, IsRestarted, IsSame}
+use Rattle.world.specs.Steps.{Leads}
+use Rattle.world.specs.World.{AreNodes, IsAt, SameWorld, WorldBook, brokers_of, kept_of, no_node, node_at}
+use Rattle.world.proofs.After.{after}
+use Rattle.world.proofs.Leading.{Answer, failed, leads_by}
+use Rattle.world.proofs.Places.{numbers_rise}
+
+-- ---- one after another
+
+each_at : {A B : Type 0} (R : A → B → Type 0) (xs : List A) (ys : List B) (k : ℕ) (d : A) (e : B) → Each R xs ys → k < length xs → R (slice_index_or xs k d) (slice_index_or ys k e)
+each_at R _ _ k d e none lt = absurd (omega (arith, lt))
+each_at R (x ∷ xs) (y ∷ ys) zero d e (more r rs) lt = r
+each_at R (x ∷ xs) (y ∷ ys) (suc k) d e (more r rs) lt = each_at R xs ys k d e rs (omega (arith, lt))
+
+each_length : {A B : Type 0} (R : A → B → Type 0) (xs : List A) (ys : List B) → Each R xs ys → length xs ≡ length ys
+each_length R _ _ none = refl
+each_length R (x ∷ xs) (y ∷ ys) (more r rs) = ap suc (each_length R xs ys rs)
+
+each_map : {A B : Type 0} (R S : A → B → Type 0) (xs : List A) (ys : List B) → ((x : A) (y : B) → R x y → S x y) → Each R xs ys → Each S xs ys
+each_map R S _ _ f none = none
+each_map R S (x ∷ xs) (y ∷ ys) f (more r rs) = more (f x y r) (each_map R S xs ys f rs)
+
+-- the first broker of some, and the others
+pub none_left : {R : NodeBook → NodeBook → Type 0} (vs : List NodeBook) → length vs ≡ 0 → Each R vs vs
+none_left [] size = none
+none_left (v ∷ vs) size = absurd (omega (arith, size))
+
+pub first_can : (vs ws : List NodeBook) (v : NodeBook) → vs ≡ v ∷ ws → All CanRestart vs → CanRestart v
+first_can vs ws v is can = (subst (λ (us : List NodeBook). All CanRestart us) is can) 0 v (omega arith)
+
+pub rest_can : (vs ws : List NodeBook) (v : NodeBook) → vs ≡ v ∷ ws → All CanRestart vs → All CanRestart ws
+rest_can vs ws v is can = λ k d lt. (subst (λ (us : List NodeBook). All CanRestart us) is can) (suc k) d (omega (arith, lt))
+
+same_self : (v : NodeBook) → IsSame v v
+same_self v = record { node = record { topic = refl; site = refl; names = refl; senders = refl; sessions = refl }; broker = refl }
+
+all_same : (vs : List NodeBook) → Each IsSame vs vs
+all_same [] = none
+all_same (v ∷ vs) = more (same_self v) (all_same vs)
+
+pub first_same : (vs ws : List NodeBook) (v u : NodeBook) → vs ≡ v ∷ ws → IsSame v u → Each IsSame vs (u ∷ ws)
+first_same vs ws v u is same = rw is (more same (all_same ws))
+
+pub more_same : (vs ws us : List NodeBook) (v u : NodeBook) → vs ≡ v ∷ ws → IsSame v u → Each IsSame ws us → Each IsSame vs (u ∷ us)
+more_same vs ws us v u is same rest = rw is (more same rest)
+
+both_same : (v u w : NodeBook) → SameNode v u → SameNode u w → SameNode v w
+both_same v u w p q = record {
+  topic = q.topic ∙ p.topic;
+  site = q.site ∙ p.site;
+  names = q.names ∙ p.names;
+  senders = q.senders ∙ p.senders;
+  sessions = q.sessions ∙ p.sessions;
+}
+
+started : (v u w : NodeBook) (p : PreparedBook) → IsSame v u → done v.site.per_ledger v.broker (plan_in v.broker p) ≡ done v.site.per_ledger v.broker restart
+    → w.broker ≡ done u.site.per_ledger u.broker (plan_in u.broker p) → SameNode u w → IsRestarted v w
+started v u w p same restarts broker node = record {
+  node = both_same v u w same.node node;
+  broker =
+      broker ∙ ap (λ (h : Site). done h.per_ledger u.broker (plan_in u.broker p)) same.node.site
+      ∙ ap (λ (b : Broker). done v.site.per_ledger b (plan_in b p)) same.broker ∙ restarts;
+}
+
+pub more_restarted : (vs ws us : List NodeBook) (v u w : NodeBook) (p : PreparedBook) → vs ≡ v ∷ ws → IsSame v u
+    → done v.site.per_ledger v.broker (plan_in v.broker p) ≡ done v.site.per_ledger v.broker restart
+    → w.broker ≡ done u.site.per_ledger u.broker (plan_in u.broker p) → SameNode u w → Each IsRestarted ws us → Each IsRestarted vs (w ∷ us)
+more_restarted vs ws us v u w p is same restarts broker node rest = rw is (more (started v u w p same restarts broker node) rest)
+
+pub restart_done : (v : NodeBook) (r : Result PreparedBook Memory) → IfOk r (IsPrepared v.site v.broker restart)
+    → IfOk r (λ p. done v.site.per_ledger v.broker (plan_in v.broker p) ≡ done v.site.per_ledger v.broker restart)
+restart_done v (Ok p) is = done_is v.site v.broker restart p is
+restart_done v (Err m) is = tt
+
+-- ---- all brokers of a setup
+
+all_of : (s : Setup) (P : NodeBook → Type 0) (vs : List NodeBook) → IsScripted s → AreNodes s vs
+    → ((t x : ℕ) → t < length s.topics → x < length s.clusters → P (node_at vs (node s t x))) → All P vs
+all_of s P vs scripted h each k d lt =
+    let c : ℕ = length s.clusters in let size : length vs ≡ length s.topics * c = h.count in
+    let some : 0 < c = omega (arith, scripted.clusters.0) in
+    let topic : k / c < length s.topics = (div-lt_iff_lt-mul {k = c} {x = k} {y = length s.topics} some).1 (subst (λ (m : ℕ). k < m) size lt) in
+    let there : node s (k / c) (k % c) ≡ k = div-add-mod' k c in
+    subst P (ap (λ (m : ℕ). node_at vs m) there ∙ get_or_default vs k no_node d lt) (each (k / c) (k % c) topic (mod-lt k some))
+
+pub all_can : (s : Setup) (b : WorldBook) → IsAt s b → All CanRestart b.nodes
+all_can s b h = all_of s CanRestart b.nodes h.setup h.nodes (λ t x topic cluster. (numbers_rise s b (event.Restart t x) h tt (topic, cluster)).marker)
+
+per_ledger_is : (s : Setup) (vs : List NodeBook) → IsScripted s → AreNodes s vs → All (λ (v : NodeBook). v.site.per_ledger ≡ s.per_ledger) vs
+per_ledger_is s vs scripted h =
+    all_of s (λ (v : NodeBook). v.site.per_ledger ≡ s.per_ledger) vs scripted h (λ t x topic cluster. ap (λ (g : Site). g.per_ledger) (h.each t x topic cluster).site)
+
+restarted_brokers : (per : ℕ) (vs us : List NodeBook) → Each IsRestarted vs us → All (λ (v : NodeBook). v.site.per_ledger ≡ per) vs
+    → brokers_of us ≡ map (λ (b : Broker). done per b restart) (brokers_of vs)
+restarted_brokers per _ _ none all = refl
+restarted_brokers per (v ∷ vs) (u ∷ us) (more r rs) all =
+    let first : u.broker ≡ done per v.broker restart = r.broker ∙ ap (λ (n : ℕ). done n v.broker restart) (all 0 v (omega arith)) in
+    ap (λ (b : Broker). b ∷ brokers_of us) first
+    ∙ ap (λ (bs : List Broker). done per v.broker restart ∷ bs) (restarted_brokers per vs us rs (λ k d lt. all (suc k) d (omega (arith, lt))))
+
+same_brokers : (vs us : List NodeBook) → Each IsSame vs us → brokers_of us ≡ brokers_of vs
+same_brokers _ _ none = refl
+same_brokers (v ∷ vs) (u ∷ us) (more r rs) =
+    ap (λ (b : Broker). b ∷ brokers_of us) r.broker ∙ ap (λ (bs : List Broker). v.broker ∷ bs) (same_brokers vs us rs)
+
+node_same : (s : Setup) (t x : ℕ) (v u : NodeBook) → SameNode v u → IsNodeOf s t x v → IsNodeOf s t x u
+node_same s t x v u same is = record { topic = same.topic ∙ is.topic; site = same.site ∙ is.site; names = same.names ∙ is.names }
+
+same_nodes : (s : Setup) (vs us : List NodeBook) → Each SameNode vs us → AreNodes s vs → AreNodes s us
+same_nodes s vs us same h = record {
+  count = sym (each_length SameNode vs us same) ∙ h.count;
+  each = λ t x topic cluster.
+      let lt : node s t x < length vs = subst (λ (m : ℕ). node s t x < m) (sym h.count) (node_lt s t x (topic, cluster)) in
+      node_same s t x (node_at vs (node s t x)) (node_at us (node s t x)) (each_at SameNode vs us (node s t x) no_node no_node same lt) (h.each t x topic cluster);
+}
+
+-- ---- the world
+
+pub stopped_nodes : (s : Setup) (old : WorldBook) (us : List NodeBook) → IsAt s old → Each IsRestarted old.nodes us → AreNodes s us
+stopped_nodes s old us h all = same_nodes s old.nodes us (each_map IsRestarted SameNode old.nodes us (λ v u r. r.node) all) h.nodes
+
+-- the brokers behind their vector
+pub behind : {R : NodeBook → NodeBook → Type 0} (vs us rest : List NodeBook) (n : ℕ) → length vs ≡ n → Each R vs us → take n (us ++ rest) ≡ us
+behind {R = R} vs us rest n size all = left_whole n us rest (sym (each_length R vs us all) ∙ size)
+
+-- nothing but room has changed
+pub same_room : (old new : WorldBook) (us : List NodeBook) → Each IsSame old.nodes us → new ≡ record old { nodes = us } → SameWorld old new
+same_room old new us all is = rw is (record {
+  kept = ap (λ (bs : List Broker). record (kept_of old) { brokers = bs }) (same_brokers old.nodes us all);
+  nodes = λ s h. same_nodes s old.nodes us (each_map IsSame SameNode old.nodes us (λ v u r. r.node) all) h;
+})
+
+pub room_nodes : (s : Setup) (old : WorldBook) (us : List NodeBook) → IsAt s old → Each IsSame old.nodes us → AreNodes s us
+room_nodes s old us h all = same_nodes s old.nodes us (each_map IsSame SameNode old.nodes us (λ v u r. r.node) all) h.nodes
+
+abbrev stopped : Setup → WorldBook → Kept
+stopped s b = all_stopped (kept_of b) (map (λ (c : Broker). done s.per_ledger c restart) (brokers_of b.nodes)) (map unconnected b.clients)
+
+stopped_kept : (s : Setup) (old new : WorldBook) (us : List NodeBook) → IsAt s old → Each IsRestarted old.nodes us
+    → new ≡ record old { nodes = us; clients = map unconnected old.clients; links = all_discarded old.links; events = old.events + 1 } → kept_of new ≡ stopped s old
+stopped_kept s old new us h all is =
+    ap kept_of is
+    ∙ ap (λ (bs : List Broker). all_stopped (kept_of old) bs (map unconnected old.clients))
+    (restarted_brokers s.per_ledger old.nodes us all (per_ledger_is s old.nodes h.setup h.nodes))
+
+abbrev IsFault : Answer → Type 0
+IsFault (Ok unit) = ⊥
+IsFault (Err f) = Unit {0}
+
+no_fault : (unit : Unit {0}) (f : RunFault) → Ok unit ≡ failed f → ⊥
+no_fault unit f is = subst (λ (r : Answer). IsFault r) (sym is) tt
+
+pub leads_stopped : (s : Setup) (old new : WorldBook) (us : List NodeBook) (w : World) (unit : Unit {0}) → IsAt s old → Stands s (kept_of old) w → Each IsRestarted old.nodes us
+    → new ≡ record old { nodes = us; clients = map unconnected old.clients; links = all_discarded old.links; events = old.events + 1 }
+    → limit_of (old.events + 1) old.idle old.frame_bytes ≡ None → Leads s old new (stops s w) (Ok unit)
+leads_stopped s old new us w unit h stands all is low =
+    leads_by s old new (stopped s old) (stops s w) (Ok unit) (stop s (kept_of old) w stands) (stopped_kept s old new us h all is) low
+    (λ n past. absurd (no_fault unit (fault.TooLarge n) past))
+
+pub leads_past : (s : Setup) (old new : WorldBook) (w : World) (f : RunFault) → Stands s (kept_of old) w
+    → ((n : ℕ) → failed f ≡ failed (fault.TooLarge n) → limit_of (old.events + 1) old.idle old.frame_bytes ≡ Some n) → Leads s old new (stops s w) (Err f)
+leads_past s old new w f stands large = leads_by s old new (stopped s old) (stops s w) (Err f) (stop s (kept_of old) w stands) tt tt large
+
+pub after_stop : (s : Setup) (old new : WorldBook) (r : Answer) → IsAt s old → ((w : World) → Reached s w → Stands s (kept_of old) w → Leads s old new (stops s w) r)
+    → AreNodes s new.nodes → OnErr r (SameWorld old new) → IsAt s new
+after_stop s old new r h leads nodes same = after s old new (λ w. stops s w) r h leads (λ w reached. stop_reached s w reached) nodes same

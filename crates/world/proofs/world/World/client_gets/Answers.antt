@@ -1,0 +1,35 @@
+use Rattle.std.proofs.Common.{rules, ◌≡◌, ℕ, ◌<◌, List, length, ap, ◌∙◌, subst, sym}
+use Rattle.std.proofs.lemmas.List.{get_or_default}
+use Rattle.std.proofs.lemmas.Result.{err_from_is_err_and}
+use Rattle.geo_base.specs.Client.{Client}
+use Rattle.links.specs.declared.name.LinkName.TheVariants as name
+use Rattle.world.specs.ClientSteps.{client_in, no_client}
+use Rattle.world.specs.World.{WorldBook}
+use Rattle.world.proofs.ClientEvents.{client_below}
+use Rattle.world.proofs.Getting.{got_clock, got_stamp, leads_get, leads_large}
+use Rattle.world.proofs.world.World.client_gets.Goals as goal
+
+pub returns-in_err-one_more-clause-leads : goal.returns-in_err-one_more-clause-leads
+returns-in_err-one_more-clause-leads c w reached stands =
+    let p = err_from_is_err_and c.from_residual.result c.from_residual.ensures.1 in
+    rw (p.1, p.2) (leads_large c.args.scenario.now.setup c.args.self.now c.args.self.now w c.args.client c.in_err-one_more.field-0.0 c.requires.client stands c.in_err-one_more.ensures.large)
+
+pub counts_get-requires-clause-clock : goal.counts_get-requires-clause-clock
+counts_get-requires-clause-clock c =
+    got_clock c.args.scenario.now.setup c.args.self.now _ _ _ c.args.client _ _ c.requires.at c.requires.client c.in_ok-took.ensures.ok
+
+pub counts_get-requires-clause-stamp : goal.counts_get-requires-clause-stamp
+counts_get-requires-clause-stamp c = got_stamp c.args.scenario.now.setup c.args.self.now _ _ _ c.args.client _ _ c.requires.at c.in_ok-took.ensures.ok
+
+pub returns-clause-leads : goal.returns-clause-leads
+returns-clause-leads c w reached stands =
+    let s = c.args.scenario.now.setup in let old = c.args.self.now in let n : ℕ = c.args.client in
+    let lt : n < length old.clients = client_below s old n c.requires.at c.requires.client in
+    let clients : c.self.inside.clients.items ≡ old.clients = ap (λ (b : WorldBook). b.clients) c.self.view_is in
+    let within : n < length c.self.inside.clients.items = subst (λ (ms : List Client). n < length ms) (sym clients) lt in
+    let here : c.index.result.now ≡ client_in old.clients n =
+    c.index.ensures ∙ get_or_default c.self.inside.clients.items n _ no_client within ∙ ap (λ (ms : List Client). client_in ms n) clients in
+    let seen : c.view-cluster.result.cluster ≡ c.index.result.now.cluster = first_of (search rules, cc) in
+    leads_get s old c.get_at.new.self c.counts_get.new.self w n c.site_of-site.result (name.ToClient n c.view-cluster.result.cluster) c.in_ok-took.took tt c.requires.at c.requires.client
+    reached stands c.site_of-site.ensures.setup c.site_of-site.ensures.declared
+    (ap (λ (x : ℕ). name.ToClient n x) (seen ∙ ap (λ (k : Client). k.cluster) here)) c.in_ok-took.ensures.ok c.counts_get.ensures c.in_ok-one_more.ensures.within

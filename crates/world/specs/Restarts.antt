@@ -1,0 +1,20 @@
+-- How a stop of everything leaves the brokers.
+use Rattle.std.specs.Prelude.{◌≡◌}
+use Rattle.geo_base.specs.Plan.{done}
+use Rattle.geo_base.specs.Seeking.{restart}
+use Rattle.broker_plans.specs.Prepared.{MarkerFits}
+use Rattle.broker.specs.Node.{NodeBook, SameNode}
+
+-- the number of the next own marker has room, as before each event of a broker
+abbrev pub CanRestart : NodeBook → Type 0
+CanRestart v = MarkerFits v.site v.broker
+
+-- a broker that may have other room
+pub record IsSame (old new : NodeBook) : Type 0 where
+  pub node : SameNode old new
+  pub broker : new.broker ≡ old.broker
+
+-- a broker that has started again
+pub record IsRestarted (old new : NodeBook) : Type 0 where
+  pub node : SameNode old new
+  pub broker : new.broker ≡ done old.site.per_ledger old.broker restart

@@ -1,0 +1,184 @@
+//! An event of a broker: prepared there, its packets delivered, committed.
+ghost use Rattle.std.specs.Prelude.{◌≡◌, ℕ, ◌<◌, ◌+◌, ◌^◌, length, IfOk, OnErr, OnOk, None, Some, Err};
+ghost use Rattle.geo_base.specs.Happening.{happens};
+ghost use Rattle.geo_base.specs.World.{World as Machine};
+ghost use Rattle.world.specs.declared.fault.RunFault.TheVariants as fault;
+ghost use Rattle.world.specs.Steps.{IsCommitted, IsFinished, IsSetNode, Leads, PreparesAt, done_at, wire_outs};
+ghost use Rattle.world.specs.World.{AreNodes, IsAt, IsWithin, SameWorld, kept_of, node_at};
+ghost use Rattle.script_text.specs.Scenario.{IsEvent};
+ghost use Rattle.broker.specs.Events.{IsOfNode, NumbersRise};
+ghost use Rattle.broker.specs.Node.{IsReady};
+ghost use Rattle.links.specs.Queues.{bytes_of};
+ghost use Rattle.world_kept.specs.Events.{IsBrokers};
+ghost use Rattle.world_kept.specs.Kept.{stamp_at};
+ghost use Rattle.world_kept.specs.Standing.{Stands, limit_of};
+ghost use Rattle.world_kept.specs.Reached.{Reached};
+
+use crate::fault::RunFault;
+use crate::place::{Place, place_of};
+use crate::world::{World, node_number};
+use broker::LinkPacket;
+use broker_state::{Outgoing, Prepared};
+use geo_base::limits::{EVENTS, SENT_BYTES};
+use geo_base::{Event, Memory, Stamp};
+use links::{LinkName, WireOut, frame_bytes};
+use script_text::Scenario;
+use std::alloc::Global;
+
+/// The limit on events and idle events together.
+pub(crate) const EVENT_LIMIT: u64 = 2;
+
+/// The limit on the bytes of all frames.
+pub(crate) const BYTE_LIMIT: u64 = 3;
+
+impl World {
+    /// An event of a broker.
+    #[tactic(auto, using(crate::proofs::Places::topic_below, crate::proofs::Places::cluster_below, crate::proofs::Places::number_of, crate::proofs::Places::number_below, crate::proofs::Places::number_rises, crate::proofs::Places::mid_below, crate::proofs::Places::mid_clock, crate::proofs::Places::mid_within, crate::proofs::Places::mid_stamp, crate::proofs::Leading::wants, crate::proofs::Leading::leads_idle, crate::proofs::Leading::leads_done, crate::proofs::Leading::nodes_idle, crate::proofs::Leading::nodes_done, crate::proofs::Leading::same_err))]
+    pub(crate) fn broker_event(
+        &mut self,
+        alloc: Global,
+        scenario: &Scenario,
+        event: &Event,
+    ) -> Result<(), RunFault>
+        requires at { IsAt scenario.now.setup self.old }
+        requires broker { IsBrokers event.now }
+        requires scripted { IsEvent scenario.now.setup event.now }
+        ensures leads { (w : Machine) → Reached scenario.now.setup w → Stands scenario.now.setup (kept_of self.old) w
+            → Leads scenario.now.setup self.old self.new (happens scenario.now.setup w event.now) result }
+        ensures nodes { AreNodes scenario.now.setup self.new.nodes }
+        ensures err { OnErr result (SameWorld self.old self.new) }
+    {
+        let place = place_of(scenario, event);
+        let number = node_number(scenario, place.topic, place.cluster);
+        let prepared = self.prepare_at(alloc, number, event, place.takes)?;
+        if prepared.is_idle() {
+            return self.idles();
+        }
+        self.finish_at(alloc, place, number, prepared)
+    }
+
+    /// What an event will do at a broker, with the packet that it takes.
+    #[tactic(auto, using(crate::proofs::Nodes::same_world, crate::proofs::Nodes::ready_there, crate::proofs::Nodes::prepares_none, crate::proofs::Nodes::prepares_some))]
+    pub(crate) fn prepare_at(
+        &mut self,
+        alloc: Global,
+        number: usize,
+        event: &Event,
+        takes: Option<LinkName>,
+    ) -> Result<Prepared, Memory>
+        requires node { number < length self.old.nodes }
+        requires of { IsOfNode (node_at self.old.nodes number) event.now }
+        requires numbers { NumbersRise (node_at self.old.nodes number) event.now }
+        ensures prepared { IfOk result (PreparesAt self.old number takes event.now) }
+        ensures ready { IfOk result (IsReady (node_at self.new.nodes number)) }
+        ensures same { SameWorld self.old self.new }
+    {
+        match self.links.next(takes) {
+            None => self.nodes[number].prepare(alloc, event, None),
+            Some(packet) => {
+                let input = LinkPacket::new(packet.session, packet.stamp, packet.frame.as_slice());
+                self.nodes[number].prepare(alloc, event, Some(&input))
+            }
+        }
+    }
+
+    /// An event that is not enabled: it is counted.
+    #[tactic(auto, using(crate::proofs::Limits::one_more, crate::proofs::Limits::too_many))]
+    pub(crate) fn idles(&mut self) -> Result<(), RunFault>
+        requires { IsWithin self.old }
+        ensures ok { OnOk result (self.new ≡ record self.old { idle = self.old.idle + 1 }) }
+        ensures within { OnOk result (limit_of self.old.events (self.old.idle + 1) self.old.frame_bytes ≡ None) }
+        ensures large { (n : ℕ) → result ≡ Err (fault.TooLarge n) → limit_of self.old.events (self.old.idle + 1) self.old.frame_bytes ≡ Some n }
+        ensures err { OnErr result (self.new ≡ self.old) }
+    {
+        if self.counts.events + self.counts.idle >= EVENTS {
+            return Err(RunFault::TooLarge(EVENT_LIMIT));
+        }
+        self.counts.idle += 1;
+        Ok(())
+    }
+
+    /// Sends what was prepared at a broker, takes its packet and does it; nothing of all that where a limit would be passed, or
+    /// memory is wanting.
+    pub(crate) fn finish_at(
+        &mut self,
+        alloc: Global,
+        place: Place,
+        number: usize,
+        prepared: Prepared,
+    ) -> Result<(), RunFault>
+        requires node { number < length self.old.nodes }
+        requires clock { number < length self.old.broker_clocks }
+        requires ready { IsReady (node_at self.old.nodes number) prepared }
+        requires within { IsWithin self.old }
+        requires stamp { stamp_at self.old.broker_clocks number self.old.links place.takes < 2 ^ 64 }
+        ensures ok { OnOk result (IsFinished place number prepared self.old self.new) }
+        ensures within { OnOk result (limit_of (self.old.events + 1) self.old.idle (self.old.frame_bytes + bytes_of (wire_outs prepared.sent)) ≡ None) }
+        ensures large { (n : ℕ) → result ≡ Err (fault.TooLarge n) → limit_of (self.old.events + 1) self.old.idle (self.old.frame_bytes + bytes_of (wire_outs prepared.sent)) ≡ Some n }
+        ensures err { OnErr result (self.new ≡ self.old) }
+    {
+        let mut prepared = prepared;
+        let sent = wire_outs(alloc, prepared.take_sent(alloc))?;
+        let bytes = self.bytes_after(sent.as_slice())?;
+        let stamp = self.stamp_at(number, place.takes);
+        self.links.deliver(place.sender(), Stamp::new(stamp), sent)?;
+        self.commit_at(place, number, prepared, stamp);
+        self.counts.frame_bytes = bytes;
+        Ok(())
+    }
+
+    /// Takes the packet of an event whose packets were delivered, and does what was prepared.
+    #[tactic(auto, using(crate::proofs::Nodes::set_node))]
+    fn commit_at(&mut self, place: Place, number: usize, prepared: Prepared, stamp: u64)
+        requires node { number < length self.old.nodes }
+        requires clock { number < length self.old.broker_clocks }
+        requires ready { IsReady (node_at self.old.nodes number) prepared }
+        requires count { self.old.events + 1 < 2 ^ 64 }
+        ensures nodes { IsSetNode self.old.nodes self.new.nodes number (done_at (node_at self.old.nodes number) prepared) }
+        ensures rest { IsCommitted place number stamp self.old self.new }
+    {
+        let _taken = self.links.take(place.takes);
+        self.nodes[number].commit(prepared);
+        self.broker_clocks[number] = stamp;
+        self.counts.events += 1;
+    }
+
+    /// The bytes of all frames with these, where one more event is within the limits.
+    #[tactic(auto, using(crate::proofs::Limits::more_bytes, crate::proofs::Limits::too_many_events, crate::proofs::Limits::too_many_bytes))]
+    pub(crate) fn bytes_after(&self, sent: &[WireOut]) -> Result<u64, RunFault>
+        requires { IsWithin self.now }
+        ensures ok { IfOk result (λ n. n ≡ self.now.frame_bytes + bytes_of sent.now) }
+        ensures within { OnOk result (limit_of (self.now.events + 1) self.now.idle (self.now.frame_bytes + bytes_of sent.now) ≡ None) }
+        ensures large { (n : ℕ) → result ≡ Err (fault.TooLarge n) → limit_of (self.now.events + 1) self.now.idle (self.now.frame_bytes + bytes_of sent.now) ≡ Some n }
+    {
+        let more = frame_bytes(sent)?;
+        if self.counts.events + self.counts.idle >= EVENTS {
+            return Err(RunFault::TooLarge(EVENT_LIMIT));
+        }
+        if more > SENT_BYTES - self.counts.frame_bytes {
+            return Err(RunFault::TooLarge(BYTE_LIMIT));
+        }
+        Ok(self.counts.frame_bytes + more)
+    }
+
+    /// The stamp of an event at a broker: 1 plus the greater of its last one and that of the packet that it takes.
+    fn stamp_at(&self, number: usize, takes: Option<LinkName>) -> u64
+        requires clock { number < length self.now.broker_clocks }
+        requires fits { stamp_at self.now.broker_clocks number self.now.links takes < 2 ^ 64 }
+        ensures { result ≡ stamp_at self.now.broker_clocks number self.now.links takes }
+    {
+        1 + self.broker_clocks[number].max(self.links.stamp(takes))
+    }
+}
+
+/// The packets of an event as links take them.
+pub(crate) fn wire_outs(alloc: Global, sent: Vec<Outgoing>) -> Result<Vec<WireOut>, Memory>
+    ensures { IfOk result (λ os. os.items ≡ wire_outs sent.items) }
+{
+    let mut outs = Vec::new(alloc);
+    for out in sent {
+        let Outgoing { to, session, frame } = out;
+        outs.push(WireOut { to, session, frame })?;
+    }
+    Ok(outs)
+}

@@ -1,0 +1,167 @@
+//! An event of a client: prepared there, its packets delivered, committed.
+ghost use Rattle.std.specs.Prelude.{◌≡◌, ℕ, ◌<◌, ◌+◌, ◌^◌, length, true, IfOk, OnErr, OnOk, None, Some, Err, slice_set};
+ghost use Rattle.std.specs.List.{list_all};
+ghost use Rattle.client.specs.Changing.{ClientFits, client_after};
+ghost use Rattle.client.specs.Site.{is_short_line, known_setup};
+ghost use Rattle.geo_base.specs.declared.event.Event.TheVariants as event;
+ghost use Rattle.geo_base.specs.Happening.{happens};
+ghost use Rattle.geo_base.specs.Setup.{declared_at};
+ghost use Rattle.geo_base.specs.World.{World as Machine};
+ghost use Rattle.world.specs.ClientSteps.{IsSent, client_in, client_outs};
+ghost use Rattle.world.specs.declared.fault.RunFault.TheVariants as fault;
+ghost use Rattle.world.specs.Steps.{Leads};
+ghost use Rattle.world.specs.World.{AreNodes, IsAt, IsWithin, kept_of};
+ghost use Rattle.links.specs.Queues.{bytes_of};
+ghost use Rattle.world_kept.specs.Kept.{stamp_at};
+ghost use Rattle.world_kept.specs.Standing.{Stands, limit_of};
+ghost use Rattle.world_kept.specs.Reached.{Reached};
+
+use crate::fault::RunFault;
+use crate::world::World;
+use client::{ClientSite, Outgoing, Prepared};
+use geo_base::{Memory, Stamp};
+use links::{LinkName, Node, WireOut};
+use script_text::{ClientDecl, Scenario};
+use std::alloc::Global;
+
+impl World {
+    /// A client does what its next line says, or can't yet.
+    #[tactic(auto, using(crate::proofs::ClientEvents::client_below, crate::proofs::ClientEvents::clock_below, crate::proofs::ClientEvents::can_count, crate::proofs::ClientEvents::stamp_fits, crate::proofs::Places::at_within, crate::proofs::Leading::wants, crate::proofs::ClientEvents::leads_go, crate::proofs::ClientEvents::rests_go, crate::proofs::ClientEvents::nodes_sent, crate::proofs::ClientEvents::nodes_idle))]
+    pub(crate) fn client_goes(
+        &mut self,
+        alloc: Global,
+        scenario: &Scenario,
+        client: u32,
+    ) -> Result<(), RunFault>
+        requires at { IsAt scenario.now.setup self.old }
+        requires client { client < length scenario.now.setup.clients }
+        ensures leads { (w : Machine) → Reached scenario.now.setup w → Stands scenario.now.setup (kept_of self.old) w
+            → Leads scenario.now.setup self.old self.new (happens scenario.now.setup w (event.Go client)) result }
+        ensures nodes { AreNodes scenario.now.setup self.new.nodes }
+        ensures err { OnErr result (self.new ≡ self.old) }
+    {
+        let site = site_of(scenario, client);
+        let prepared = self.clients[client as usize].prepare_go(alloc, &site)?;
+        if prepared.is_idle() {
+            return self.idles();
+        }
+        self.client_sends(alloc, client, prepared)
+    }
+
+    /// A client connects again where its connection was lost.
+    #[tactic(auto, using(crate::proofs::ClientEvents::client_below, crate::proofs::ClientEvents::clock_below, crate::proofs::ClientEvents::can_count, crate::proofs::ClientEvents::stamp_fits, crate::proofs::Places::at_within, crate::proofs::Leading::wants, crate::proofs::ClientEvents::leads_reconnect, crate::proofs::ClientEvents::rests_reconnect, crate::proofs::ClientEvents::nodes_sent, crate::proofs::ClientEvents::nodes_idle))]
+    pub(crate) fn client_reconnects(
+        &mut self,
+        alloc: Global,
+        scenario: &Scenario,
+        client: u32,
+    ) -> Result<(), RunFault>
+        requires at { IsAt scenario.now.setup self.old }
+        requires client { client < length scenario.now.setup.clients }
+        ensures leads { (w : Machine) → Reached scenario.now.setup w → Stands scenario.now.setup (kept_of self.old) w
+            → Leads scenario.now.setup self.old self.new (happens scenario.now.setup w (event.Reconnect client)) result }
+        ensures nodes { AreNodes scenario.now.setup self.new.nodes }
+        ensures err { OnErr result (self.new ≡ self.old) }
+    {
+        let site = site_of(scenario, client);
+        let prepared = self.clients[client as usize].prepare_reconnect(alloc, &site)?;
+        if prepared.is_idle() {
+            return self.idles();
+        }
+        self.client_sends(alloc, client, prepared)
+    }
+
+    /// Sends what was prepared at a client, and does it; nothing of all that where a limit would be passed, or memory is wanting.
+    fn client_sends(
+        &mut self,
+        alloc: Global,
+        client: u32,
+        prepared: Prepared,
+    ) -> Result<(), RunFault>
+        requires client { client < length self.old.clients }
+        requires clock { client < length self.old.client_clocks }
+        requires fits { ClientFits prepared.change (client_in self.old.clients client) }
+        requires within { IsWithin self.old }
+        requires stamp { stamp_at self.old.client_clocks client self.old.links None < 2 ^ 64 }
+        ensures ok { OnOk result (IsSent client prepared self.old self.new) }
+        ensures within { OnOk result (limit_of (self.old.events + 1) self.old.idle (self.old.frame_bytes + bytes_of (client_outs prepared.sent)) ≡ None) }
+        ensures large { (n : ℕ) → result ≡ Err (fault.TooLarge n) → limit_of (self.old.events + 1) self.old.idle (self.old.frame_bytes + bytes_of (client_outs prepared.sent)) ≡ Some n }
+        ensures err { OnErr result (self.new ≡ self.old) }
+    {
+        let mut prepared = prepared;
+        let sent = client_outs(alloc, prepared.take_sent(alloc))?;
+        let bytes = self.bytes_after(sent.as_slice())?;
+        let stamp = self.client_stamp(client, None);
+        self.links
+            .deliver(Node::Client { client }, Stamp::new(stamp), sent)?;
+        self.client_commits(client, prepared, stamp);
+        self.counts.frame_bytes = bytes;
+        Ok(())
+    }
+
+    /// Does what was prepared at a client whose packets were delivered.
+    fn client_commits(&mut self, client: u32, prepared: Prepared, stamp: u64)
+        requires client { client < length self.old.clients }
+        requires clock { client < length self.old.client_clocks }
+        requires fits { ClientFits prepared.change (client_in self.old.clients client) }
+        requires count { self.old.events + 1 < 2 ^ 64 }
+        ensures { self.new ≡ record self.old {
+          clients = slice_set self.old.clients client (client_after prepared.change (client_in self.old.clients client));
+          client_clocks = slice_set self.old.client_clocks client stamp;
+          events = self.old.events + 1;
+        } }
+    {
+        self.clients[client as usize].commit(prepared);
+        self.client_clocks[client as usize] = stamp;
+        self.counts.events += 1;
+    }
+
+    /// The stamp of an event at a client: 1 plus the greater of its last one and that of the packet that it takes.
+    pub(crate) fn client_stamp(&self, client: u32, takes: Option<LinkName>) -> u64
+        requires clock { client < length self.now.client_clocks }
+        requires fits { stamp_at self.now.client_clocks client self.now.links takes < 2 ^ 64 }
+        ensures { result ≡ stamp_at self.now.client_clocks client self.now.links takes }
+    {
+        1 + self.client_clocks[client as usize].max(self.links.stamp(takes))
+    }
+}
+
+/// What a client knows.
+#[tactic(auto, using(crate::proofs::ClientEvents::short_lines, crate::proofs::ClientEvents::few_clusters, crate::proofs::ClientEvents::names_are))]
+pub(crate) fn site_of(scenario: &Scenario, client: u32) -> ClientSite<'_>
+    requires { client < length scenario.now.setup.clients }
+    ensures setup { result.setup ≡ known_setup scenario.now.setup.clusters scenario.now.setup.topics }
+    ensures declared { result.declared ≡ declared_at scenario.now.setup client }
+{
+    let declared = declared_of(scenario, client);
+    ClientSite::new(
+        scenario.clusters(),
+        scenario.topics(),
+        declared.name(),
+        declared.topic(),
+        declared.cluster(),
+        declared.lines(),
+    )
+}
+
+/// What a script declares of a client.
+#[tactic(auto, using(crate::proofs::ClientEvents::lines_short))]
+fn declared_of(scenario: &Scenario, client: u32) -> &ClientDecl
+    requires { client < length scenario.now.setup.clients }
+    ensures declared { result.now ≡ declared_at scenario.now.setup client }
+    ensures lines { list_all is_short_line (declared_at scenario.now.setup client).lines ≡ true }
+{
+    &scenario.clients()[client as usize]
+}
+
+/// The packets of an event of a client as links take them.
+fn client_outs(alloc: Global, sent: Vec<Outgoing>) -> Result<Vec<WireOut>, Memory>
+    ensures { IfOk result (λ os. os.items ≡ client_outs sent.items) }
+{
+    let mut outs = Vec::new(alloc);
+    for out in sent {
+        let Outgoing { to, session, frame } = out;
+        outs.push(WireOut { to, session, frame })?;
+    }
+    Ok(outs)
+}

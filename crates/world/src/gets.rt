@@ -1,0 +1,88 @@
+//! A client takes a packet.
+ghost use Rattle.std.specs.Prelude.{◌≡◌, ◌<◌, ◌+◌, ◌^◌, length, IfOk, OnErr, OnOk, Some};
+ghost use Rattle.client.specs.Counted.{CanCount};
+ghost use Rattle.geo_base.specs.declared.event.Event.TheVariants as event;
+ghost use Rattle.geo_base.specs.Happening.{happens};
+ghost use Rattle.geo_base.specs.World.{World as Machine};
+ghost use Rattle.world.specs.ClientSteps.{IsGot, after_got, client_in};
+ghost use Rattle.world.specs.Steps.{Leads};
+ghost use Rattle.world.specs.World.{AreNodes, IsAt, kept_of};
+ghost use Rattle.world_kept.specs.Kept.{stamp_at};
+ghost use Rattle.world_kept.specs.Standing.{Stands};
+ghost use Rattle.world_kept.specs.Reached.{Reached};
+
+use crate::clients::site_of;
+use crate::fault::RunFault;
+use crate::world::World;
+use client::{ClientSite, Incoming};
+use geo_base::Memory;
+use links::LinkName;
+use script_text::Scenario;
+use std::alloc::Global;
+
+impl World {
+    /// A client takes the next packet that the broker of its cluster sent to it, or finds none.
+    #[tactic(auto, using(crate::proofs::ClientEvents::client_below, crate::proofs::ClientEvents::can_count, crate::proofs::Places::at_within, crate::proofs::Leading::wants, crate::proofs::Getting::leads_get, crate::proofs::Getting::leads_large, crate::proofs::Getting::nodes_got, crate::proofs::Getting::nodes_still, crate::proofs::Getting::got_clock, crate::proofs::Getting::got_stamp, crate::proofs::Getting::got_events, crate::proofs::Getting::got_idle))]
+    pub(crate) fn client_gets(
+        &mut self,
+        alloc: Global,
+        scenario: &Scenario,
+        client: u32,
+    ) -> Result<(), RunFault>
+        requires at { IsAt scenario.now.setup self.old }
+        requires client { client < length scenario.now.setup.clients }
+        ensures leads { (w : Machine) → Reached scenario.now.setup w → Stands scenario.now.setup (kept_of self.old) w
+            → Leads scenario.now.setup self.old self.new (happens scenario.now.setup w (event.Get client)) result }
+        ensures nodes { AreNodes scenario.now.setup self.new.nodes }
+        ensures err { OnErr result (self.new ≡ self.old) }
+    {
+        self.one_more()?;
+        let site = site_of(scenario, client);
+        let cluster = self.clients[client as usize].view().cluster;
+        let link = LinkName::ToClient { client, cluster };
+        let took = self.get_at(alloc, &site, client, link)?;
+        self.counts_get(client, link, took);
+        Ok(())
+    }
+
+    /// What a packet does at a client, which stays on its link; whether there was one.
+    #[tactic(auto, using(crate::proofs::Getting::got_none, crate::proofs::Getting::got_some, crate::proofs::Getting::not_got))]
+    fn get_at(
+        &mut self,
+        alloc: Global,
+        site: &ClientSite,
+        client: u32,
+        link: LinkName,
+    ) -> Result<bool, Memory>
+        requires client { client < length self.old.clients }
+        requires counts { CanCount (client_in self.old.clients client) }
+        ensures ok { IfOk result (IsGot site.now.setup.clusters site.now.declared client link self.old self.new) }
+        ensures err { OnErr result (self.new ≡ self.old) }
+    {
+        match self.links.next(Some(link)) {
+            None => self.clients[client as usize].get(alloc, site, None),
+            Some(packet) => {
+                let input = Incoming::new(packet.session, packet.frame.as_slice());
+                self.clients[client as usize].get(alloc, site, Some(&input))
+            }
+        }
+    }
+
+    /// The packet is taken, and the event counted, or the idle one.
+    fn counts_get(&mut self, client: u32, link: LinkName, took: bool)
+        requires clock { client < length self.old.client_clocks }
+        requires stamp { stamp_at self.old.client_clocks client self.old.links (Some link) < 2 ^ 64 }
+        requires events { self.old.events + 1 < 2 ^ 64 }
+        requires idle { self.old.idle + 1 < 2 ^ 64 }
+        ensures { self.new ≡ after_got client link took self.old }
+    {
+        if !took {
+            self.counts.idle += 1;
+            return;
+        }
+        let stamp = self.client_stamp(client, Some(link));
+        let _taken = self.links.take(Some(link));
+        self.client_clocks[client as usize] = stamp;
+        self.counts.events += 1;
+    }
+}

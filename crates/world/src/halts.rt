@@ -1,0 +1,112 @@
+//! A stop of a broker in the midst of an event's durable writes.
+ghost use Rattle.std.specs.Prelude.{◌≡◌, ℕ, ◌<◌, ◌+◌, ◌^◌, length, OnErr, OnOk, None, Some, Err};
+ghost use Rattle.geo_base.specs.Happening.{halts_planned};
+ghost use Rattle.geo_base.specs.Planned.{planned};
+ghost use Rattle.geo_base.specs.World.{World as Machine};
+ghost use Rattle.world.specs.declared.fault.RunFault.TheVariants as fault;
+ghost use Rattle.world.specs.Steps.{IsHalted, IsStopped, Leads};
+ghost use Rattle.world.specs.World.{AreNodes, IsAt, IsWithin, SameWorld, kept_of, node_at};
+ghost use Rattle.script_text.specs.Scenario.{IsEvent};
+ghost use Rattle.broker.specs.Events.{IsOfNode, NumbersRise};
+ghost use Rattle.world_kept.specs.Events.{IsBrokers};
+ghost use Rattle.world_kept.specs.Standing.{Stands, limit_of};
+ghost use Rattle.world_kept.specs.Reached.{Reached};
+
+use crate::brokers::EVENT_LIMIT;
+use crate::fault::RunFault;
+use crate::place::place_of;
+use crate::world::{World, node_number};
+use broker::LinkPacket;
+use geo_base::limits::EVENTS;
+use geo_base::{Event, Memory};
+use links::LinkName;
+use script_text::Scenario;
+use std::alloc::Global;
+
+impl World {
+    /// A stop of a broker behind the first `writes` durable writes of an event.
+    #[tactic(auto, using(crate::proofs::Places::topic_below, crate::proofs::Places::cluster_below, crate::proofs::Places::number_of, crate::proofs::Places::number_below, crate::proofs::Places::number_rises, crate::proofs::Places::at_within, crate::proofs::Halting::leads_large, crate::proofs::Halting::leads_halted, crate::proofs::Halting::nodes_halted, crate::proofs::Halting::nodes_same, crate::proofs::Halting::same_still, crate::proofs::Leading::wants))]
+    pub(crate) fn broker_halt(
+        &mut self,
+        alloc: Global,
+        scenario: &Scenario,
+        writes: u32,
+        event: &Event,
+    ) -> Result<(), RunFault>
+        requires at { IsAt scenario.now.setup self.old }
+        requires broker { IsBrokers event.now }
+        requires scripted { IsEvent scenario.now.setup event.now }
+        ensures leads { (w : Machine) → Reached scenario.now.setup w → Stands scenario.now.setup (kept_of self.old) w
+            → Leads scenario.now.setup self.old self.new (halts_planned scenario.now.setup w writes (planned scenario.now.setup w event.now)) result }
+        ensures nodes { AreNodes scenario.now.setup self.new.nodes }
+        ensures err { OnErr result (SameWorld self.old self.new) }
+    {
+        let place = place_of(scenario, event);
+        let number = node_number(scenario, place.topic, place.cluster);
+        self.one_more()?;
+        self.stop_at(alloc, number, writes, event, place.takes)?;
+        Ok(())
+    }
+
+    /// Whether one more event is within the limits; it changes nothing.
+    #[tactic(auto, using(crate::proofs::Limits::more_events, crate::proofs::Limits::too_many_events))]
+    pub(crate) fn one_more(&self) -> Result<(), RunFault>
+        requires { IsWithin self.now }
+        ensures within { OnOk result (limit_of (self.now.events + 1) self.now.idle self.now.frame_bytes ≡ None) }
+        ensures large { (n : ℕ) → result ≡ Err (fault.TooLarge n) → limit_of (self.now.events + 1) self.now.idle self.now.frame_bytes ≡ Some n }
+        ensures fits { OnOk result (self.now.events + 1 < 2 ^ 64) }
+    {
+        if self.counts.events + self.counts.idle >= EVENTS {
+            return Err(RunFault::TooLarge(EVENT_LIMIT));
+        }
+        Ok(())
+    }
+
+    /// The stop, with the packet that the event takes; nothing has changed where memory is wanting.
+    #[tactic(auto, using(crate::proofs::Halting::stopped))]
+    fn stop_at(
+        &mut self,
+        alloc: Global,
+        number: usize,
+        writes: u32,
+        event: &Event,
+        takes: Option<LinkName>,
+    ) -> Result<(), Memory>
+        requires node { number < length self.old.nodes }
+        requires of { IsOfNode (node_at self.old.nodes number) event.now }
+        requires numbers { NumbersRise (node_at self.old.nodes number) event.now }
+        requires count { self.old.events + 1 < 2 ^ 64 }
+        ensures ok { OnOk result (IsStopped number takes event.now writes self.old self.new) }
+        ensures err { OnErr result (SameWorld self.old self.new) }
+    {
+        self.halt_at(alloc, number, writes, event, takes)?;
+        let _taken = self.links.take(takes);
+        self.counts.events += 1;
+        Ok(())
+    }
+
+    /// Halts the broker.
+    #[tactic(auto, using(crate::proofs::Halting::halted_none, crate::proofs::Halting::halted_some, crate::proofs::Halting::halt_same))]
+    fn halt_at(
+        &mut self,
+        alloc: Global,
+        number: usize,
+        writes: u32,
+        event: &Event,
+        takes: Option<LinkName>,
+    ) -> Result<(), Memory>
+        requires node { number < length self.old.nodes }
+        requires of { IsOfNode (node_at self.old.nodes number) event.now }
+        requires numbers { NumbersRise (node_at self.old.nodes number) event.now }
+        ensures ok { OnOk result (IsHalted number takes event.now writes self.old self.new) }
+        ensures err { OnErr result (SameWorld self.old self.new) }
+    {
+        match self.links.next(takes) {
+            None => self.nodes[number].halt(alloc, writes, event, None),
+            Some(packet) => {
+                let input = LinkPacket::new(packet.session, packet.stamp, packet.frame.as_slice());
+                self.nodes[number].halt(alloc, writes, event, Some(&input))
+            }
+        }
+    }
+}

@@ -1,0 +1,91 @@
+//! Which broker an event is of, and which link it takes from.
+ghost use Rattle.std.specs.Prelude.{◌≡◌, None};
+ghost use Rattle.world.specs.Steps.{place_at};
+ghost use Rattle.script_text.specs.Scenario.{IsEvent};
+ghost use Rattle.links.specs.declared.name.Node.TheVariants as node;
+ghost use Rattle.world_kept.specs.Events.{IsBrokers};
+
+use geo_base::Event;
+use links::{LinkName, Node};
+use script_text::Scenario;
+
+/// The broker of a topic at a cluster, and the link that its event takes from, if it takes from one.
+#[derive(Clone, Copy, Debug, Drop)]
+pub(crate) struct Place {
+    pub topic: u32,
+    pub cluster: u32,
+    pub takes: Option<LinkName>,
+}
+
+impl Place {
+    /// The broker, as one that sends.
+    pub(crate) fn sender(self) -> Node
+        ensures { result ≡ node.Broker self.topic self.cluster }
+    {
+        Node::Broker {
+            topic: self.topic,
+            cluster: self.cluster,
+        }
+    }
+}
+
+/// The place of an event of a broker.
+pub(crate) fn place_of(scenario: &Scenario, event: &Event) -> Place
+    requires broker { IsBrokers event.now }
+    requires scripted { IsEvent scenario.now.setup event.now }
+    ensures { result ≡ place_at scenario.now.setup event.now }
+{
+    match *event {
+        Event::Serve { cluster, client } => Place {
+            topic: scenario.clients()[client as usize].topic(),
+            cluster,
+            takes: Some(LinkName::ToBroker { client, cluster }),
+        },
+        Event::Drop { cluster, client } => at(scenario.clients()[client as usize].topic(), cluster),
+        Event::Take {
+            topic,
+            source,
+            target,
+            ..
+        } => Place {
+            topic,
+            cluster: target,
+            takes: Some(LinkName::Forward {
+                topic,
+                source,
+                target,
+            }),
+        },
+        Event::Receipt {
+            topic,
+            source,
+            target,
+            ..
+        } => Place {
+            topic,
+            cluster: source,
+            takes: Some(LinkName::Back {
+                topic,
+                source,
+                target,
+            }),
+        },
+        Event::Reset { topic, source, .. } | Event::Read { topic, source, .. } => at(topic, source),
+        Event::Snap { topic, cluster }
+        | Event::Offer { topic, cluster, .. }
+        | Event::Seek { topic, cluster, .. }
+        | Event::Restart { topic, cluster } => at(topic, cluster),
+        Event::Go { .. } | Event::Get { .. } | Event::Reconnect { .. } => unreachable!(),
+    }
+}
+
+/// An event that takes from no link.
+fn at(topic: u32, cluster: u32) -> Place
+    ensures { result ≡ record { topic = topic; cluster = cluster; takes = None } }
+{
+    Place {
+        topic,
+        cluster,
+        takes: None,
+    }
+}

@@ -1,0 +1,117 @@
+//! A world that goes on from the state that a file held.
+ghost use Rattle.std.specs.Prelude.{◌≡◌, ◌<◌, ◌≤◌, ◌*◌, ◌/◌, ◌%◌, [], length, map, IfOk};
+ghost use Rattle.client.specs.State.{stopped};
+ghost use Rattle.state_file.specs.Known.{IsKnownBehind, IsKnownState};
+ghost use Rattle.state_file.specs.State.{state_of};
+ghost use Rattle.state_items.specs.Fitting.{AllFit};
+ghost use Rattle.state_brokers.specs.Known.{IsKnownNode};
+ghost use Rattle.state_brokers.specs.Nodes.{broker_of};
+ghost use Rattle.world.specs.Saving.{AreRevived, IsRevived};
+ghost use Rattle.state_laws.specs.Saved.{world_from};
+ghost use Rattle.world.specs.World.{IsAt, kept_of};
+ghost use Rattle.world_kept.specs.Reached.{Reached};
+ghost use Rattle.world_kept.specs.Standing.{Stands};
+
+use crate::opening::{new_site, sub_names};
+use crate::world::{Counts, World};
+use broker::TopicNode;
+use client::{Client, ClientState};
+use geo_base::Memory;
+use links::Links;
+use script_text::Scenario;
+use state_brokers::NodeParts;
+use state_file::Saved;
+use std::alloc::Global;
+
+impl World {
+    /// What the declarations of a loaded state say, and the world that goes on from it: its brokers have started again, its clients
+    /// are not connected, no link was used, and each clock is at zero. An `Err` is want of memory; a topic of 2^32 entries counts as
+    /// that.
+    pub fn from_saved(alloc: Global, saved: Saved) -> Result<(Scenario, World), Memory>
+        requires known { IsKnownState (state_of saved) }
+        ensures scenario { IfOk result (λ x. x.0 ≡ saved.scenario) }
+        ensures at { IfOk result (λ x. IsAt saved.scenario.setup x.1) }
+        ensures reached { IfOk result (λ x. Reached saved.scenario.setup (world_from (state_of saved))) }
+        ensures stands { IfOk result (λ x. Stands saved.scenario.setup (kept_of x.1) (world_from (state_of saved))) }
+    {
+        let Saved {
+            scenario,
+            counts,
+            nodes,
+            clients,
+        } = saved;
+        let brokers = scenario.topics().len() * scenario.clusters().len();
+        let declared = scenario.clients().len();
+        let world = World {
+            nodes: revived_nodes(alloc, &scenario, nodes)?,
+            clients: resumed_clients(alloc, clients)?,
+            links: Links::new(
+                alloc,
+                scenario.topics().len(),
+                scenario.clusters().len(),
+                declared,
+            )?,
+            broker_clocks: vec![in alloc; 0; brokers]?,
+            client_clocks: vec![in alloc; 0; declared]?,
+            counts: Counts {
+                events: counts.events,
+                idle: counts.idle,
+                rounds: counts.rounds,
+                frame_bytes: counts.frame_bytes,
+            },
+        };
+        Ok((scenario, world))
+    }
+}
+
+/// The brokers of all topics, by topic and then by cluster, from what is durable of each.
+fn revived_nodes(
+    alloc: Global,
+    scenario: &Scenario,
+    parts: Vec<NodeParts>,
+) -> Result<Vec<TopicNode>, Memory>
+    requires known { AllFit (IsKnownBehind scenario.now.setup) [] (map broker_of parts.items) }
+    requires count { length parts.items ≡ length scenario.now.setup.topics * length scenario.now.setup.clusters }
+    ensures { IfOk result (λ vs. AreRevived scenario.now.setup (map broker_of parts.items) vs.items) }
+{
+    let mut nodes = Vec::new(alloc);
+    for part in parts {
+        let number = nodes.len();
+        nodes.push(revived_node(alloc, scenario, number, part)?)?;
+    }
+    Ok(nodes)
+}
+
+/// The broker of a number from what is durable of it.
+fn revived_node(
+    alloc: Global,
+    scenario: &Scenario,
+    number: usize,
+    part: NodeParts,
+) -> Result<TopicNode, Memory>
+    requires number { number < length scenario.now.setup.topics * length scenario.now.setup.clusters }
+    requires known { IsKnownNode scenario.now.setup.per_ledger scenario.now.setup.clusters (number % length scenario.now.setup.clusters) (broker_of part) }
+    ensures { IfOk result (λ v. IsRevived scenario.now.setup number (broker_of part) v) }
+{
+    let Ok(_few) = u32::try_from(part.entries.len()) else {
+        return Err(Memory);
+    };
+    let clusters = scenario.clusters().len();
+    let topic = (number / clusters) as u32;
+    let cluster = (number % clusters) as u32;
+    let site = new_site(alloc, scenario, topic, cluster)?;
+    let names = sub_names(alloc, scenario, topic)?;
+    let durable = part.into_durable(alloc, cluster, scenario.per_ledger())?;
+    TopicNode::from_durable(alloc, topic, site, names, durable, scenario.clients().len())
+}
+
+/// Clients from what a stop left of them.
+fn resumed_clients(alloc: Global, states: Vec<ClientState>) -> Result<Vec<Client>, Memory>
+    ensures { IfOk result (λ ks. ks.items ≡ map stopped states.items) }
+{
+    let mut clients = Vec::new(alloc);
+    for state in states {
+        clients.push(Client::from_state(alloc, state)?)?;
+    }
+    Ok(clients)
+}

@@ -1,0 +1,57 @@
+//! A run: the steps of a script, one after another.
+ghost use Rattle.std.specs.Prelude.{All};
+ghost use Rattle.geo_base.specs.Run.{all_limits, run_from, steps};
+ghost use Rattle.geo_base.specs.World.{World as Machine};
+ghost use Rattle.world.specs.Runs.{Comes, at_world};
+ghost use Rattle.world.specs.World.{IsAt, kept_of};
+ghost use Rattle.script_text.specs.Scenario.{IsStep};
+ghost use Rattle.world_kept.specs.Standing.{Stands};
+ghost use Rattle.world_kept.specs.Reached.{Reached};
+
+use crate::fault::RunFault;
+use crate::world::World;
+use geo_base::Step;
+use script_text::{Scenario, StepList};
+use std::alloc::Global;
+
+impl World {
+    /// Does steps of a script, one after another. The first one that does not come to its end is the last one: where a limit ends
+    /// the run, the world is that of the events done before.
+    pub fn run(
+        &mut self,
+        alloc: Global,
+        scenario: &Scenario,
+        steps: &StepList,
+    ) -> Result<(), RunFault>
+        requires at { IsAt scenario.now.setup self.old }
+        requires each { All (IsStep scenario.now.setup) steps.now }
+        ensures comes { (w : Machine) → Reached scenario.now.setup w → Stands scenario.now.setup (kept_of self.old) w
+            → Comes scenario.now.setup self.new (run_from all_limits scenario.now.setup (at_world w) steps.now) result }
+        ensures at { IsAt scenario.now.setup self.new }
+    {
+        for place in 0..steps.len() {
+            self.step(alloc, scenario, &steps.at(place))?;
+        }
+        Ok(())
+    }
+
+    /// Does a step of a script: an event, a stop of a broker in the midst of one, a stop of everything, or settling, of which a
+    /// limit may leave a part.
+    pub fn step(&mut self, alloc: Global, scenario: &Scenario, step: &Step) -> Result<(), RunFault>
+        requires at { IsAt scenario.now.setup self.old }
+        requires step { IsStep scenario.now.setup step.now }
+        ensures comes { (w : Machine) → Reached scenario.now.setup w → Stands scenario.now.setup (kept_of self.old) w
+            → Comes scenario.now.setup self.new (steps all_limits scenario.now.setup (at_world w) step.now) result }
+        ensures at { IsAt scenario.now.setup self.new }
+    {
+        match *step {
+            Step::Plain(event) => self.event(alloc, scenario, &event),
+            Step::Halt(writes, event) => self.halt(alloc, scenario, writes, &event),
+            Step::Settle => {
+                let _rounds = self.settle(alloc, scenario)?;
+                Ok(())
+            }
+            Step::Stop => self.stop(alloc, scenario),
+        }
+    }
+}

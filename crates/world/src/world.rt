@@ -1,0 +1,88 @@
+//! The world: its parts, how it begins, and what may be read of it.
+ghost use Rattle.std.specs.Prelude.{◌≡◌, ◌<◌, length, IfOk, slice_index_or};
+ghost use Rattle.geo_base.specs.World.{node};
+ghost use Rattle.script_text.specs.Scenario.{IsScenario};
+ghost use Rattle.world.specs.World.{AreNodes, IsAt, kept_of, node_at};
+ghost use Rattle.world_kept.specs.Kept.{opening_kept};
+
+use broker::TopicNode;
+use client::Client;
+use geo_base::Memory;
+use links::Links;
+use script_text::Scenario;
+use std::alloc::Global;
+use std::marker::Model;
+
+/// Brokers are numbered by topic and then by cluster, clients in the script's order. A clock is a node's last stamp.
+#[derive(Drop)]
+pub struct World {
+    pub(crate) nodes: Vec<TopicNode>,
+    pub(crate) clients: Vec<Client>,
+    pub(crate) links: Links,
+    pub(crate) broker_clocks: Vec<u64>,
+    pub(crate) client_clocks: Vec<u64>,
+    pub(crate) counts: Counts,
+}
+
+/// Events that were done, idle ones, rounds of settling, and the bytes of all frames that were sent.
+#[derive(Clone, Copy, Debug, Drop, PartialEq, Eq)]
+pub struct Counts {
+    pub events: u64,
+    pub idle: u64,
+    pub rounds: u64,
+    pub frame_bytes: u64,
+}
+
+impl Model for World {
+    ghost use Rattle.world.specs.World.{WorldBook};
+
+    ghost Value = { WorldBook };
+
+    ghost view = { λ w. record {
+      nodes = w.nodes.items;
+      clients = w.clients.items;
+      links = w.links;
+      broker_clocks = w.broker_clocks.items;
+      client_clocks = w.client_clocks.items;
+      events = w.counts.events;
+      idle = w.counts.idle;
+      rounds = w.counts.rounds;
+      frame_bytes = w.counts.frame_bytes;
+    } };
+}
+
+impl World {
+    /// What was counted so far.
+    pub fn counts(&self) -> Counts
+        ensures { result ≡ record { events = self.now.events; idle = self.now.idle; rounds = self.now.rounds; frame_bytes = self.now.frame_bytes } }
+    {
+        self.counts
+    }
+
+    /// The broker of a topic at a cluster.
+    pub fn topic(&self, scenario: &Scenario, topic: u32, cluster: u32) -> &TopicNode
+        requires nodes { AreNodes scenario.now.setup self.now.nodes }
+        requires topic { topic < length scenario.now.setup.topics }
+        requires cluster { cluster < length scenario.now.setup.clusters }
+        ensures { result.now ≡ node_at self.now.nodes (node scenario.now.setup topic cluster) }
+    {
+        &self.nodes[node_number(scenario, topic, cluster)]
+    }
+
+    /// The client of a number.
+    pub fn client(&self, client: u32) -> &Client
+        requires { client < length self.now.clients }
+        ensures { slice_index_or self.now.clients client result.now ≡ result.now }
+    {
+        &self.clients[client as usize]
+    }
+}
+
+/// The number of a broker among all.
+pub(crate) fn node_number(scenario: &Scenario, topic: u32, cluster: u32) -> usize
+    requires topic { topic < length scenario.now.setup.topics }
+    requires cluster { cluster < length scenario.now.setup.clusters }
+    ensures { result ≡ node scenario.now.setup topic cluster }
+{
+    topic as usize * scenario.clusters().len() + cluster as usize
+}
