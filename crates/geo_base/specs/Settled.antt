@@ -16,6 +16,7 @@ use Rattle.geo_base.specs.Entry.{is_data, same_ident}
 use Rattle.geo_base.specs.Link.{next_packet}
 use Rattle.geo_base.specs.Moments.{Moment, world_between}
 use Rattle.geo_base.specs.Name.{is_name}
+use Rattle.geo_base.specs.Planned.{has_sub}
 use Rattle.geo_base.specs.Run.{Limits, Ran, no_limits, steps}
 use Rattle.geo_base.specs.Setup.{Setup, declared_at, sub_name, topic_name}
 use Rattle.geo_base.specs.Subscribing.{most_subs}
@@ -115,7 +116,7 @@ settled_event s w t n (event.Serve x c) =
     else []
 settled_event s w t n (event.Seek u x m to) =
     let b = topic_at s w t x in
-    if (u == t) && nat_lt t (length s.topics) && nat_lt x (length s.clusters) && bytes_eq (sub_name s t m) n
+    if (u == t) && has_sub s t x m && bytes_eq (sub_name s t m) n
     then messages_at b.entries (settled_by_seek b to (sub_named b.subs n))
     else []
 settled_event s w t n e = []

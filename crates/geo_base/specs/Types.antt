@@ -1,4 +1,9 @@
 -- The types that code and definitions share, each under its own name; a variant is written behind the name of its type.
+--
+-- Letters mean the same in all modules: s a setup (what a script declares), w a world, h a site (what a broker knows of its place),
+-- b a broker, k a client, v a subscription, e an entry or an event, f a frame, p a packet or a plan, q a second one; t a topic's
+-- number, x and y clusters' numbers, x the one where it happens and y the other one, c a client's number, n a name's bytes, i an
+-- index of a topic, l limits. Behind a letter, s makes a list of it (es, ps, vs), and o is what may be None.
 pub use Rattle.geo_base.specs.declared.change.Change.{Change}
 pub use Rattle.geo_base.specs.declared.change.Change.TheVariants as change
 pub use Rattle.geo_base.specs.declared.client.Held.{Held}

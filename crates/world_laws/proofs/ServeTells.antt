@@ -4,7 +4,7 @@ use Rattle.std.proofs.Common.{◌≡◌, ℕ, zero, suc, ◌+◌, ◌≤◌, ◌
 use Rattle.std.specs.Prelude.{Option, Some, None, if◌then◌else◌, ◌&&◌, ◌||◌, is_none, is_some, nat_lt, slice_get}
 use Rattle.std.specs.List.{list_any, range_with_len}
 use Rattle.std.specs.Str.{bytes_eq}
-use Rattle.std.proofs.lemmas.Bool.{eq-eqb, eqb-true, false≢true, lt-ltb}
+use Rattle.std.proofs.lemmas.Bool.{eq-eqb, eqb-true, false≢true}
 use Rattle.std.proofs.lemmas.Bool.Decides.{nat_tests}
 use Rattle.std.proofs.lemmas.Option.{none-some, same_Some, slice_get_cases}
 use Rattle.std.proofs.lemmas.Slice.Eq.{bytes_eq-Decides}
@@ -20,7 +20,7 @@ use Rattle.geo_base.specs.Entry.{is_data, same_ident, same_stream}
 use Rattle.geo_base.specs.Link.{next_packet}
 use Rattle.geo_base.specs.Name.{is_name}
 use Rattle.geo_base.specs.Plan.{Plan}
-use Rattle.geo_base.specs.Planned.{in_range, planned, planned_in}
+use Rattle.geo_base.specs.Planned.{has_sub, in_range, planned, planned_in}
 use Rattle.geo_base.specs.Seeking.{seek_index}
 use Rattle.geo_base.specs.Serving.{serve}
 use Rattle.geo_base.specs.Settled.{IsSettled, SettledSoFar, acked_on, at_index, at_positions, below_index, first_indexes, is_created, is_session, messages_at, named_by_ack, serves_one, settled_by_command, settled_by_packet, settled_by_seek, settled_event, up_to_index, with_message}
@@ -37,10 +37,9 @@ use Rattle.world_laws.proofs.OnlyTold.{has_below, same_name, second_included}
 use Rattle.world_laws.proofs.Prefixes.{same_self}
 use Rattle.world_laws.proofs.QuietTells.{gains_none, updates_gain}
 use Rattle.world_laws.proofs.ServeWalk.{frame_served}
-use Rattle.world_laws.proofs.Sizes.{IsThere}
 use Rattle.world_laws.proofs.Shapes.{InSession, MayJoin, Seeks, Served}
 use Rattle.world_laws.proofs.Told.{IsTold, Tells, TellsAll, ToldOver, told_now, told_too}
-use Rattle.world_laws.proofs.Walk.{both, by_test, left, on_if, on_true, right}
+use Rattle.world_laws.proofs.Walk.{both, by_test, left, on_if, on_test, on_true, right}
 
 -- TESTS
 
@@ -271,15 +270,12 @@ pub serve_settles : (s : Setup) (w : World) (x c : ℕ) (n : List ℕ) → let t
 unfolding settled_event
 serve_settles s w x c n = let t = (declared_at s c).topic in on_true (t == t) _ [] (eq-eqb t t refl)
 
-pub seek_settles : (s : Setup) (w : World) (t x m : ℕ) (to : Option Position) → IsThere s t x → let b = topic_at s w t x in
+pub seek_settles : (s : Setup) (w : World) (t x m : ℕ) (to : Option Position) → has_sub s t x m ≡ true → let b = topic_at s w t x in
     settled_event s w t (sub_name s t m) (event.Seek t x m to) ≡ messages_at b.entries (settled_by_seek b to (sub_named b.subs (sub_name s t m)))
 unfolding settled_event
 seek_settles s w t x m to there =
-    let n = sub_name s t m in
-    let is_t = t == t in let has_t = nat_lt t (length s.topics) in let has_x = nat_lt x (length s.clusters) in
-    let one : (is_t && has_t) ≡ true = both is_t has_t (eq-eqb t t refl) (lt-ltb t (length s.topics) there.0) in
-    let two : (is_t && has_t && has_x) ≡ true = both (is_t && has_t) has_x one (lt-ltb x (length s.clusters) there.1) in
-    on_true (is_t && has_t && has_x && bytes_eq n n) _ [] (both (is_t && has_t && has_x) (bytes_eq n n) two (names_itself n))
+    let n = sub_name s t m in let is_t = t == t in let is_sub = has_sub s t x m in
+    on_true (is_t && is_sub && bytes_eq n n) _ [] (both (is_t && is_sub) (bytes_eq n n) (both is_t is_sub (eq-eqb t t refl) there) (names_itself n))
 
 -- what an event settles, added to what is told
 abbrev Now : Setup → SettledSoFar → World → Event → SettledSoFar
@@ -304,10 +300,10 @@ unfolding planned
 seek_tells s told w t x m to h =
     let e = event.Seek t x m to in let b = topic_at s w t x in let n = sub_name s t m in
     let now = Now s told w e in
-    on_if (TellsAll s w now) (in_range s e) (planned_in s w e) None
-    (λ short there.
+    on_test (TellsAll s w now) (in_range s e) (planned_in s w e) None
+    (λ within short there.
     seeks_tell now t s.per_ledger (site s t x) b n to _ (seek_shape (site s t x) b n to) ((told_now s told w h short).knows.answers t x there).numbered
     (λ i inside lt.
     indexes_told now t n b.entries (settled_by_seek b to (sub_named b.subs n))
-    (λ f among. second_included told (λ t n. settled_event s w t n e) t n f (subst (λ (l : List Ident). list_any (same_ident f.ident) l ≡ true) (sym (seek_settles s w t x m to there)) among)) i inside lt))
-    tt
+    (λ f among. second_included told (λ t n. settled_event s w t n e) t n f (subst (λ (l : List Ident). list_any (same_ident f.ident) l ≡ true) (sym (seek_settles s w t x m to within)) among)) i inside lt))
+    (λ out. tt)
