@@ -13,3 +13,8 @@ pub mod Told
 pub mod Shaped
 pub mod Events
 pub mod Traced
+pub mod Settling
+pub mod SettledEvents
+pub mod Strays
+pub mod SettledPlans
+pub mod SettledRuns

@@ -43,6 +43,7 @@ use Rattle.geo_base.specs.TraceItems.{Begins, Item}
 use Rattle.geo_base.specs.Traced.{acts_of, all_writes, cause_of, event_items, halt_items, items_from, planned_items, rounds_items, settling_items, step_items, told_at, traced, unless_ended}
 use Rattle.geo_base.specs.Mirror.{Mirrors, no_mirror, opening_mirrors, told}
 use Rattle.geo_base.specs.Audit.{Refusal, audited, audited_from, judged, refused}
+use Rattle.trace_laws.specs.Audited.{all_told}
 use Rattle.trace_laws.specs.Seen.{seen, world_seen}
 use Rattle.trace_laws.proofs.Events.{FreshIn, begins, PlannedHolds, Whole, changes_seen, planned_holds, told_planned, whole_take}
 use Rattle.cursor_acks.proofs.Sets.{Rising, rising_range, rising_with_indexes}
@@ -130,7 +131,7 @@ topic_in s scripted c here = by s.clients c scripted.clients.0 (ltb-true c (leng
         fits d h = grind (arith, nat_tests, h)
     by (d ∷ ds) (suc k) all lt = by ds k (right (is_declared s d) (list_all (is_declared s) ds) all) (omega (arith, lt))
 
-whole : (s : Setup) (w : World) → IsScripted s → Tracing s w → IsShort w → Whole s w
+pub whole : (s : Setup) (w : World) → IsScripted s → Tracing s w → IsShort w → Whole s w
 whole s w scripted h short =
     let knowing = h.0.0.0 in let knows = knows_now s w knowing short in
     record {
@@ -162,7 +163,7 @@ plan_told s w n e scripted h short =
 
 -- ---- one event
 
-abbrev Told : Setup → World → List Item → World → Type 0
+abbrev pub Told : Setup → World → List Item → World → Type 0
 Told s w items w' = audited_from s (world_seen w) items ≡ Ok (world_seen w')
 
 abbrev seen_all : List Broker → ℕ → Mirrors
@@ -301,12 +302,22 @@ told_both s a b (i ∷ is) js h = by (refused s a i) h (told_both s (told s a i)
     by None k ih = ih k
     by (Some rule) k ih = absurd (err_not_ok k)
 
+-- what accepted lines make
+pub told_is : (s : Setup) (a b : Mirrors) (is : List Item) → audited_from s a is ≡ Ok b → all_told s a is ≡ b
+told_is s a b [] h = ok_is h
+told_is s a b (i ∷ is) h = by (refused s a i) h (told_is s (told s a i) b is)
+  where
+    by : (o : Option ℕ) → judged a.events o (audited_from s (told s a i) is) ≡ Ok b → (audited_from s (told s a i) is ≡ Ok b → all_told s (told s a i) is ≡ b)
+        → all_told s (told s a i) is ≡ b
+    by None k ih = ih k
+    by (Some rule) k ih = absurd (err_not_ok k)
+
 told_on : (s : Setup) (w v u : World) (is js : List Item) → Told s w is v → Told s v js u → Told s w (is ++ js) u
 told_on s w v u is js h k = told_both s (world_seen w) (world_seen v) is js h ∙ k
 
 -- ---- a run within the limits
 
-few_short : (w : World) → w.events ≤ most_events → IsShort w
+pub few_short : (w : World) → w.events ≤ most_events → IsShort w
 few_short w few = omega (arith, few)
 
 not_over : (b : Bool) (o : Option ℕ) → or_else (if b then Some 2 else None) o ≡ None → b ≡ false
@@ -319,9 +330,9 @@ within w h =
     few_short w (grind (arith, nat_tests, is))
 
 -- what the induction carries
-record Fine (s : Setup) (r : Ran) : Type 0 where
-  kept : Tracing s r.world
-  short : IsShort r.world
+pub record Fine (s : Setup) (r : Ran) : Type 0 where
+  pub kept : Tracing s r.world
+  pub short : IsShort r.world
 
 gone_told : (s : Setup) (r : Ran) (w' : World) (items : List Item) → (all_limits w' ≡ None → Told s r.world items w')
     → Told s r.world (unless_ended (goes_on all_limits r w') items) (goes_on all_limits r w').world
@@ -398,7 +409,7 @@ rounds_told (suc m) s r scripted fine = by (is_some r'.ended || (r'.world.events
         told_on s r.world r'.world (rounds_of m all_limits s (counting_round r')).world (settling_items all_limits s r (round_of (pairs s)))
         (rounds_items m all_limits s (counting_round r')) one rest
 
-step_told : (s : Setup) (r : Ran) (e : Step) → IsScripted s → Fine s r → Told s r.world (step_items all_limits s r e) (steps all_limits s r e).world
+pub step_told : (s : Setup) (r : Ran) (e : Step) → IsScripted s → Fine s r → Told s r.world (step_items all_limits s r e) (steps all_limits s r e).world
 unfolding step_items steps settled_world
 step_told s r (step.Plain e) scripted fine =
     gone_told s r (happens s r.world e) (event_items s r.world e) (λ limit. event_told s r.world e scripted fine.kept fine.short)
@@ -411,7 +422,7 @@ step_told s r step.Settle scripted fine =
     (rounds_told (budget s r.world + 1) s r' scripted (all_settle_fine s r (resets_of (pairs s)) scripted fine))
 step_told s r step.Stop scripted fine = gone_told s r (stops s r.world) (Begins (r.world.events + 1) ∷ []) (λ limit. stop_told s r.world)
 
-step_fine : (s : Setup) (r : Ran) (e : Step) → IsScripted s → Fine s r → Fine s (steps all_limits s r e)
+pub step_fine : (s : Setup) (r : Ran) (e : Step) → IsScripted s → Fine s r → Fine s (steps all_limits s r e)
 unfolding steps settled_world
 step_fine s r (step.Plain e) scripted fine = gone_fine s r _ fine (event_kept s r.world e scripted fine.kept)
 step_fine s r (step.Halt k e) scripted fine =
@@ -428,7 +439,7 @@ steps_told s r (e ∷ es) scripted fine =
     (steps_told s r' es scripted (step_fine s r e scripted fine))
 
 -- the opening world is seen as nothing
-opening_seen : (s : Setup) → world_seen (opening_world s) ≡ opening_mirrors s
+pub opening_seen : (s : Setup) → world_seen (opening_world s) ≡ opening_mirrors s
 opening_seen s = ap (λ ms. record { topics = ms; events = 0 }) (copies (length s.topics * length s.clusters))
   where
     copies : (n : ℕ) → map seen (replicate n (new_broker (length s.clusters) (length s.clients))) ≡ replicate n no_mirror

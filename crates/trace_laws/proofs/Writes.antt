@@ -60,7 +60,7 @@ set_twice [] k v u = refl
 set_twice (x ∷ xs) zero v u = refl
 set_twice (x ∷ xs) (suc k) v u = ap (λ ys. x ∷ ys) (set_twice xs k v u)
 
-seen_at : (bs : List Broker) (k : ℕ) → slice_index_or (map seen bs) k no_mirror ≡ seen (slice_index_or bs k no_broker)
+pub seen_at : (bs : List Broker) (k : ℕ) → slice_index_or (map seen bs) k no_mirror ≡ seen (slice_index_or bs k no_broker)
 seen_at [] k = refl
 seen_at (b ∷ bs) zero = refl
 seen_at (b ∷ bs) (suc k) = seen_at bs k
