@@ -1,6 +1,6 @@
 -- A table tells its topic: after an entry that it called new, and after one that it has seen.
-use Rattle.std.proofs.Common.{◌≡◌, ℕ, zero, suc, ◌+◌, ◌<◌, ◌≤◌, ◌==◌, nat_lt, Bool, true, false, List, [], ◌∷◌, ◌++◌, length, take, refl, ap, sym, subst, ◌∙◌, arith}
-use Rattle.std.specs.Prelude.{Option, Some, None, not, ◌&&◌, ◌||◌, ◌↔◌, if◌then◌else◌, slice_get}
+use Rattle.std.proofs.Common.{◌≡◌, ℕ, ◌+◌, ◌<◌, ◌≤◌, ◌==◌, nat_lt, Bool, true, false, List, [], ◌∷◌, ◌++◌, refl, ap, sym, subst, ◌∙◌, arith}
+use Rattle.std.specs.Prelude.{Option, Some, not, ◌&&◌, ◌||◌, ◌↔◌, if◌then◌else◌}
 use Rattle.std.specs.Str.{bytes_eq}
 use Rattle.std.proofs.lemmas.Bool.Decides.{nat_tests}
 use Rattle.std.proofs.lemmas.Slice.Eq.{bytes_eq-Decides}
@@ -9,9 +9,8 @@ use Rattle.geo_base.specs.declared.entry.Ident.{Ident}
 use Rattle.geo_base.specs.Entry.{same_stream}
 use Rattle.geo_base.specs.Topic.{accepts}
 use Rattle.dedup_table.specs.declared.stream.Stream.{Stream}
-use Rattle.dedup_table.specs.declared.table.Verdict.{Verdict}
 use Rattle.dedup_table.specs.declared.table.Verdict.TheVariants as judged
-use Rattle.dedup_table.specs.Table.{highest, is_stream, judge, noted, stream_of, verdict, Row, Tells}
+use Rattle.dedup_table.specs.Table.{highest, is_stream, noted, stream_of, verdict, Row, Tells}
 
 -- tests
 

@@ -1,5 +1,5 @@
 -- Messages over fields: what the table of a message's fields asks, and the first thing that is wrong.
-use Rattle.std.specs.Prelude.{◌≡◌, ◌≢◌, ℕ, ◌<◌, ◌==◌, min, Bool, ◌&&◌, not, List, ◌∷◌, Option, Some, None, is_none, map, filter, find, length, slice_index_or, IsUtf8}
+use Rattle.std.specs.Prelude.{◌≡◌, ◌≢◌, ℕ, ◌<◌, ◌==◌, min, Bool, ◌&&◌, not, List, ◌∷◌, Option, Some, None, is_none, map, filter, find, length, slice_index_or, slice_set, IsUtf8}
 use Rattle.std.specs.List.{AllByRecursion, list_any, last_or, reduce}
 use Rattle.pb_fields.specs.declared.field.Field.{Field}
 use Rattle.pb_fields.specs.declared.field.Value.{Value}
@@ -109,6 +109,12 @@ pub record IsLastAt (n : ℕ) (some all : List Field) (i : ℕ) : Type 0 where
   pub within : i < length all
   pub same : (d : Field) → (slice_index_or all i d).number ≡ n
   pub value : (d : Field) → last_value n some ≡ Some (slice_index_or all i d).value
+
+-- the last value of a number was taken: where it stood, a field of that number says 0, and all else stays
+pub record IsTaken (n : ℕ) (old new : List Field) : Type 0 where
+  pub place : ℕ
+  pub last : IsLastAt n old old place
+  pub left : new ≡ slice_set old place (record { number = n; value = value.Varint 0 })
 
 -- the fields whose numbers are in no row
 abbrev pub unknown : List Row → List Field → List Field

@@ -3,7 +3,7 @@
 ghost use Rattle.std.specs.Prelude.{◌≡◌, ◌≢◌, false, is_none, MatchOption, List, None, IsUtf8, ℕ};
 ghost use Rattle.pb_fields.specs.declared.field.Value.TheVariants as value;
 ghost use Rattle.pb_fields.specs.declared.message.Row.{Row};
-ghost use Rattle.pb_fields.specs.Message.{IsLastAt, last_value, row_of, unknown, values};
+ghost use Rattle.pb_fields.specs.Message.{IsLastAt, IsTaken, last_value, row_of, unknown, values};
 
 use crate::field::{Field, FieldList, Value};
 use geo_base::Text;
@@ -24,10 +24,12 @@ impl Value {
     }
 }
 
-/// Takes the last value of a number, the one that counts where the field is not repeated, and leaves a 0 in its place. What
-/// other numbers say stays, and so do the fields that a table with that number does not name.
+/// Takes the last value of a number, the one that counts where the field is not repeated, and leaves a 0 in its place. All other
+/// fields stay, so what other numbers say does, and so do the fields that a table with that number does not name. Without a value
+/// of that number nothing changes.
 pub fn take_last(fields: &mut FieldList, number: u32) -> Option<Value>
     ensures taken { result ≡ last_value number fields.old }
+    ensures left { MatchOption result (fields.new ≡ fields.old) (λ v. IsTaken number fields.old fields.new) }
     ensures others { (n : ℕ) → n ≢ number → values n fields.new ≡ values n fields.old }
     ensures unknown { (rows : List Row) → is_none (row_of rows number) ≡ false → unknown rows fields.new ≡ unknown rows fields.old }
 {

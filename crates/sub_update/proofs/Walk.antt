@@ -1,6 +1,6 @@
 -- What an update passes over, as a walk from index to index.
 use Rattle.std.proofs.Common.{◌≡◌, ℕ, zero, suc, ◌+◌, ◌-◌, ◌<◌, ◌≤◌, ◌==◌, nat_lt, Bool, true, false, List, [], ◌∷◌, ◌++◌, inl, inr, length, refl, arith, ap, sym, ◌∙◌}
-use Rattle.std.specs.Prelude.{◌||◌, ◌&&◌, not, if◌then◌else◌, min, nat_le, slice_get}
+use Rattle.std.specs.Prelude.{◌||◌, ◌&&◌, if◌then◌else◌, min, nat_le, slice_get}
 use Rattle.std.proofs.lemmas.Bool.{cases_lt}
 use Rattle.std.proofs.lemmas.Bool.Decides.{nat_tests}
 use Rattle.geo_base.specs.declared.entry.Entry.{Entry}
