@@ -16,11 +16,12 @@ use Rattle.geo_top.specs.declared.top.status.Status.TheVariants as status
 use Rattle.geo_top.specs.Answered.{FaultCounts, IsAnswered, WentOut, WritesLine, no_faults}
 use Rattle.geo_top.specs.Commands.{Reads}
 use Rattle.geo_top.specs.Founded.{IsFounded, IsKnown, IsReady, IsSent}
-use Rattle.geo_top.specs.Headline.{IsAlwaysKept, IsAlwaysOnce, IsAlwaysSafe, IsAlwaysSettled}
-use Rattle.geo_top.specs.OneRun.{IsStillKept, IsStillOnce, IsStillSafe, IsStillSettled}
+use Rattle.geo_top.specs.Headline.{IsAlwaysKept, IsAlwaysOnce, IsAlwaysSafe, IsAlwaysSettled, NothingComesAgain}
+use Rattle.geo_top.specs.OneRun.{IsStillKept, IsStillOnce, IsStillSafe, IsStillSettled, NothingStillComesAgain}
 use Rattle.geo_top.specs.Outputs.{IsAnswerFor, IsAnswerToBytes, UnlessLarge, answer_to_big, output_of, passed_limit, refused, report_of}
 use Rattle.geo_top.specs.States.{gone_on}
 use Rattle.geo_top.specs.Statuses.{IsDue, IsMade, refusal_line}
+use Rattle.geo_top.proofs.Again.{generated_again, nothing_again, still_nothing}
 use Rattle.geo_top.proofs.Answering.{big_is, counted, of_saved, of_script, ok_big, ok_resumed, ok_saved}
 use Rattle.geo_top.proofs.Causing.{IsCaused, caused, caused_as, caused_made, lined}
 use Rattle.geo_top.proofs.GoingOut.{only_answer, same_due, went, went_is, writes}
@@ -41,6 +42,7 @@ answered c input a f founded = record {
   safe = of_script c input a founded (λ v m. IsAlwaysSafe m) (λ v m k is none. always_safe m k.setup none);
   kept = of_script c input a founded (λ v m. IsAlwaysKept m) (λ v m k is none. always_kept m);
   settled = of_script c input a founded (λ v m. IsAlwaysSettled m) (λ v m k is none. always_settled m k.setup none);
+  again = of_script c input a founded (λ v m. NothingComesAgain m) (λ v m k is none. nothing_again m k.setup none);
   saved = ok_saved c input a founded;
   resumed = ok_resumed c input a founded;
   one_run = of_saved c input a founded (λ n es. (a.bytes ≡ report_of (gone_on n es)) × (passed_limit (gone_on n es) ≡ None))
@@ -49,8 +51,10 @@ answered c input a f founded = record {
   still_safe = of_saved c input a founded IsStillSafe (λ n es k is none. still_safe n es k none);
   still_kept = of_saved c input a founded IsStillKept (λ n es k is none. still_kept n es k);
   still_settled = of_saved c input a founded IsStillSettled (λ n es k is none. still_settled n es k none);
+  still_again = of_saved c input a founded NothingStillComesAgain (λ n es k is none. still_nothing n es k none);
   one_answer = λ text lines n made is said k. counted c input a founded text lines n (not_long (length input) k.read) is said k;
   summary = λ number ok is. ok_big c input a number founded ok is;
+  big_again = λ number ok is. generated_again number (ok_big c input a number founded ok is).1;
   quiet = generated_quiet;
   usage = λ is. cause status.Usage is;
   read = λ is. absurd (cause status.ReadFault is);
@@ -127,6 +131,7 @@ failed c input output f s fault read write memory out line = record {
   safe = λ v is run. absurd (other status.Ok is);
   kept = λ v is run. absurd (other status.Ok is);
   settled = λ v is run. absurd (other status.Ok is);
+  again = λ v is run. absurd (other status.Ok is);
   saved = λ is save. absurd (other status.Ok is);
   resumed = λ is resume. absurd (other status.Ok is);
   one_run = λ n lines is resume k. absurd (other status.Ok is);
@@ -134,8 +139,10 @@ failed c input output f s fault read write memory out line = record {
   still_safe = λ n lines is resume k. absurd (other status.Ok is);
   still_kept = λ n lines is resume k. absurd (other status.Ok is);
   still_settled = λ n lines is resume k. absurd (other status.Ok is);
+  still_again = λ n lines is resume k. absurd (other status.Ok is);
   one_answer = λ text lines n made is said k. not_made s fault made;
   summary = λ number is big. absurd (other status.Ok is);
+  big_again = λ number is big. absurd (other status.Ok is);
   quiet = generated_quiet;
   usage = λ is. absurd (other status.Usage is);
   read = read;
@@ -209,6 +216,7 @@ counted_again c input output f g s made h = record {
   safe = h.safe;
   kept = h.kept;
   settled = h.settled;
+  again = h.again;
   saved = h.saved;
   resumed = h.resumed;
   one_run = h.one_run;
@@ -216,8 +224,10 @@ counted_again c input output f g s made h = record {
   still_safe = h.still_safe;
   still_kept = h.still_kept;
   still_settled = h.still_settled;
+  still_again = h.still_again;
   one_answer = h.one_answer;
   summary = h.summary;
+  big_again = h.big_again;
   quiet = h.quiet;
   usage = h.usage;
   read = λ is. absurd (subst IsMade is made);

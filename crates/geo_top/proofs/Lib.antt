@@ -18,6 +18,8 @@ pub mod Saving
 pub mod SavedWith
 pub mod OneRun
 pub mod Still
+pub mod ComesNot
+pub mod Again
 pub mod Causing
 pub mod Answering
 pub mod GoingOut

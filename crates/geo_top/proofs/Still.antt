@@ -40,7 +40,7 @@ pub goes_within : (n : Script) (es : List Step) → IsKept n → resumed_limit (
 goes_within n es k none = sym (limits_same resumed_law n es (reached_law.opening n.setup) (kept_is reached_law n k) k.within) ∙ none
 
 -- and so it is short at each of its moments, as the one run is
-goes_short : (n : Script) (es : List Step) → IsKept n → resumed_limit (state_of_run n) es ≡ None → (j : ℕ) (at : Settling)
+pub goes_short : (n : Script) (es : List Step) → IsKept n → resumed_limit (state_of_run n) es ≡ None → (j : ℕ) (at : Settling)
     → IsShort (world_on n.setup (world_from (state_of_run n)) (take j es) at)
 goes_short n es k none j at =
     let s = n.setup in

@@ -19,8 +19,8 @@ use Rattle.geo_top.specs.declared.top.status.Status.{Status}
 use Rattle.geo_top.specs.declared.top.status.Status.TheVariants as status
 use Rattle.geo_top.specs.Causes.{HasBadLine, HasBadState, IsPassed}
 use Rattle.geo_top.specs.Commands.{Reads, command_showing, resume_command, run_command, save_command}
-use Rattle.geo_top.specs.Headline.{IsAlwaysKept, IsAlwaysOnce, IsAlwaysSafe, IsAlwaysSettled}
-use Rattle.geo_top.specs.OneRun.{IsKept, IsSavedWith, IsStillKept, IsStillOnce, IsStillSafe, IsStillSettled, counted_on, lines_before, text_on}
+use Rattle.geo_top.specs.Headline.{IsAlwaysKept, IsAlwaysOnce, IsAlwaysSafe, IsAlwaysSettled, NothingComesAgain}
+use Rattle.geo_top.specs.OneRun.{IsKept, IsSavedWith, IsStillKept, IsStillOnce, IsStillSafe, IsStillSettled, NothingStillComesAgain, counted_on, lines_before, text_on}
 use Rattle.geo_top.specs.Outputs.{IsAnswerFor, answer_to, answer_to_big, output_of, passed_limit, report_of, resumed_limit, resumed_report, summary_of}
 use Rattle.geo_top.specs.States.{file_of, gone_on}
 use Rattle.geo_top.specs.Statuses.{IsDue, IsMade, refusal_line}
@@ -81,6 +81,10 @@ pub record IsAnswered (c : Option Command) (input output : List ℕ) (f : FaultC
   -- Behind each step of it that settles all has come over: for every topic and every two clusters, the sender of the one to the
   -- other is open and has acknowledged all of its topic, and the other has, in order, all that the one stored first for it.
   pub settled : OfScript c input s (λ v n. IsAlwaysSettled n)
+  -- Behind a step of it that acts on an update of another cluster nothing comes again that the update let its subscription pass over,
+  -- until that is deleted or sought: no event gives it, and no client gets it that connects since; and of the other cluster's own
+  -- messages such alone come as it stored behind the request of the update's snapshot.
+  pub again : OfScript c input s (λ v n. NothingComesAgain n)
   -- For `save` it is the state file of that run with a stop of everything behind it, and both are within the limits;
   pub saved : s ≡ status.Ok → c ≡ Some save_command → IsOkAnd (script_of input) (λ n. IsKept n × (output ≡ file_of n))
   -- for `resume` it is the report of the run that goes on from the state that the input begins with, over the schedule behind its
@@ -89,19 +93,23 @@ pub record IsAnswered (c : Option Command) (input output : List ℕ) (f : FaultC
       × IsOkAnd (schedule_of g.scenario.setup (drop used input)) (λ es. (output ≡ resumed_report g es) × (resumed_limit g es ≡ None))
   -- and where that state is what `save` wrote of a script, it is the report of one run, that of the script with a stop of everything
   -- and the schedule behind its steps; of what goes on, each claim still holds: messages stand once, per producer in order,
-  -- whatever is acknowledged is settled, nothing due is forgotten, and behind each step that settles all has come over;
+  -- whatever is acknowledged is settled, nothing due is forgotten, behind each step that settles all has come over, and nothing
+  -- comes again that an update let a subscription pass over;
   pub one_run : OfSaved c input s (λ n es. (output ≡ report_of (gone_on n es)) × (passed_limit (gone_on n es) ≡ None))
   pub still_once : OfSaved c input s IsStillOnce
   pub still_safe : OfSaved c input s IsStillSafe
   pub still_kept : OfSaved c input s IsStillKept
   pub still_settled : OfSaved c input s IsStillSettled
+  pub still_again : OfSaved c input s NothingStillComesAgain
   -- so what `resume` answers to such a file with lines behind it is what `run` answers to the script's text with a stop and these
   -- lines behind it (where that is not too long to be read), refusals too, but for the number of the line that is refused;
   pub one_answer : (text lines : List ℕ) (n : Script) → IsMade s → c ≡ Some resume_command → script_of (text ++ 10 ∷ []) ≡ Ok n → IsSavedWith n lines input
       → counted_on (lines_before text) (record { status = s; bytes = output }) s ≡ answer_to shown.Report (script_of (text_on text lines))
-  -- for `big` it is the summary of the machine's run over the generated schedule, which passes no limit, and at whose end all is quiet.
+  -- for `big` it is the summary of the machine's run over the generated schedule, which passes no limit, in which nothing comes again
+  -- either, and at whose end all is quiet.
   pub summary : (number : ℕ) → s ≡ status.Ok → c ≡ Some (command.Big number)
       → (output ≡ summary_of number) × (passed_limit (generated_run number) ≡ None)
+  pub big_again : (number : ℕ) → s ≡ status.Ok → c ≡ Some (command.Big number) → NothingComesAgain (generated_run number)
   pub quiet : (number : ℕ) → let n = generated_run number in is_quiet n.setup (run n.setup n.steps) ≡ true
   -- Each refusal comes only for its cause.
   pub usage : s ≡ status.Usage → c ≡ None

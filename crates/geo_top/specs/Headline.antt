@@ -1,4 +1,5 @@
--- The headline: what is claimed of the messages of a script, at every moment of its run, and behind each step that settles.
+-- The headline: what is claimed of the messages of a script, at every moment of its run, behind each step that settles, and behind a
+-- failover.
 use Rattle.std.specs.Prelude.{◌≡◌, ◌⊎◌, ℕ, ◌<◌, true, false, List, [], ◌∷◌, ◌++◌, length, take}
 use Rattle.geo_base.specs.declared.entry.Entry.{Entry}
 use Rattle.geo_base.specs.declared.event.Step.{Step}
@@ -12,8 +13,9 @@ use Rattle.geo_base.specs.Safe.{AllOnce, IsEntry, IsSub, NothingForgotten, OnlyS
 use Rattle.geo_base.specs.Settled.{IsSettled, SettledSoFar}
 use Rattle.geo_base.specs.Setup.{Setup}
 use Rattle.geo_base.specs.Subscription.{Subscription}
-use Rattle.geo_base.specs.World.{World, topic_at}
+use Rattle.geo_base.specs.World.{World, opening_world, topic_at}
 use Rattle.script_text.specs.Script.{Script}
+use Rattle.geo_top.specs.Again.{ComesNotAgain}
 
 -- once and in order in the topic of every broker, always in the run of a script, also inside settling and after each single
 -- durable write
@@ -54,3 +56,7 @@ AllCameOver s w = (t x y : ℕ) → t < length s.topics → ArePair s x y → Is
 -- so it is behind each step of a script that settles
 abbrev pub IsAlwaysSettled : Script → Type 0
 IsAlwaysSettled n = (es fs : List Step) → n.steps ≡ es ++ step.Settle ∷ fs → AllCameOver n.setup (run n.setup (es ++ step.Settle ∷ []))
+
+-- nothing that an update let a subscription pass over comes again in the run of a script
+abbrev pub NothingComesAgain : Script → Type 0
+NothingComesAgain n = ComesNotAgain n.setup (opening_world n.setup) n.steps

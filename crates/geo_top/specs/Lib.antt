@@ -1,5 +1,6 @@
 pub mod Commands
 pub mod Statuses
+pub mod Again
 pub mod Headline
 pub mod Shown
 pub mod Summary

@@ -17,6 +17,7 @@ use Rattle.geo_top.specs.declared.top.answer.Answer.{Answer}
 use Rattle.geo_top.specs.declared.top.command.Shown.TheVariants as shown
 use Rattle.geo_top.specs.declared.top.status.Status.{Status}
 use Rattle.geo_top.specs.declared.top.status.Status.TheVariants as status
+use Rattle.geo_top.specs.Again.{ComesNotAgain}
 use Rattle.geo_top.specs.Headline.{AllCameOver, IsSafe}
 use Rattle.geo_top.specs.Outputs.{IsAnswerToFile, answer_to, answer_to_resumed, answer_to_run, passed_limit, refused}
 use Rattle.geo_top.specs.States.{file_of, resumed, state_of_run, stopped}
@@ -32,8 +33,8 @@ pub record IsSavedWith (n : Script) (lines input : List ℕ) : Type 0 where
   pub is : input ≡ file_of n ++ lines
   pub read : length input ≤ 67108864
 
--- ---- what the headline claims, of a run that goes on from there: always once, always safe, and all over behind each step that
--- settles. What is settled at some moment, the steps of the saved script settled too
+-- ---- what the headline claims, of a run that goes on from there: always once, always safe, all over behind each step that settles,
+-- and nothing again that was passed over. What is settled at some moment, the steps of the saved script settled too
 abbrev pub AlwaysBehind : Script → List Step → (World → SettledSoFar → Type 0) → Type 0
 AlwaysBehind n es Holds = AlwaysOn n.setup (world_from (state_of_run n)) (stopped n).steps es Holds
 
@@ -48,6 +49,9 @@ IsStillKept n es = (k : ℕ) (at : Settling) → NothingForgotten (world_on n.se
 
 abbrev pub IsStillSettled : Script → List Step → Type 0
 IsStillSettled n es = (fs gs : List Step) → es ≡ fs ++ step.Settle ∷ gs → AllCameOver n.setup (resumed (state_of_run n) (fs ++ step.Settle ∷ []))
+
+abbrev pub NothingStillComesAgain : Script → List Step → Type 0
+NothingStillComesAgain n es = ComesNotAgain n.setup (world_from (state_of_run n)) es
 
 -- ---- the same answer
 -- the script with a stop behind its steps, and more behind that
