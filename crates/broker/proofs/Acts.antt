@@ -1,9 +1,9 @@
 -- An event that was prepared and committed was done.
 use Rattle.std.proofs.Common.{◌≡◌, ℕ, Bool, List, [], refl, ◌∙◌, ap}
+use Rattle.geo_base.specs.declared.packet.WireOut.{WireOut}
 use Rattle.geo_base.specs.Plan.{Plan, done, halted}
 use Rattle.geo_base.specs.Broker.{Broker, Site}
 use Rattle.broker_state.specs.Prepared.{PreparedBook, plan_in}
-use Rattle.broker_state.specs.declared.prepared.Outgoing.{Outgoing}
 use Rattle.broker_plans.specs.Prepared.{IsPrepared}
 use Rattle.broker.specs.Node.{IsDone, NodeBook}
 use Rattle.broker.proofs.Ready.{done_is, halted_is, idle_is}
@@ -21,7 +21,7 @@ without_sent : (per : ℕ) (b : Broker) (p q : PreparedBook) → q ≡ record p 
 without_sent per b p q is = rw is refl
 
 -- v is the node before, w where p was prepared, y when q, which is p without its packets, was committed
-pub act_done : (v w y : NodeBook) (plan : Plan) (p q : PreparedBook) (idle : Bool) (sent : List Outgoing) → IsPrepared v.site v.broker plan p → w.broker ≡ v.broker → w.site ≡ v.site
+pub act_done : (v w y : NodeBook) (plan : Plan) (p q : PreparedBook) (idle : Bool) (sent : List WireOut) → IsPrepared v.site v.broker plan p → w.broker ≡ v.broker → w.site ≡ v.site
     → q ≡ record p { sent = [] } → y.broker ≡ done w.site.per_ledger w.broker (plan_in w.broker q) → idle ≡ p.idle → sent ≡ p.sent → IsDone v y plan idle sent
 act_done v w y plan p q idle sent is broker site without committed idles packets = record {
   broker = committed ∙ done_there v w q broker site ∙ without_sent v.site.per_ledger v.broker p q without ∙ done_is v.site v.broker plan p is;

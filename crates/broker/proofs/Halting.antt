@@ -1,5 +1,5 @@
 -- A stop within a prepared event is an event that can be committed.
-use Rattle.std.proofs.Common.{◌≡◌, ℕ, zero, suc, ◌+◌, ◌≤◌, List, [], ◌∷◌, ◌++◌, length, map, sym, subst, arith}
+use Rattle.std.proofs.Common.{◌≡◌, ℕ, zero, suc, ◌+◌, ◌≤◌, List, [], ◌∷◌, ◌++◌, length, map, min, sym, subst, arith}
 use Rattle.std.specs.Prelude.{take, false, slice_get}
 use Rattle.geo_base.specs.declared.entry.Entry.{Entry}
 use Rattle.geo_base.specs.Broker.{Broker, Site, written}
@@ -75,9 +75,10 @@ few_too f zero ws = omega arith
 few_too f (suc k) [] = omega arith
 few_too f (suc k) (w ∷ ws) = omega (arith, few_too f k ws)
 
-one_each : (f : BookWrite → ℕ) → ((w : BookWrite) → f w ≤ 1) → (ws : List BookWrite) → total f ws ≤ length ws
-one_each f one [] = omega arith
-one_each f one (w ∷ ws) = omega (arith, one w, one_each f one ws)
+few_each : (f : BookWrite → ℕ) → ((w : BookWrite) → f w ≤ 1) → (k : ℕ) (ws : List BookWrite) → total f (halted_writes k ws) ≤ min (length ws) k + f book_write.Ledger
+few_each f one zero ws = omega arith
+few_each f one (suc k) [] = omega arith
+few_each f one (suc k) (w ∷ ws) = omega (arith, one w, few_each f one k ws)
 
 one_entry : (w : BookWrite) → entries_of w ≤ 1
 one_entry (book_write.Append e stream) = omega arith
@@ -102,12 +103,12 @@ acks_too acks zero ws ok = (tt, tt)
 acks_too acks (suc k) [] ok = (tt, tt)
 acks_too acks (suc k) (w ∷ ws) ok = (ok.0, acks_too (acks_left acks w) k ws ok.1)
 
--- each write takes an entry or a ledger at most, and the ledger that opens one more
-room_too : (old new : Room) (k n : ℕ) (p : PreparedBook) → HasRoom old p → n ≡ length p.writes + 1 → n ≤ new.entries → n ≤ new.streams
+-- each write that stays takes an entry or a ledger at most, and the ledger that opens one more
+room_too : (old new : Room) (k n : ℕ) (p : PreparedBook) → HasRoom old p → n ≡ min (length p.writes) k + 1 → n ≤ new.entries → n ≤ new.streams
     → new ≡ record old { entries = new.entries; streams = new.streams } → HasRoom new (halted_book k p)
 room_too old new k n p room count entries streams rest =
-    let e : total entries_of (halted_writes k p.writes) ≤ new.entries = omega (arith, few_too entries_of k p.writes, one_each entries_of one_entry p.writes) in
-    let s : total streams_of (halted_writes k p.writes) ≤ new.streams = omega (arith, few_too streams_of k p.writes, one_each streams_of one_stream p.writes) in
+    let e : total entries_of (halted_writes k p.writes) ≤ new.entries = omega (arith, few_each entries_of one_entry k p.writes) in
+    let s : total streams_of (halted_writes k p.writes) ≤ new.streams = omega (arith, few_each streams_of one_stream k p.writes) in
     rw rest (record {
       writes = record {
         entries = e;
@@ -120,7 +121,7 @@ room_too old new k n p room count entries streams rest =
       senders = omega (arith, few_too senders_of k p.writes, room.senders);
     })
 
-pub halted_ready : (v w : NodeBook) (k n : ℕ) (p : PreparedBook) → IsReady v p → n ≡ length p.writes + 1 → n ≤ w.room.entries → n ≤ w.room.streams
+pub halted_ready : (v w : NodeBook) (k n : ℕ) (p : PreparedBook) → IsReady v p → n ≡ min (length p.writes) k + 1 → n ≤ w.room.entries → n ≤ w.room.streams
     → w.room ≡ record v.room { entries = w.room.entries; streams = w.room.streams } → w.broker ≡ v.broker → w.site ≡ v.site → IsReady w (halted_book k p)
 halted_ready v w k n p is count entries streams rest broker site = record {
   room = room_too v.room w.room k n p is.room count entries streams rest;

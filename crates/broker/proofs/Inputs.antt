@@ -1,6 +1,6 @@
 -- What was read of a packet has the plan of each packet that its bytes stand for.
 use Rattle.std.proofs.Common.{◌≡◌, ℕ, List, refl, sym, ◌∙◌, subst}
-use Rattle.std.specs.Prelude.{Option, Some, None, Result, Ok, Err, IfOk}
+use Rattle.std.specs.Prelude.{Option, Some, None, Result, Ok, Err, OnOk}
 use Rattle.geo_base.specs.declared.event.Event.{Event}
 use Rattle.geo_base.specs.declared.event.Event.TheVariants as event
 use Rattle.geo_base.specs.declared.frame.Frame.{Frame}
@@ -9,13 +9,14 @@ use Rattle.geo_base.specs.declared.packet.Packet.{Packet}
 use Rattle.geo_base.specs.Broker.{Broker, Site}
 use Rattle.geo_base.specs.Plan.{Plan}
 use Rattle.frame_values.specs.Standing.{bare}
+use Rattle.frame_values.proofs.Bare.{reads_stand}
 use Rattle.frame_values.proofs.One.{value_one}
 use Rattle.frame_laws.specs.BytePackets.{BytePacket, StandsForPacket, bare_packet}
 use Rattle.frame_laws.proofs.Bare.{receipt_bare, serve_bare, take_bare}
 use Rattle.broker_state.specs.Prepared.{PreparedBook}
 use Rattle.broker_plans.specs.Prepared.{IsPrepared}
 use Rattle.broker.specs.Events.{plan_at}
-use Rattle.broker.specs.Input.{ReadsInput, ReadsPacket, StandsForInput}
+use Rattle.broker.specs.Input.{IsSaid, ReadsInput, ReadsPacket, StandsForInput}
 
 abbrev packet_by : ℕ → ℕ → Frame → Packet
 packet_by session stamp frame = record { session = session; stamp = stamp; frame = frame }
@@ -53,7 +54,19 @@ read_plan h names b e (Some k) (Some q) None reads stands = absurd stands
 read_plan h names b e (Some k) (Some q) (Some p) reads stands =
     rw (is_bare h.clusters k q p reads stands) (bare_plan h names b e p)
 
-pub prepared_for : (h : Site) (names : List (List ℕ)) (b : Broker) (e : Event) (i : Option BytePacket) (q v : Option Packet) (r : Result PreparedBook Memory)
-    → ReadsInput h.clusters i q → StandsForInput h.clusters i v → IfOk r (IsPrepared h b (plan_at h names b e q)) → IfOk r (IsPrepared h b (plan_at h names b e v))
-prepared_for h names b e i q v (Ok p) reads stands is = subst (λ (plan : Plan). IsPrepared h b plan p) (read_plan h names b e i q v reads stands) is
-prepared_for h names b e i q v (Err m) reads stands is = tt
+pub prepared_for : (h : Site) (names : List (List ℕ)) (b : Broker) (e : Event) (i : Option BytePacket) (q v : Option Packet) (p : PreparedBook) (r : Result (Unit {0}) Memory)
+    → ReadsInput h.clusters i q → StandsForInput h.clusters i v → OnOk r (IsPrepared h b (plan_at h names b e q) p) → OnOk r (IsPrepared h b (plan_at h names b e v) p)
+prepared_for h names b e i q v p (Ok u) reads stands is = subst (λ (plan : Plan). IsPrepared h b plan p) (read_plan h names b e i q v reads stands) is
+prepared_for h names b e i q v p (Err m) reads stands is = tt
+
+-- what was read is what its bytes stand for
+said_of : (names : List (List ℕ)) (i : Option BytePacket) (q : Option Packet) → ReadsInput names i q → IsSaid names i
+said_of names None None reads = record { said = None; stands = tt }
+said_of names None (Some q) reads = absurd reads
+said_of names (Some k) None reads = absurd reads
+said_of names (Some k) (Some q) reads =
+    record { said = Some q; stands = record { session = reads.session; stamp = reads.stamp; frame = reads_stand names k.frame q.frame reads.frame } }
+
+pub said_for : (names : List (List ℕ)) (i : Option BytePacket) (q : Option Packet) (r : Result (Unit {0}) Memory) → ReadsInput names i q → OnOk r (IsSaid names i)
+said_for names i q (Ok u) reads = said_of names i q reads
+said_for names i q (Err m) reads = tt

@@ -1,16 +1,17 @@
 -- What was prepared for the packet that was read is prepared for each one that its bytes stand for.
-use Rattle.std.proofs.Common.{◌≡◌, ◌∙◌}
-use Rattle.std.specs.Prelude.{Result, Ok, Err, IfOk}
+use Rattle.std.proofs.Common.{◌≡◌, ◌∙◌, arith}
+use Rattle.std.specs.Prelude.{Result, Ok, Err, OnOk}
 use Rattle.geo_base.specs.declared.event.Event.{Event}
 use Rattle.geo_base.specs.declared.event.Event.TheVariants as event
 use Rattle.geo_base.specs.declared.memory.Memory.{Memory}
-use Rattle.geo_base.specs.Broker.{Site}
+use Rattle.geo_base.specs.Broker.{Broker, Site}
 use Rattle.geo_base.specs.Plan.{Plan}
-use Rattle.broker_state.specs.Book.{BrokerBook}
+use Rattle.broker_state.specs.Book.{BrokerBook, SameState}
 use Rattle.broker_state.specs.Prepared.{PreparedBook}
 use Rattle.broker_state.specs.Room.{HasRoom}
-use Rattle.broker_plans.specs.Prepared.{IsPrepared, SameState}
-use Rattle.broker.specs.Events.{IsInRange, IsOfNode}
+use Rattle.broker_plans.specs.Prepared.{CanWrite, IsPrepared}
+use Rattle.broker_plans.specs.Storable.{IsWritable}
+use Rattle.broker.specs.Events.{HasNextMarker, IsInRange, IsOfNode}
 use Rattle.broker.specs.Node.{IsReady, NodeBook, NodeHolds}
 use Rattle.broker.proofs.Ready.{ready_of}
 
@@ -31,18 +32,13 @@ in_range v (event.Get c) of = tt
 in_range v (event.Reconnect c) of = tt
 
 -- the node before and after only room was made
-pub ready_for : (v w : NodeBook) (plan : Plan) (r : Result PreparedBook Memory) → w.site ≡ v.site → w.broker ≡ v.broker → IfOk r (IsPrepared v.site v.broker plan) → IfOk r (HasRoom w.room) → IfOk r (IsReady w)
-ready_for v w plan (Ok p) site broker is room = ready_of w plan p (rw (site, broker) is) room
-ready_for v w plan (Err m) site broker is room = tt
+pub ready_for : (v w : NodeBook) (plan : Plan) (p : PreparedBook) (r : Result (Unit {0}) Memory) → w.site ≡ v.site → w.broker ≡ v.broker → OnOk r (IsPrepared v.site v.broker plan p) → OnOk r (HasRoom w.room p) → OnOk r (IsReady w p)
+ready_for v w plan p (Ok u) site broker is room = ready_of w plan p (rw (site, broker) is) room
+ready_for v w plan p (Err m) site broker is room = tt
 
-pub same_holds : (h : Site) (old new : BrokerBook) → NodeHolds h old → SameState old new → NodeHolds h new
-same_holds h old new holds same = record {
-  several = holds.several;
-  is_at = record {
-    own = same.own ∙ holds.is_at.own;
-    per_ledger = same.per_ledger ∙ holds.is_at.per_ledger;
-    senders = rw same.broker holds.is_at.senders;
-    receivers = rw same.broker holds.is_at.receivers;
-  };
-  writable = rw same.broker holds.writable;
-}
+pub same_holds : (old new : BrokerBook) → NodeHolds old → SameState old new → NodeHolds new
+same_holds old new holds same = record { several = rw same.site holds.several; writable = rw (same.site, same.broker) holds.writable }
+
+-- what it writes can be written
+pub can_write : (h : Site) (b : Broker) → IsWritable h b → HasNextMarker h b → CanWrite h b
+can_write h b kept next = record { kept = kept; marker = omega (arith, next) }

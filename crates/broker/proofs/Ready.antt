@@ -3,7 +3,6 @@ use Rattle.std.proofs.Common.{◌≡◌, ℕ, [], refl, sym, ◌∙◌, ap, subs
 use Rattle.geo_base.specs.Broker.{Broker, Site}
 use Rattle.geo_base.specs.Plan.{Plan, done, halted, idle_plan}
 use Rattle.broker_state.specs.Book.{BrokerBook}
-use Rattle.broker_state.specs.Fits.{SameShape}
 use Rattle.broker_state.specs.Prepared.{PreparedBook, idle_book, plan_in}
 use Rattle.broker_state.specs.Room.{HasRoom, Room}
 use Rattle.broker_plans.specs.Prepared.{IsPrepared, unsent}
@@ -44,17 +43,11 @@ pub idle_is : (h : Site) (b : Broker) (plan : Plan) (p : PreparedBook) → IsPre
 idle_is h b plan p is = ap (λ (q : Plan). q.idle) is.steps
 
 -- the state after it
-pub committed_holds : (h : Site) (old new : BrokerBook) (p : PreparedBook) → NodeHolds h old → PlanStorable h (plan_in old.broker p)
-    → new.broker ≡ done old.per_ledger old.broker (plan_in old.broker p) → new.own ≡ old.own → new.per_ledger ≡ old.per_ledger → SameShape old.broker new.broker → NodeHolds h new
-committed_holds h old new p holds stored is own per shape = record {
-  several = holds.several;
-  is_at = record {
-    own = own ∙ holds.is_at.own;
-    per_ledger = per ∙ holds.is_at.per_ledger;
-    senders = shape.senders ∙ holds.is_at.senders;
-    receivers = shape.receivers ∙ holds.is_at.receivers;
-  };
-  writable = rw is (done_keeps h old.per_ledger old.broker (plan_in old.broker p) stored holds.writable);
+pub committed_holds : (old new : BrokerBook) (p : PreparedBook) → NodeHolds old → PlanStorable old.site (plan_in old.broker p)
+    → new.broker ≡ done old.site.per_ledger old.broker (plan_in old.broker p) → new.site ≡ old.site → NodeHolds new
+committed_holds old new p holds stored is site = record {
+  several = rw site holds.several;
+  writable = rw (site, is) (done_keeps old.site old.site.per_ledger old.broker (plan_in old.broker p) stored holds.writable);
 }
 
 pub committed : (per per_now : ℕ) (b now new : Broker) (p : PreparedBook) → new ≡ done per b (plan_in b p) → per ≡ per_now → b ≡ now → new ≡ done per_now now (plan_in now p)

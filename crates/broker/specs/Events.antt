@@ -1,5 +1,5 @@
 -- The events of a broker, and the machine's plan of each at it.
-use Rattle.std.specs.Prelude.{◌≡◌, ℕ, ◌<◌, ◌^◌, List, [], length, Option, slice_index_or, ⊤}
+use Rattle.std.specs.Prelude.{◌≡◌, ℕ, ◌+◌, ◌<◌, ◌^◌, List, [], length, Option, slice_index_or, ⊤}
 use Rattle.geo_base.specs.declared.event.Event.{Event}
 use Rattle.geo_base.specs.declared.event.Event.TheVariants as event
 use Rattle.geo_base.specs.declared.packet.Packet.{Packet}
@@ -12,9 +12,9 @@ use Rattle.geo_base.specs.Reading.{read}
 use Rattle.geo_base.specs.Seeking.{restart, seek}
 use Rattle.geo_base.specs.Serving.{drop_client, serve}
 use Rattle.geo_base.specs.Setup.{Setup, declared_at, sub_names}
+use Rattle.geo_base.specs.Topic.{next_marker}
 use Rattle.geo_base.specs.World.{site}
 use Rattle.broker_offers.specs.Seeking.{SeekFits}
-use Rattle.broker_plans.specs.Prepared.{MarkerFits}
 use Rattle.broker.specs.Node.{NodeBook}
 
 -- the name that an event's number of a subscription stands for; past the end it is empty, which no subscription's name is
@@ -92,6 +92,10 @@ IsInRange h b (event.Reconnect c) = ⊤
 
 -- ---- numbers that rise
 
+-- the sequence id of the cluster's next own marker has 64 bits, and so has the one behind it
+abbrev pub HasNextMarker : Site → Broker → Type 0
+HasNextMarker h b = next_marker h.own b.entries + 1 < 2 ^ 64
+
 abbrev pub SessionRises : Broker → Event → Type 0
 SessionRises b (event.Reset t x y) = (sender_at b y).session < 2 ^ 63
 SessionRises b e = ⊤
@@ -101,12 +105,26 @@ abbrev pub SeekRises : List (List ℕ) → Broker → Event → Type 0
 SeekRises names b (event.Seek t x n to) = SeekFits b (name_at names n)
 SeekRises names b e = ⊤
 
+-- the number of the cluster's next own marker, where the event may store one
+abbrev pub MarkerRises : Site → Broker → Event → Type 0
+MarkerRises h b (event.Serve x c) = HasNextMarker h b
+MarkerRises h b (event.Read t x y) = HasNextMarker h b
+MarkerRises h b (event.Snap t x) = HasNextMarker h b
+MarkerRises h b (event.Offer t x n) = HasNextMarker h b
+MarkerRises h b (event.Seek t x n to) = HasNextMarker h b
+MarkerRises h b e = ⊤
+
 -- The numbers that an event raises still have room to rise: that of a session which begins, the count of a subscription's seeks,
 -- and the number of the cluster's next own marker.
 pub record NumbersRise (v : NodeBook) (e : Event) : Type 0 where
   pub session : SessionRises v.broker e
   pub seeks : SeekRises v.names v.broker e
-  pub marker : MarkerFits v.site v.broker
+  pub marker : MarkerRises v.site v.broker e
+
+-- it is the broker's, and its numbers have room to rise
+pub record CanHappen (v : NodeBook) (e : Event) : Type 0 where
+  pub node : IsOfNode v e
+  pub numbers : NumbersRise v e
 
 -- ---- the broker of a setup
 

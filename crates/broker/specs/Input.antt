@@ -10,6 +10,11 @@ StandsForInput names None None = ⊤
 StandsForInput names (Some b) (Some p) = StandsForPacket names b p
 StandsForInput names b p = ⊥
 
+-- and there is a packet that it stands for: its bytes have a value
+pub record IsSaid (names : List (List ℕ)) (i : Option BytePacket) : Type 0 where
+  pub said : Option Packet
+  pub stands : StandsForInput names i said
+
 -- what was read of it: the value that its bytes say
 pub record ReadsPacket (names : List (List ℕ)) (b : BytePacket) (p : Packet) : Type 0 where
   pub session : p.session ≡ b.session

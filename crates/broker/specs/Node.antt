@@ -1,5 +1,6 @@
 -- A broker of a topic at a cluster as its callers see it.
 use Rattle.std.specs.Prelude.{◌≡◌, ◌≤◌, ℕ, Bool, List, length}
+use Rattle.geo_base.specs.declared.packet.WireOut.{WireOut}
 use Rattle.geo_base.specs.Broker.{Broker, Site}
 use Rattle.geo_base.specs.Plan.{Plan, done}
 use Rattle.durable_parts.specs.declared.durable.Durable.{Durable}
@@ -7,8 +8,7 @@ use Rattle.broker_state.specs.Book.{BrokerBook}
 use Rattle.broker_state.specs.Fits.{PlanFits}
 use Rattle.broker_state.specs.Prepared.{PreparedBook, plan_in}
 use Rattle.broker_state.specs.Room.{HasRoom, Room}
-use Rattle.broker_state.specs.declared.prepared.Outgoing.{Outgoing}
-use Rattle.broker_plans.specs.Prepared.{ArePackets, IsAt}
+use Rattle.broker_plans.specs.Prepared.{ArePackets}
 use Rattle.broker_plans.specs.Storable.{AreStorable, IsWritable, PlanStorable}
 
 -- The topic's number, what the broker knows of the setup, the names of the topic's subscriptions by their numbers in events, the
@@ -20,12 +20,10 @@ pub record NodeBook : Type 0 where
   pub broker : Broker
   pub room : Room
 
--- a snapshot asks other clusters, so there are at least two; the state is that of the site's broker, and all that it keeps can be
--- written again
-pub record NodeHolds (h : Site) (b : BrokerBook) : Type 0 where
-  pub several : 2 ≤ length h.clusters
-  pub is_at : IsAt h b
-  pub writable : IsWritable h b.broker
+-- a snapshot asks other clusters, so there are at least two; and all that the broker keeps can be written again
+pub record NodeHolds (b : BrokerBook) : Type 0 where
+  pub several : 2 ≤ length b.site.clusters
+  pub writable : IsWritable b.site b.broker
 
 -- the same broker of the same topic, in another state
 pub record SameNode (old new : NodeBook) : Type 0 where
@@ -42,7 +40,7 @@ pub record IsReady (v : NodeBook) (p : PreparedBook) : Type 0 where
   pub stored : PlanStorable v.site (plan_in v.broker p)
 
 -- An event was done: the machine's plan of it is what became of the state and what is to be sent.
-pub record IsDone (old new : NodeBook) (plan : Plan) (is_idle : Bool) (packets : List Outgoing) : Type 0 where
+pub record IsDone (old new : NodeBook) (plan : Plan) (is_idle : Bool) (packets : List WireOut) : Type 0 where
   pub broker : new.broker ≡ done old.site.per_ledger old.broker plan
   pub idle : is_idle ≡ plan.idle
   pub sent : ArePackets old.site.clusters plan.sent packets

@@ -3,32 +3,34 @@ ghost use Rattle.std.specs.Prelude.{◌≡◌, IfOk, OnErr, OnOk, Option};
 ghost use Rattle.std.specs.Option.{option_copied};
 ghost use Rattle.geo_base.specs.declared.packet.Packet.{Packet};
 ghost use Rattle.geo_base.specs.Plan.{done, halted};
-ghost use Rattle.broker_state.specs.Prepared.{plan_in};
+ghost use Rattle.broker_state.specs.Prepared.{IsEmptyPlan, plan_in};
 ghost use Rattle.broker.specs.Events.{IsOfNode, NumbersRise, plan_at_node};
 ghost use Rattle.broker.specs.Input.{StandsForInput};
 ghost use Rattle.broker.specs.Node.{IsDone, IsReady, SameNode};
 
 use crate::node::TopicNode;
 use crate::packet::LinkPacket;
-use broker_state::{Outgoing, Prepared};
-use geo_base::{Event, Memory};
+use broker_state::Prepared;
+use geo_base::{Event, Memory, WireOut};
 use std::alloc::Global;
 
 /// What an event did: whether it was not enabled, and the packets to send.
 #[derive(Debug, Drop)]
 pub struct Acted {
     pub idle: bool,
-    pub sent: Vec<Outgoing>,
+    pub sent: Vec<WireOut>,
 }
 
 impl TopicNode {
-    /// Does what was prepared: its durable writes in order, and then its changes in memory. It takes no memory and can't fail.
-    pub fn commit(&mut self, prepared: Prepared)
-        requires { IsReady self.old prepared }
-        ensures broker { self.new.broker ≡ done self.old.site.per_ledger self.old.broker (plan_in self.old.broker prepared) }
+    /// Does what was prepared: its durable writes in order, and then its changes in memory. It takes no memory and can't fail. The
+    /// plan is empty then.
+    pub fn commit(&mut self, plan: &mut Prepared)
+        requires { IsReady self.old plan.old }
+        ensures broker { self.new.broker ≡ done self.old.site.per_ledger self.old.broker (plan_in self.old.broker plan.old) }
         ensures node { SameNode self.old self.new }
+        ensures empty { IsEmptyPlan plan.new }
     {
-        self.book.commit(prepared);
+        self.book.commit(plan);
     }
 
     /// Does an event, with the next packet of the link that it takes from. All memory is taken first; an `Err` is want of it, and
@@ -47,10 +49,11 @@ impl TopicNode {
         ensures err { OnErr result (self.new.broker ≡ self.old.broker) }
         ensures node { SameNode self.old self.new }
     {
-        let mut prepared = self.prepare(alloc, event, input)?;
-        let idle = prepared.is_idle();
-        let sent = prepared.take_sent(alloc);
-        self.commit(prepared);
+        let mut plan = Prepared::new(alloc);
+        self.prepare(alloc, event, input, &mut plan)?;
+        let idle = plan.is_idle();
+        let sent = plan.take_sent(alloc);
+        self.commit(&mut plan);
         Ok(Acted { idle, sent })
     }
 
@@ -70,27 +73,23 @@ impl TopicNode {
         ensures err { OnErr result (self.new.broker ≡ self.old.broker) }
         ensures node { SameNode self.old self.new }
     {
-        let prepared = self.prepare(alloc, event, input)?;
-        let stop = self.prepare_stop(alloc, writes, prepared)?;
-        self.commit(stop);
+        let mut plan = Prepared::new(alloc);
+        self.prepare(alloc, event, input, &mut plan)?;
+        self.prepare_stop(writes, &mut plan)?;
+        self.commit(&mut plan);
         Ok(())
     }
 
-    /// The stop, as an event of its own. Only room is made.
-    fn prepare_stop(
-        &mut self,
-        alloc: Global,
-        writes: u32,
-        prepared: Prepared,
-    ) -> Result<Prepared, Memory>
-        requires { IsReady self.old prepared }
-        ensures halted { IfOk result (λ q. done self.old.site.per_ledger self.old.broker (plan_in self.old.broker q) ≡ halted self.old.site.per_ledger self.old.broker writes (plan_in self.old.broker prepared)) }
-        ensures ready { IfOk result (IsReady self.new) }
+    /// The stop, as an event of its own. Only room is made, for the writes that stay and the ledger that opens.
+    fn prepare_stop(&mut self, writes: u32, plan: &mut Prepared) -> Result<(), Memory>
+        requires { IsReady self.old plan.old }
+        ensures halted { OnOk result (done self.old.site.per_ledger self.old.broker (plan_in self.old.broker plan.new) ≡ halted self.old.site.per_ledger self.old.broker writes (plan_in self.old.broker plan.old)) }
+        ensures ready { OnOk result (IsReady self.new plan.new) }
         ensures broker { self.new.broker ≡ self.old.broker }
         ensures node { SameNode self.old self.new }
     {
-        let room = prepared.write_count() + 1;
+        let room = plan.write_count().min(writes as usize) + 1;
         self.book.reserve_entries(room)?;
-        prepared.halted(alloc, writes as usize)
+        plan.halt_behind(writes as usize)
     }
 }

@@ -1,9 +1,7 @@
 //! Which events a broker can do.
-ghost use Rattle.std.specs.Prelude.{◌≡◌, ◌<◌, ◌^◌, true, length};
-ghost use Rattle.geo_base.specs.Broker.{sender_at};
+ghost use Rattle.std.specs.Prelude.{◌↔◌, IsTrue};
 ghost use Rattle.broker_offers.specs.Seeking.{SeekFits};
-ghost use Rattle.broker_plans.specs.Prepared.{MarkerFits};
-ghost use Rattle.broker.specs.Events.{IsClients, IsHere, IsLink, IsOfNode, NumbersRise, SeekRises, SessionRises};
+ghost use Rattle.broker.specs.Events.{CanHappen, HasNextMarker, IsClients, IsHere, IsLink, IsOfNode, MarkerRises, SeekRises, SessionRises};
 
 use crate::node::TopicNode;
 use crate::preparing::name_at;
@@ -17,17 +15,16 @@ impl TopicNode {
     /// Whether an event is one of this broker, with its numbers of clusters and clients in range, and the numbers that it raises
     /// still have room to rise. Every event of a run has.
     pub fn accepts(&self, event: &Event) -> bool
-        ensures node { result ≡ true → IsOfNode self.now event.now }
-        ensures numbers { result ≡ true → NumbersRise self.now event.now }
+        ensures { IsTrue result ↔ CanHappen self.now event.now }
     {
         self.is_own(event)
-            && self.marker_fits()
+            && self.marker_rises(event)
             && self.session_rises(event)
             && self.seeks_rise(event)
     }
 
     fn is_own(&self, event: &Event) -> bool
-        ensures { result ≡ true → IsOfNode self.now event.now }
+        ensures { IsTrue result ↔ IsOfNode self.now event.now }
     {
         match *event {
             Event::Serve { cluster, client } | Event::Drop { cluster, client } => {
@@ -64,41 +61,54 @@ impl TopicNode {
     }
 
     fn is_of_client(&self, cluster: u32, client: u32) -> bool
-        ensures { result ≡ true → IsClients self.now cluster client }
+        ensures { IsTrue result ↔ IsClients self.now cluster client }
     {
-        cluster == self.site.own() && (client as usize) < self.book.sessions().len()
+        cluster == self.book.site().own() && (client as usize) < self.book.sessions().len()
     }
 
     fn is_here(&self, topic: u32, cluster: u32) -> bool
-        ensures { result ≡ true → IsHere self.now topic cluster }
+        ensures { IsTrue result ↔ IsHere self.now topic cluster }
     {
-        topic == self.topic && cluster == self.site.own()
+        topic == self.topic && cluster == self.book.site().own()
     }
 
     fn is_link(&self, topic: u32, cluster: u32, other: u32) -> bool
-        ensures { result ≡ true → IsLink self.now topic cluster other }
+        ensures { IsTrue result ↔ IsLink self.now topic cluster other }
     {
-        self.is_here(topic, cluster) && (other as usize) < self.site.clusters().len()
+        self.is_here(topic, cluster) && (other as usize) < self.book.site().clusters().len()
     }
 
-    fn marker_fits(&self) -> bool
-        ensures { result ≡ true → MarkerFits self.now.site self.now.broker }
+    fn marker_rises(&self, event: &Event) -> bool
+        ensures { IsTrue result ↔ MarkerRises self.now.site self.now.broker event.now }
+    {
+        match *event {
+            Event::Serve { .. }
+            | Event::Read { .. }
+            | Event::Snap { .. }
+            | Event::Offer { .. }
+            | Event::Seek { .. } => self.has_next_marker(),
+            _ => true,
+        }
+    }
+
+    fn has_next_marker(&self) -> bool
+        ensures { IsTrue result ↔ HasNextMarker self.now.site self.now.broker }
     {
         self.book.next_marker() < u64::MAX
     }
 
     fn session_rises(&self, event: &Event) -> bool
         requires { IsOfNode self.now event.now }
-        ensures { result ≡ true → SessionRises self.now.broker event.now }
+        ensures { IsTrue result ↔ SessionRises self.now.broker event.now }
     {
         match *event {
-            Event::Reset { target, .. } => self.book.sender(target).sender().session() < SESSIONS,
+            Event::Reset { target, .. } => self.sender(target).sender().session() < SESSIONS,
             _ => true,
         }
     }
 
     fn seeks_rise(&self, event: &Event) -> bool
-        ensures { result ≡ true → SeekRises self.now.names self.now.broker event.now }
+        ensures { IsTrue result ↔ SeekRises self.now.names self.now.broker event.now }
     {
         match *event {
             Event::Seek { sub, .. } => self.seek_fits(name_at(self.names.as_slice(), sub)),
@@ -107,7 +117,7 @@ impl TopicNode {
     }
 
     fn seek_fits(&self, name: &[u8]) -> bool
-        ensures { result ≡ true → SeekFits self.now.broker name.now }
+        ensures { IsTrue result ↔ SeekFits self.now.broker name.now }
     {
         match place_named(&self.book, name) {
             None => true,

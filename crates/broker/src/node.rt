@@ -5,20 +5,17 @@ ghost use Rattle.geo_base.specs.Cursor.{mark};
 ghost use Rattle.broker_subs.specs.SubBook.{subs_of};
 ghost use Rattle.broker_subs.specs.Table.{sub_at};
 
-use broker_plans::Site;
-use broker_state::{Book, SenderRow};
+use broker_state::{Book, SenderRow, Site};
 use broker_subs::Sub;
 use geo_base::{Memory, Session, SubName};
 use std::alloc::Global;
 use std::marker::Model;
 use topic_ledger::TopicLedger;
 
-/// A topic's number, what its broker knows of the setup, the names of the topic's subscriptions by their numbers in events, and the
-/// broker's state. All that is kept can be written again as a frame.
+/// A topic's number, the names of the topic's subscriptions by their numbers in events, and the broker's state. All that is kept can be written again as a frame.
 #[derive(Debug, Drop)]
 pub struct TopicNode {
     pub(crate) topic: u32,
-    pub(crate) site: Site,
     pub(crate) names: Vec<SubName>,
     pub(crate) book: Book,
 }
@@ -28,9 +25,9 @@ impl Model for TopicNode {
 
     ghost Value = { NodeBook };
 
-    ghost view = { λ n. record { topic = n.topic; site = n.site; names = n.names.items; broker = n.book.broker; room = n.book.room } };
+    ghost view = { λ n. record { topic = n.topic; site = n.book.site; names = n.names.items; broker = n.book.broker; room = n.book.room } };
 
-    ghost invariant = { λ n. NodeHolds n.site n.book };
+    ghost invariant = { λ n. NodeHolds n.book };
 }
 
 impl TopicNode {
@@ -50,14 +47,8 @@ impl TopicNode {
         ensures names { IfOk result (λ v. v.names ≡ names.items) }
         ensures broker { IfOk result (λ v. v.broker ≡ new_broker (length site.clusters) clients) }
     {
-        let clusters = site.clusters().len() as u32;
-        let book = Book::new(alloc, site.own(), clusters, clients, site.per_ledger())?;
-        Ok(TopicNode {
-            topic,
-            site,
-            names,
-            book,
-        })
+        let book = Book::new(alloc, site, clients)?;
+        Ok(TopicNode { topic, names, book })
     }
 
     /// The topic's number.
@@ -71,14 +62,14 @@ impl TopicNode {
     pub fn cluster(&self) -> u32
         ensures { result ≡ self.now.site.own }
     {
-        self.site.own()
+        self.book.site().own()
     }
 
     /// What the broker knows of the setup.
     pub fn site(&self) -> &Site
         ensures { result.now ≡ self.now.site }
     {
-        &self.site
+        self.book.site()
     }
 
     /// The topic's entries and ledgers.
@@ -95,6 +86,7 @@ impl TopicNode {
         requires { remote < length self.now.site.clusters }
         ensures { result.now.sender ≡ sender_at self.now.broker remote }
     {
+        let _site = self.book.site();
         self.book.sender(remote)
     }
 
@@ -103,7 +95,7 @@ impl TopicNode {
         requires { remote < length self.now.site.clusters }
         ensures { result ≡ mark (sender_at self.now.broker remote).cursor }
     {
-        self.book.sender(remote).cursor().mark_delete()
+        self.sender(remote).cursor().mark_delete()
     }
 
     /// How many subscriptions there are.

@@ -5,7 +5,7 @@ ghost use Rattle.broker_plans.specs.Storable.{IsReadFrame};
 ghost use Rattle.broker.specs.Input.{ReadsInput, ReadsPacket};
 
 use crate::packet::LinkPacket;
-use broker_plans::Site;
+use broker_state::Site;
 use frame_values::read_value;
 use geo_base::{Memory, Packet};
 use std::alloc::Global;

@@ -4,8 +4,7 @@ ghost use Rattle.durable_parts.specs.Durable.{broker_of, durable_part};
 ghost use Rattle.broker.specs.Node.{IsDurableOf};
 
 use crate::node::TopicNode;
-use broker_plans::Site;
-use broker_state::Book;
+use broker_state::{Book, Site};
 use durable_parts::Durable;
 use geo_base::{Memory, SubName};
 use std::alloc::Global;
@@ -17,6 +16,7 @@ impl TopicNode {
         ensures broker { IfOk result (λ d. broker_of d ≡ durable_part self.now.broker) }
         ensures site { IfOk result (IsDurableOf self.now.site) }
     {
+        let _site = self.book.site();
         self.book.durable(alloc)
     }
 
@@ -37,12 +37,7 @@ impl TopicNode {
         ensures broker { IfOk result (λ v. v.broker ≡ record (broker_of durable) { receivers = replicate (length durable.senders) None; sessions = replicate clients None }) }
     {
         let _parts = durable.subs.as_slice();
-        let book = Book::from_durable(alloc, durable, clients)?;
-        Ok(TopicNode {
-            topic,
-            site,
-            names,
-            book,
-        })
+        let book = Book::from_durable(alloc, site, durable, clients)?;
+        Ok(TopicNode { topic, names, book })
     }
 }

@@ -6,6 +6,7 @@ use Rattle.geo_base.specs.declared.change.Change.TheVariants as change
 use Rattle.geo_base.specs.declared.entry.Entry.{Entry}
 use Rattle.geo_base.specs.declared.frame.Frame.{Frame}
 use Rattle.geo_base.specs.declared.packet.Out.{Out}
+use Rattle.geo_base.specs.declared.packet.WireOut.{WireOut}
 use Rattle.geo_base.specs.declared.position.Position.{Position}
 use Rattle.geo_base.specs.declared.write.Write.{Write}
 use Rattle.geo_base.specs.Broker.{Broker, Site}
@@ -13,23 +14,22 @@ use Rattle.geo_base.specs.Plan.{plan_of, quiet_plan}
 use Rattle.geo_base.specs.Storing.{receipt_position, storing}
 use Rattle.broker_state.specs.Prepared.{PreparedBook}
 use Rattle.broker_state.specs.Room.{HasRoom, Room}
-use Rattle.broker_state.specs.declared.prepared.Outgoing.{Outgoing}
 use Rattle.broker_plans.specs.Prepared.{AlsoSends, ArePackets, IsPrepared}
 use Rattle.broker_links.specs.Acts.{opening_plan, receipts, receiving_plan, times}
 use Rattle.broker_links.specs.Answers.{AlsoAnswers, out_of, outs_of, receipt_answer, second_out, success_answer}
-use Rattle.broker_links.specs.declared.answer.Answer.{Answer}
+use Rattle.broker_links.specs.declared.answers.Answer.{Answer}
 
 -- ---- one packet and two
 
 one : (names : List (List ℕ)) (o : Out) (p q : PreparedBook) → AlsoSends names o p q → AlsoAnswers names (o ∷ []) p q
-one names o p q more = record { outgoing = more.outgoing ∷ []; with = more.with; written = (more.written, tt) }
+one names o p q more = record { packets = more.packet ∷ []; with = more.with; written = (more.written, tt) }
 
 two : (names : List (List ℕ)) (o u : Out) (p q r : PreparedBook) → AlsoSends names o p q → AlsoSends names u q r → AlsoAnswers names (o ∷ u ∷ []) p r
 two names o u p q r first second =
-    let both : (p.sent ++ first.outgoing ∷ []) ++ second.outgoing ∷ [] ≡ p.sent ++ first.outgoing ∷ second.outgoing ∷ [] = rw append_assoc refl in
+    let both : (p.sent ++ first.packet ∷ []) ++ second.packet ∷ [] ≡ p.sent ++ first.packet ∷ second.packet ∷ [] = rw append_assoc refl in
     record {
-      outgoing = first.outgoing ∷ second.outgoing ∷ [];
-      with = second.with ∙ ap (λ (b : PreparedBook). record b { sent = b.sent ++ second.outgoing ∷ [] }) first.with ∙ ap (λ (os : List Outgoing). record p { sent = os }) both;
+      packets = first.packet ∷ second.packet ∷ [];
+      with = second.with ∙ ap (λ (b : PreparedBook). record b { sent = b.sent ++ second.packet ∷ [] }) first.with ∙ ap (λ (os : List WireOut). record p { sent = os }) both;
       written = (first.written, (second.written, tt));
     }
 
@@ -47,7 +47,7 @@ answers_as names a wanted p q is more = subst (λ (v : Answer). AlsoAnswers name
 
 -- ---- an event that sent nothing before
 
-none_sent : (names : List (List ℕ)) (ps : List Outgoing) → ArePackets names [] ps → ps ≡ []
+none_sent : (names : List (List ℕ)) (ps : List WireOut) → ArePackets names [] ps → ps ≡ []
 none_sent names [] all = refl
 none_sent names (p ∷ ps) all = absurd all
 

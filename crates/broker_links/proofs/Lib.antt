@@ -1,7 +1,7 @@
 pub mod Again
 pub mod Answered
 pub mod Plans
-pub mod Receipts
+pub mod ReceivedTwice
 pub mod Resets
 pub mod Small
 pub mod Storable

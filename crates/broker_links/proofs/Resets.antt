@@ -9,9 +9,8 @@ use Rattle.geo_base.specs.declared.write.Write.TheVariants as write
 use Rattle.geo_base.specs.Broker.{Broker, Site, sender_at}
 use Rattle.geo_base.specs.Forwarding.{is_remote, reset, resets}
 use Rattle.geo_base.specs.Plan.{Plan, idle_plan, plan_of}
-use Rattle.broker_state.specs.Book.{BrokerBook}
 use Rattle.broker_state.specs.Prepared.{PreparedBook, idle_book}
-use Rattle.broker_plans.specs.Prepared.{AlsoSends, IsAt, IsPrepared}
+use Rattle.broker_plans.specs.Prepared.{AlsoSends, IsPrepared}
 use Rattle.broker_plans.proofs.Keeping.{sends_more}
 use Rattle.broker_links.specs.Answers.{opening, opening_out}
 use Rattle.broker_links.proofs.Plans.{idle}
@@ -44,7 +43,9 @@ reset_idle h b y t p told other is =
 pub reset_begins : (h : Site) (b : Broker) (y session : ℕ) (t : Bool) → t ≡ is_remote h y → t ≡ true → session ≡ (sender_at b y).session + 1 → resets h y session ≡ reset h b y
 reset_begins h b y session t told remote next = ap (λ (n : ℕ). resets h y n) next ∙ reset_is h b y true (sym remote ∙ told)
 
-pub remote_within : (h : Site) (book : BrokerBook) (y : ℕ) (t : Bool) → IsAt h book → t ≡ is_remote h y → t ≡ true → y < length book.broker.senders
-remote_within h book y t at told remote =
-    let within : nat_lt y (length h.clusters) ≡ true = (and_parts (nat_lt y (length h.clusters)) (not (y == h.own)) (sym told ∙ remote)).0 in
-    subst (λ (n : ℕ). y < n) (sym at.senders) (ltb-true y (length h.clusters) within)
+-- g is the site as it was read, and there is a sender for each cluster
+pub remote_within : (h g : Site) (b : Broker) (y : ℕ) (t : Bool) → length b.senders ≡ length h.clusters → g ≡ h → t ≡ is_remote g y → t ≡ true → y < length b.senders
+remote_within h g b y t senders same told remote =
+    let is : t ≡ is_remote h y = told ∙ ap (λ (k : Site). is_remote k y) same in
+    let within : nat_lt y (length h.clusters) ≡ true = (and_parts (nat_lt y (length h.clusters)) (not (y == h.own)) (sym is ∙ remote)).0 in
+    subst (λ (n : ℕ). y < n) (sym senders) (ltb-true y (length h.clusters) within)

@@ -7,7 +7,7 @@ use Rattle.geo_base.specs.declared.frame.Frame.TheVariants as frame
 use Rattle.geo_base.specs.declared.position.Position.{Position}
 use Rattle.geo_base.specs.Broker.{Site}
 use Rattle.geo_base.specs.Forwarding.{link_producer}
-use Rattle.broker_plans.specs.Prepared.{IsSite}
+use Rattle.broker_state.specs.Site.{IsSite}
 use Rattle.broker_plans.proofs.Packets.{name_most}
 use Rattle.broker_links.specs.Answers.{IsBrief, receipt, success}
 

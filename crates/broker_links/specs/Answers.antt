@@ -5,17 +5,17 @@ use Rattle.geo_base.specs.declared.frame.Frame.{Frame}
 use Rattle.geo_base.specs.declared.frame.Frame.TheVariants as frame
 use Rattle.geo_base.specs.declared.packet.Out.{Out}
 use Rattle.geo_base.specs.declared.packet.Peer.TheVariants as peer
+use Rattle.geo_base.specs.declared.packet.WireOut.{WireOut}
 use Rattle.geo_base.specs.declared.position.Position.{Position}
 use Rattle.geo_base.specs.Broker.{Site}
 use Rattle.geo_base.specs.Forwarding.{link_producer}
 use Rattle.geo_base.specs.Position.{nowhere}
 use Rattle.broker_state.specs.Prepared.{PreparedBook}
-use Rattle.broker_state.specs.declared.prepared.Outgoing.{Outgoing}
 use Rattle.broker_plans.specs.Prepared.{ArePackets}
 use Rattle.frame_values.specs.Coded.{carries_entry}
 use Rattle.frame_values.specs.Fitting.{IsSmall}
 use Rattle.frame_values.specs.Texts.{is_readable}
-use Rattle.broker_links.specs.declared.answer.Answer.{Answer}
+use Rattle.broker_links.specs.declared.answers.Answer.{Answer}
 
 -- a frame without an entry, whose texts are short
 pub record IsBrief (names : List (List ℕ)) (f : Frame) : Type 0 where
@@ -42,9 +42,9 @@ opening_out h y session = record { to = peer.Forward y; session = session; frame
 
 -- an event that sends more packets behind all that it does
 pub record AlsoAnswers (names : List (List ℕ)) (os : List Out) (old new : PreparedBook) : Type 0 where
-  pub outgoing : List Outgoing
-  pub with : new ≡ record old { sent = old.sent ++ outgoing }
-  pub written : ArePackets names os outgoing
+  pub packets : List WireOut
+  pub with : new ≡ record old { sent = old.sent ++ packets }
+  pub written : ArePackets names os packets
 
 abbrev pub second_of : Bool → Frame → Option Frame
 second_of again f = if again then Some f else None

@@ -7,7 +7,6 @@ ghost use Rattle.broker_plans.specs.Storable.{IsReadEntry, IsReadFrame};
 ghost use Rattle.broker_links.specs.Acts.{ActStorable, act_of, command_act, send_act};
 ghost use Rattle.broker_links.specs.declared.act.TakeAct.TheVariants as act;
 
-use broker_plans::Site;
 use broker_state::Book;
 use frame_values::is_within_limit;
 use geo_base::{Entry, Frame, Place, Text};
@@ -28,11 +27,11 @@ pub(crate) enum TakeAct {
 }
 
 /// What a frame of a session does, by the session that is open.
-pub(crate) fn act_of(site: &Site, book: &Book, source: u32, session: u64, frame: Frame) -> TakeAct
+pub(crate) fn act_of(book: &Book, source: u32, session: u64, frame: Frame) -> TakeAct
     requires source { source < length book.now.broker.receivers }
     requires read { IsReadFrame frame }
-    ensures act { result ≡ act_of site.now (receiver_at book.now.broker source) source session frame }
-    ensures storable { ActStorable site.now result }
+    ensures act { result ≡ act_of book.now.site (receiver_at book.now.broker source) source session frame }
+    ensures storable { ActStorable book.now.site result }
 {
     let is_open = is_open(book, source, session);
     match frame {
@@ -42,8 +41,8 @@ pub(crate) fn act_of(site: &Site, book: &Book, source: u32, session: u64, frame:
             id,
             request,
             name: _name,
-        } => producer_act(site, session, is_open, &topic, id, request),
-        frame => session_act(site, source, is_open, frame),
+        } => producer_act(book, session, is_open, &topic, id, request),
+        frame => session_act(book, source, is_open, frame),
     }
 }
 
@@ -60,17 +59,17 @@ fn is_open(book: &Book, source: u32, session: u64) -> bool
 
 /// A PRODUCER of the topic, whose producer id is the session's number, opens the session; another one has no place there.
 fn producer_act(
-    site: &Site,
+    book: &Book,
     session: u64,
     is_open: bool,
     topic: &Text,
     id: u64,
     request: u64,
 ) -> TakeAct
-    ensures act { result ≡ (if bytes_eq topic.now site.now.topic && (id == session) then act.Opens id request else (if is_open then act.Refuses else act.Discards)) }
-    ensures storable { ActStorable site.now result }
+    ensures act { result ≡ (if bytes_eq topic.now book.now.site.topic && (id == session) then act.Opens id request else (if is_open then act.Refuses else act.Discards)) }
+    ensures storable { ActStorable book.now.site result }
 {
-    if topic.as_bytes() == site.topic().as_str().as_bytes() && id == session {
+    if topic.as_bytes() == book.site().topic().as_str().as_bytes() && id == session {
         return TakeAct::Opens { id, request };
     }
     if is_open {
@@ -81,13 +80,13 @@ fn producer_act(
 }
 
 /// What comes in a session that is not open is discarded.
-fn session_act(site: &Site, source: u32, is_open: bool, frame: Frame) -> TakeAct
+fn session_act(book: &Book, source: u32, is_open: bool, frame: Frame) -> TakeAct
     requires { IsReadFrame frame }
-    ensures act { result ≡ (if is_open then command_act site.now source frame else act.Discards) }
-    ensures storable { ActStorable site.now result }
+    ensures act { result ≡ (if is_open then command_act book.now.site source frame else act.Discards) }
+    ensures storable { ActStorable book.now.site result }
 {
     if is_open {
-        command_act(site, source, frame)
+        command_act(book, source, frame)
     } else {
         drop(frame);
         TakeAct::Discards
@@ -95,10 +94,10 @@ fn session_act(site: &Site, source: u32, is_open: bool, frame: Frame) -> TakeAct
 }
 
 /// Only a SEND is acted on in the session that is open.
-fn command_act(site: &Site, source: u32, frame: Frame) -> TakeAct
+fn command_act(book: &Book, source: u32, frame: Frame) -> TakeAct
     requires { IsReadFrame frame }
-    ensures act { result ≡ command_act site.now source frame }
-    ensures storable { ActStorable site.now result }
+    ensures act { result ≡ command_act book.now.site source frame }
+    ensures storable { ActStorable book.now.site result }
 {
     match frame {
         Frame::Send {
@@ -106,7 +105,7 @@ fn command_act(site: &Site, source: u32, frame: Frame) -> TakeAct
             seq,
             source: from,
             entry,
-        } => send_act(site, source, seq, &from, entry),
+        } => send_act(book, source, seq, &from, entry),
         other => {
             drop(other);
             TakeAct::Refuses
@@ -116,12 +115,12 @@ fn command_act(site: &Site, source: u32, frame: Frame) -> TakeAct
 
 /// A SEND in the session that is open.
 #[tactic(auto, using(crate::proofs::Storable::storable_within))]
-fn send_act(site: &Site, source: u32, seq: u64, from: &Option<Place>, entry: Entry) -> TakeAct
+fn send_act(book: &Book, source: u32, seq: u64, from: &Option<Place>, entry: Entry) -> TakeAct
     requires { IsReadEntry entry }
-    ensures act { result ≡ send_act site.now source seq from.now entry }
-    ensures storable { ActStorable site.now result }
+    ensures act { result ≡ send_act book.now.site source seq from.now entry }
+    ensures storable { ActStorable book.now.site result }
 {
-    if is_from(source, from) && is_within_limit(site.clusters(), &entry) {
+    if is_from(source, from) && is_within_limit(book.site().clusters(), &entry) {
         let mut entry = entry;
         entry.ident.origin = source;
         return TakeAct::Receives { seq, entry };

@@ -3,11 +3,11 @@
 #![tactic(auto)]
 
 mod act;
-mod answer;
-mod answering;
+mod answers;
+mod receipts;
 mod resetting;
 mod taking;
 
-pub use answering::prepare_receipt;
+pub use receipts::prepare_receipt;
 pub use resetting::prepare_reset;
 pub use taking::prepare_take;

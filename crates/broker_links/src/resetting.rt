@@ -1,16 +1,17 @@
 //! A session to another cluster begins.
-ghost use Rattle.std.specs.Prelude.{◌≡◌, ◌<◌, ◌+◌, [], ◌∷◌, length, IfOk};
+ghost use Rattle.std.specs.Prelude.{◌≡◌, ◌<◌, ◌+◌, [], ◌∷◌, length, IfOk, OnOk};
 ghost use Rattle.geo_base.specs.declared.change.Change.TheVariants as change;
 ghost use Rattle.geo_base.specs.declared.write.Write.TheVariants as write;
 ghost use Rattle.geo_base.specs.Broker.{sender_at};
 ghost use Rattle.geo_base.specs.Forwarding.{reset, resets};
 ghost use Rattle.geo_base.specs.Plan.{plan_of};
+ghost use Rattle.broker_state.specs.Prepared.{IsEmptyPlan};
 ghost use Rattle.broker_state.specs.Room.{HasRoom, Room};
-ghost use Rattle.broker_plans.specs.Prepared.{AlsoSends, IsAt, IsPrepared};
+ghost use Rattle.broker_plans.specs.Prepared.{AlsoSends, IsPrepared};
 ghost use Rattle.broker_links.specs.Answers.{IsBrief, opening, opening_out};
 ghost use Rattle.broker_links.specs.Ready.{SessionFits};
 
-use broker_plans::{Site, also_send};
+use broker_plans::also_send;
 use broker_state::{Book, BookChange, BookWrite, Prepared};
 use geo_base::{Frame, Memory, Peer, Text};
 use std::alloc::Global;
@@ -19,20 +20,20 @@ use std::alloc::Global;
 #[tactic(auto, using(crate::proofs::Plans::idle_room, crate::proofs::Resets::remote_within))]
 pub fn prepare_reset(
     alloc: Global,
-    site: &Site,
     book: &Book,
     remote: u32,
-) -> Result<Prepared, Memory>
-    requires at { IsAt site.now book.now }
+    plan: &mut Prepared,
+) -> Result<(), Memory>
     requires session { SessionFits book.now.broker remote }
-    ensures prepared { IfOk result (IsPrepared site.now book.now.broker (reset site.now book.now.broker remote)) }
-    ensures room { (room : Room) → IfOk result (HasRoom room) }
+    requires empty { IsEmptyPlan plan.old }
+    ensures prepared { OnOk result (IsPrepared book.now.site book.now.broker (reset book.now.site book.now.broker remote) plan.new) }
+    ensures room { (room : Room) → OnOk result (HasRoom room plan.new) }
 {
-    if !site.is_remote(remote) {
-        return Ok(Prepared::idle(alloc));
+    if !book.site().is_remote(remote) {
+        return Ok(());
     }
     let session = next_session(book, remote);
-    begins(alloc, site, book, remote, session)
+    begin_session(alloc, book, remote, session, plan)
 }
 
 /// The number of the next session to a cluster.
@@ -45,68 +46,65 @@ fn next_session(book: &Book, remote: u32) -> u64
 }
 
 /// The session's number is written, and the session is to be opened.
-fn begins(
+fn begin_session(
     alloc: Global,
-    site: &Site,
     book: &Book,
     remote: u32,
     session: u64,
-) -> Result<Prepared, Memory>
-    requires { remote < length book.now.broker.senders }
-    ensures prepared { IfOk result (IsPrepared site.now book.now.broker (resets site.now remote session)) }
-    ensures room { (room : Room) → IfOk result (HasRoom room) }
+    plan: &mut Prepared,
+) -> Result<(), Memory>
+    requires remote { remote < length book.now.broker.senders }
+    requires empty { IsEmptyPlan plan.old }
+    ensures prepared { OnOk result (IsPrepared book.now.site book.now.broker (resets book.now.site remote session) plan.new) }
+    ensures room { (room : Room) → OnOk result (HasRoom room plan.new) }
 {
-    let plan = beginning(alloc, site, book, remote, session)?;
-    let prepared = also_open(alloc, site, plan, remote, session)?;
-    Ok(prepared)
+    write_session(book, remote, session, plan)?;
+    also_open(alloc, book, plan, remote, session)?;
+    Ok(())
 }
 
+/// The same before its packet is sent.
 #[tactic(auto, using(crate::proofs::Plans::begins_prepared, crate::proofs::Plans::begins_room))]
-fn beginning(
-    alloc: Global,
-    site: &Site,
-    book: &Book,
-    remote: u32,
-    session: u64,
-) -> Result<Prepared, Memory>
-    requires { remote < length book.now.broker.senders }
-    ensures prepared { IfOk result (IsPrepared site.now book.now.broker (plan_of (write.SessionNumber remote session ∷ []) (change.Opening remote ∷ []) [])) }
-    ensures room { (room : Room) → IfOk result (HasRoom room) }
+fn write_session(book: &Book, remote: u32, session: u64, plan: &mut Prepared) -> Result<(), Memory>
+    requires remote { remote < length book.now.broker.senders }
+    requires empty { IsEmptyPlan plan.old }
+    ensures prepared { OnOk result (IsPrepared book.now.site book.now.broker (plan_of (write.SessionNumber remote session ∷ []) (change.Opening remote ∷ []) []) plan.new) }
+    ensures room { (room : Room) → OnOk result (HasRoom room plan.new) }
 {
-    let mut plan = Prepared::quiet(alloc, 0);
+    plan.begin(0);
     plan.write(BookWrite::SessionNumber { remote, session })?;
     plan.change(BookChange::Opening { remote })?;
-    Ok(plan)
+    Ok(())
 }
 
 /// An event that also sends the packet that opens a session.
 fn also_open(
     alloc: Global,
-    site: &Site,
-    prepared: Prepared,
+    book: &Book,
+    plan: &mut Prepared,
     remote: u32,
     session: u64,
-) -> Result<Prepared, Memory>
-    ensures { IfOk result (AlsoSends site.now.clusters (opening_out site.now remote session) prepared) }
+) -> Result<(), Memory>
+    ensures { OnOk result (AlsoSends book.now.site.clusters (opening_out book.now.site remote session) plan.old plan.new) }
 {
-    let frame = opening(alloc, site, session)?;
+    let frame = opening_frame(alloc, book, session)?;
     let to = Peer::Forward(remote);
-    let sent = also_send(alloc, site, prepared, to, session, &frame);
+    let sent = also_send(alloc, book, plan, to, session, &frame);
     drop(frame);
-    let with = sent?;
-    Ok(with)
+    sent?;
+    Ok(())
 }
 
 /// The packet that opens a session has its number as producer id and as request id.
 #[tactic(auto, using(crate::proofs::Small::opening_brief))]
-fn opening(alloc: Global, site: &Site, session: u64) -> Result<Frame, Memory>
-    ensures frame { IfOk result (λ f. f ≡ opening site.now session) }
-    ensures brief { IfOk result (IsBrief site.now.clusters) }
+fn opening_frame(alloc: Global, book: &Book, session: u64) -> Result<Frame, Memory>
+    ensures frame { IfOk result (λ f. f ≡ opening book.now.site session) }
+    ensures brief { IfOk result (IsBrief book.now.site.clusters) }
 {
     Ok(Frame::Producer {
-        topic: Text::from_str(alloc, site.topic().as_str())?,
+        topic: Text::from_str(alloc, book.site().topic().as_str())?,
         id: session,
         request: session,
-        name: Some(site.link_producer(alloc, site.own())?),
+        name: Some(book.site().link_producer(alloc, book.site().own())?),
     })
 }

@@ -1,16 +1,18 @@
 //! The receiving end of a forward link: take.
-ghost use Rattle.std.specs.Prelude.{◌≡◌, ◌<◌, [], ◌∷◌, length, IfOk, IfSome};
+ghost use Rattle.std.specs.Prelude.{◌<◌, [], ◌∷◌, length, IfSome, OnOk};
 ghost use Rattle.geo_base.specs.declared.change.Change.TheVariants as change;
 ghost use Rattle.geo_base.specs.Forwarding.{take_fate, take_frame, take_packet};
 ghost use Rattle.geo_base.specs.Plan.{quiet_plan, twice};
+ghost use Rattle.broker_state.specs.Prepared.{IsEmptyPlan};
 ghost use Rattle.broker_state.specs.Room.{HasRoom, Room};
-ghost use Rattle.broker_plans.specs.Prepared.{IsAt, IsPrepared, SameState};
+ghost use Rattle.broker_state.specs.Book.{SameState};
+ghost use Rattle.broker_plans.specs.Prepared.{IsPrepared};
 ghost use Rattle.broker_plans.specs.Storable.{IsReadFrame, IsStorable};
 ghost use Rattle.broker_links.specs.Acts.{ActStorable, acted, opening_plan, packet_acted, receiving_plan, times};
 
 use crate::act::{TakeAct, act_of};
-use crate::answer::{Arrival, also_receipt, also_succeed};
-use broker_plans::{Site, storing};
+use crate::answers::{Arrival, also_receipt, also_succeed};
+use broker_plans::storing;
 use broker_state::{Book, BookChange, Prepared};
 use geo_base::{Entry, Fate, Memory, Packet};
 use std::alloc::Global;
@@ -19,98 +21,98 @@ use std::alloc::Global;
 #[tactic(auto, unfolding(geo_base::specs::Forwarding::take_packet), using(crate::proofs::Plans::idle, crate::proofs::Plans::idle_room))]
 pub fn prepare_take(
     alloc: Global,
-    site: &Site,
     book: &mut Book,
     source: u32,
     fate: Fate,
     input: Option<Packet>,
-) -> Result<Prepared, Memory>
-    requires at { IsAt site.now book.old }
+    plan: &mut Prepared,
+) -> Result<(), Memory>
     requires source { source < length book.old.broker.receivers }
     requires read { IfSome input (λ p. IsReadFrame p.frame) }
-    ensures prepared { IfOk result (IsPrepared site.now book.old.broker (take_packet site.now book.old.broker source fate input)) }
-    ensures room { IfOk result (HasRoom book.new.room) }
+    requires empty { IsEmptyPlan plan.old }
+    ensures prepared { OnOk result (IsPrepared book.old.site book.old.broker (take_packet book.old.site book.old.broker source fate input) plan.new) }
+    ensures room { OnOk result (HasRoom book.new.room plan.new) }
     ensures kept { SameState book.old book.new }
 {
     match input {
-        None => Ok(Prepared::idle(alloc)),
-        Some(packet) => take(alloc, site, book, source, fate, packet),
+        None => Ok(()),
+        Some(packet) => take(alloc, book, source, fate, packet, plan),
     }
 }
 
 /// A lost packet closes the session, since entries behind it would be stored without it.
 fn take(
     alloc: Global,
-    site: &Site,
     book: &mut Book,
     source: u32,
     fate: Fate,
     packet: Packet,
-) -> Result<Prepared, Memory>
-    requires at { IsAt site.now book.old }
+    plan: &mut Prepared,
+) -> Result<(), Memory>
     requires source { source < length book.old.broker.receivers }
     requires read { IsReadFrame packet.frame }
-    ensures prepared { IfOk result (IsPrepared site.now book.old.broker (take_fate site.now book.old.broker source packet fate)) }
-    ensures room { IfOk result (HasRoom book.new.room) }
+    requires empty { IsEmptyPlan plan.old }
+    ensures prepared { OnOk result (IsPrepared book.old.site book.old.broker (take_fate book.old.site book.old.broker source packet fate) plan.new) }
+    ensures room { OnOk result (HasRoom book.new.room plan.new) }
     ensures kept { SameState book.old book.new }
 {
     match fate {
-        Fate::Lost => becoming(alloc, site, book, source, None),
-        Fate::Good => once(alloc, site, book, source, packet),
-        Fate::Twice => twice(alloc, site, book, source, packet),
+        Fate::Lost => set_session(book, source, None, plan),
+        Fate::Good => take_once(alloc, book, source, packet, plan),
+        Fate::Twice => take_twice(alloc, book, source, packet, plan),
     }
 }
 
 /// A packet is acted on.
-fn once(
+fn take_once(
     alloc: Global,
-    site: &Site,
     book: &mut Book,
     source: u32,
     packet: Packet,
-) -> Result<Prepared, Memory>
-    requires at { IsAt site.now book.old }
+    plan: &mut Prepared,
+) -> Result<(), Memory>
     requires source { source < length book.old.broker.receivers }
     requires read { IsReadFrame packet.frame }
-    ensures prepared { IfOk result (IsPrepared site.now book.old.broker (take_frame site.now book.old.broker source packet packet.frame)) }
-    ensures room { IfOk result (HasRoom book.new.room) }
+    requires empty { IsEmptyPlan plan.old }
+    ensures prepared { OnOk result (IsPrepared book.old.site book.old.broker (take_frame book.old.site book.old.broker source packet packet.frame) plan.new) }
+    ensures room { OnOk result (HasRoom book.new.room plan.new) }
     ensures kept { SameState book.old book.new }
 {
-    acting(alloc, site, book, source, packet, false)
+    take_times(alloc, book, source, packet, false, plan)
 }
 
 /// A packet is acted on two times in a row.
-fn twice(
+fn take_twice(
     alloc: Global,
-    site: &Site,
     book: &mut Book,
     source: u32,
     packet: Packet,
-) -> Result<Prepared, Memory>
-    requires at { IsAt site.now book.old }
+    plan: &mut Prepared,
+) -> Result<(), Memory>
     requires source { source < length book.old.broker.receivers }
     requires read { IsReadFrame packet.frame }
-    ensures prepared { IfOk result (IsPrepared site.now book.old.broker (twice site.now.per_ledger book.old.broker (λ now. take_frame site.now now source packet packet.frame))) }
-    ensures room { IfOk result (HasRoom book.new.room) }
+    requires empty { IsEmptyPlan plan.old }
+    ensures prepared { OnOk result (IsPrepared book.old.site book.old.broker (twice book.old.site.per_ledger book.old.broker (λ now. take_frame book.old.site now source packet packet.frame)) plan.new) }
+    ensures room { OnOk result (HasRoom book.new.room plan.new) }
     ensures kept { SameState book.old book.new }
 {
-    acting(alloc, site, book, source, packet, true)
+    take_times(alloc, book, source, packet, true, plan)
 }
 
 /// What the act of a packet will do, once or two times in a row.
-fn acting(
+fn take_times(
     alloc: Global,
-    site: &Site,
     book: &mut Book,
     source: u32,
     packet: Packet,
     again: bool,
-) -> Result<Prepared, Memory>
-    requires at { IsAt site.now book.old }
+    plan: &mut Prepared,
+) -> Result<(), Memory>
     requires source { source < length book.old.broker.receivers }
     requires read { IsReadFrame packet.frame }
-    ensures prepared { IfOk result (IsPrepared site.now book.old.broker (packet_acted site.now book.old.broker source again packet)) }
-    ensures room { IfOk result (HasRoom book.new.room) }
+    requires empty { IsEmptyPlan plan.old }
+    ensures prepared { OnOk result (IsPrepared book.old.site book.old.broker (packet_acted book.old.site book.old.broker source again packet) plan.new) }
+    ensures room { OnOk result (HasRoom book.new.room plan.new) }
     ensures kept { SameState book.old book.new }
 {
     let arrival = Arrival {
@@ -118,127 +120,131 @@ fn acting(
         session: packet.session,
         again,
     };
-    let todo = act_of(site, book, source, packet.session, packet.frame);
-    act(alloc, site, book, arrival, todo)
+    let todo = act_of(book, source, packet.session, packet.frame);
+    act(alloc, book, arrival, todo, plan)
 }
 
 /// What an act will do.
 #[tactic(auto, using(crate::proofs::Plans::quiet, crate::proofs::Plans::quiet_room))]
 fn act(
     alloc: Global,
-    site: &Site,
     book: &mut Book,
     arrival: Arrival,
     todo: TakeAct,
-) -> Result<Prepared, Memory>
-    requires at { IsAt site.now book.old }
+    plan: &mut Prepared,
+) -> Result<(), Memory>
     requires source { arrival.source < length book.old.broker.receivers }
-    requires storable { ActStorable site.now todo }
-    ensures prepared { IfOk result (IsPrepared site.now book.old.broker (acted site.now book.old.broker arrival.source arrival.session arrival.again todo)) }
-    ensures room { IfOk result (HasRoom book.new.room) }
+    requires storable { ActStorable book.old.site todo }
+    requires empty { IsEmptyPlan plan.old }
+    ensures prepared { OnOk result (IsPrepared book.old.site book.old.broker (acted book.old.site book.old.broker arrival.source arrival.session arrival.again todo) plan.new) }
+    ensures room { OnOk result (HasRoom book.new.room plan.new) }
     ensures kept { SameState book.old book.new }
 {
     let source = arrival.source;
     match todo {
-        TakeAct::Unreadable => becoming_times(alloc, site, book, source, None, arrival.again),
-        TakeAct::Opens { id, request } => opening(alloc, site, book, arrival, id, request),
-        TakeAct::Discards => Ok(Prepared::quiet(alloc, 0)),
-        TakeAct::Refuses => becoming(alloc, site, book, source, None),
-        TakeAct::Receives { seq, entry } => receiving(alloc, site, book, arrival, seq, entry),
+        TakeAct::Unreadable => set_session_times(book, source, None, arrival.again, plan),
+        TakeAct::Opens { id, request } => open_session(alloc, book, arrival, id, request, plan),
+        TakeAct::Discards => {
+            plan.begin(0);
+            Ok(())
+        }
+        TakeAct::Refuses => set_session(book, source, None, plan),
+        TakeAct::Receives { seq, entry } => receive_entry(alloc, book, arrival, seq, entry, plan),
     }
 }
 
 /// Another session is open on the link from a cluster, or none.
 #[tactic(auto, using(crate::proofs::Takes::becomes, crate::proofs::Takes::becomes_room))]
-fn becoming(
-    alloc: Global,
-    site: &Site,
+fn set_session(
     book: &Book,
     source: u32,
     session: Option<u64>,
-) -> Result<Prepared, Memory>
-    requires { source < length book.now.broker.receivers }
-    ensures prepared { IfOk result (IsPrepared site.now book.now.broker (quiet_plan (change.Receiver source session ∷ []))) }
-    ensures room { (room : Room) → IfOk result (HasRoom room) }
+    plan: &mut Prepared,
+) -> Result<(), Memory>
+    requires source { source < length book.now.broker.receivers }
+    requires empty { IsEmptyPlan plan.old }
+    ensures prepared { OnOk result (IsPrepared book.now.site book.now.broker (quiet_plan (change.Receiver source session ∷ [])) plan.new) }
+    ensures room { (room : Room) → OnOk result (HasRoom room plan.new) }
 {
-    let mut plan = Prepared::quiet(alloc, 0);
+    plan.begin(0);
     plan.change(BookChange::Receiver { source, session })?;
-    Ok(plan)
+    Ok(())
 }
 
 /// The same two times in a row.
 #[tactic(auto, using(crate::proofs::Takes::becomes_twice, crate::proofs::Takes::becomes_twice_room))]
-fn becoming_twice(
-    alloc: Global,
-    site: &Site,
+fn set_session_twice(
     book: &Book,
     source: u32,
     session: Option<u64>,
-) -> Result<Prepared, Memory>
-    requires { source < length book.now.broker.receivers }
-    ensures prepared { IfOk result (IsPrepared site.now book.now.broker (quiet_plan (change.Receiver source session ∷ change.Receiver source session ∷ []))) }
-    ensures room { (room : Room) → IfOk result (HasRoom room) }
+    plan: &mut Prepared,
+) -> Result<(), Memory>
+    requires source { source < length book.now.broker.receivers }
+    requires empty { IsEmptyPlan plan.old }
+    ensures prepared { OnOk result (IsPrepared book.now.site book.now.broker (quiet_plan (change.Receiver source session ∷ change.Receiver source session ∷ [])) plan.new) }
+    ensures room { (room : Room) → OnOk result (HasRoom room plan.new) }
 {
-    let mut plan = Prepared::quiet(alloc, 0);
+    plan.begin(0);
     plan.change(BookChange::Receiver { source, session })?;
     plan.change(BookChange::Receiver { source, session })?;
-    Ok(plan)
+    Ok(())
 }
 
 /// Once, or two times in a row.
-fn becoming_times(
-    alloc: Global,
-    site: &Site,
+fn set_session_times(
     book: &Book,
     source: u32,
     session: Option<u64>,
     again: bool,
-) -> Result<Prepared, Memory>
-    requires { source < length book.now.broker.receivers }
-    ensures prepared { IfOk result (IsPrepared site.now book.now.broker (quiet_plan (times again (change.Receiver source session)))) }
-    ensures room { (room : Room) → IfOk result (HasRoom room) }
+    plan: &mut Prepared,
+) -> Result<(), Memory>
+    requires source { source < length book.now.broker.receivers }
+    requires empty { IsEmptyPlan plan.old }
+    ensures prepared { OnOk result (IsPrepared book.now.site book.now.broker (quiet_plan (times again (change.Receiver source session))) plan.new) }
+    ensures room { (room : Room) → OnOk result (HasRoom room plan.new) }
 {
     if again {
-        becoming_twice(alloc, site, book, source, session)
+        set_session_twice(book, source, session, plan)
     } else {
-        becoming(alloc, site, book, source, session)
+        set_session(book, source, session, plan)
     }
 }
 
 /// A session opens, and any earlier one ends; the packet is answered.
-fn opening(
+fn open_session(
     alloc: Global,
-    site: &Site,
     book: &Book,
     arrival: Arrival,
     id: u64,
     request: u64,
-) -> Result<Prepared, Memory>
-    requires { arrival.source < length book.now.broker.receivers }
-    ensures prepared { IfOk result (IsPrepared site.now book.now.broker (opening_plan site.now arrival.source arrival.again id request)) }
-    ensures room { (room : Room) → IfOk result (HasRoom room) }
+    plan: &mut Prepared,
+) -> Result<(), Memory>
+    requires source { arrival.source < length book.now.broker.receivers }
+    requires empty { IsEmptyPlan plan.old }
+    ensures prepared { OnOk result (IsPrepared book.now.site book.now.broker (opening_plan book.now.site arrival.source arrival.again id request) plan.new) }
+    ensures room { (room : Room) → OnOk result (HasRoom room plan.new) }
 {
-    let plan = becoming_times(alloc, site, book, arrival.source, Some(id), arrival.again)?;
-    let prepared = also_succeed(alloc, site, plan, arrival, id, request)?;
-    Ok(prepared)
+    set_session_times(book, arrival.source, Some(id), arrival.again, plan)?;
+    also_succeed(alloc, book, plan, arrival, id, request)?;
+    Ok(())
 }
 
 /// An entry is stored unless it is a duplicate, and answered either way.
-fn receiving(
+fn receive_entry(
     alloc: Global,
-    site: &Site,
     book: &mut Book,
     arrival: Arrival,
     seq: u64,
     entry: Entry,
-) -> Result<Prepared, Memory>
-    requires at { IsAt site.now book.old }
-    requires storable { IsStorable site.now entry }
-    ensures prepared { IfOk result (IsPrepared site.now book.old.broker (receiving_plan site.now book.old.broker arrival.source arrival.session arrival.again seq entry)) }
-    ensures room { IfOk result (HasRoom book.new.room) }
+    plan: &mut Prepared,
+) -> Result<(), Memory>
+    requires storable { IsStorable book.old.site entry }
+    requires empty { IsEmptyPlan plan.old }
+    ensures prepared { OnOk result (IsPrepared book.old.site book.old.broker (receiving_plan book.old.site book.old.broker arrival.source arrival.session arrival.again seq entry) plan.new) }
+    ensures room { OnOk result (HasRoom book.new.room plan.new) }
     ensures kept { SameState book.old book.new }
 {
-    let stored = storing(alloc, site, book, entry)?;
-    let prepared = also_receipt(alloc, site, stored.prepared, arrival, seq, stored.position)?;
-    Ok(prepared)
+    let position = storing(alloc, book, entry, plan)?;
+    also_receipt(alloc, book, plan, arrival, seq, position)?;
+    Ok(())
 }

@@ -19,14 +19,15 @@ use Rattle.broker_subs.specs.Table.{sub_at}
 use Rattle.broker_subs.specs.declared.writing.SubWrite.TheVariants as sub_write
 use Rattle.broker_state.specs.Prepared.{PreparedBook}
 use Rattle.broker_state.specs.Room.{change_room, change_senders, total}
-use Rattle.broker_state.specs.declared.prepared.Outgoing.{Outgoing}
-use Rattle.broker_plans.specs.Prepared.{ArePackets, IsPrepared, IsSite}
+use Rattle.geo_base.specs.declared.packet.WireOut.{WireOut}
+use Rattle.broker_state.specs.Site.{IsSite}
+use Rattle.broker_plans.specs.Prepared.{ArePackets, IsPrepared}
 use Rattle.broker_plans.specs.Storable.{IsSnapshotOf, IsStorable, IsWritable}
 use Rattle.broker_plans.specs.Updates.{update_after}
 use Rattle.broker_plans.proofs.Packets.{stored_at}
 use Rattle.broker_plans.proofs.Places.{name_there}
 use Rattle.broker_plans.proofs.Updates.{cache_at}
-use Rattle.broker_offers.specs.Offering.{cached_with, given_book, gives, offer_index, passing_changes, writing_book}
+use Rattle.broker_offers.specs.Offering.{cached_with, given_book, gives, offer_index, catch_up_changes, writing_book}
 use Rattle.broker_offers.proofs.Shapes.{gives_index, writes_cursor}
 
 pub no_sub : (h : Site) (b : Broker) (n : List ℕ) → sub_named b.subs n ≡ None → offer h b n ≡ idle_plan
@@ -44,16 +45,17 @@ some_due h b n s i is due = rw (is, due) refl
 pub is_given : (h : Site) (b : Broker) (s : Subscription) (i : ℕ) (e : Entry) → slice_get b.entries i ≡ Some e → is_data e.content ≡ true → offer_index h b s i ≡ gives h b s i e
 is_given h b s i e at is = rw (at, is) refl
 
-pub is_passed : (h : Site) (b : Broker) (s : Subscription) (i : ℕ) (e : Entry) → slice_get b.entries i ≡ Some e → is_data e.content ≡ false
+pub is_caught_up : (h : Site) (b : Broker) (s : Subscription) (i : ℕ) (e : Entry) → slice_get b.entries i ≡ Some e → is_data e.content ≡ false
     → offer_index h b s i ≡ passes_by h b s i (own_snapshot h b s e.ident.origin e.content)
-is_passed h b s i e at marker = rw (at, marker) refl
+is_caught_up h b s i e at marker = rw (at, marker) refl
 
 -- a message, where room was made before
-pub given_from : (h : Site) (b c : Broker) (k i : ℕ) (e : Entry) (p : PreparedBook) → c ≡ b → slice_get c.entries i ≡ Some e → is_data e.content ≡ true → IsPrepared h c (gives h c (sub_at c.subs k) i e) p
+pub given_from : (h g : Site) (b c : Broker) (k i : ℕ) (e : Entry) (p : PreparedBook) → g ≡ h → c ≡ b → slice_get c.entries i ≡ Some e → is_data e.content ≡ true → IsPrepared g c (gives g c (sub_at c.subs k) i e) p
     → IsPrepared h b (offer_index h b (sub_at b.subs k) i) p
-given_from h b c k i e p same at is prepared =
-    subst (λ (d : Broker). IsPrepared h d (offer_index h d (sub_at d.subs k) i) p) same
-    (subst (λ (q : Plan). IsPrepared h c q p) (sym (is_given h c (sub_at c.subs k) i e at is)) prepared)
+given_from h g b c k i e p site same at is prepared =
+    subst (λ (f : Site). IsPrepared f b (offer_index f b (sub_at b.subs k) i) p) site
+    (subst (λ (d : Broker). IsPrepared g d (offer_index g d (sub_at d.subs k) i) p) same
+    (subst (λ (q : Plan). IsPrepared g c q p) (sym (is_given g c (sub_at c.subs k) i e at is)) prepared))
 
 -- ---- a message
 
@@ -65,7 +67,7 @@ pub picks_one : (h : Site) (b : Broker) (s : Subscription) (i at : ℕ) (e : Ent
 picks_one h b s i at e one = rw one refl
 
 -- the event that gives the message to the consumer that was picked, of whom a packet tells
-pub gives_from : (h : Site) (b : Broker) (k i at : ℕ) (e : Entry) (s : Subscription) (o : Option ℕ) (x : Consumer) (packet : Outgoing) (p : PreparedBook) → k < length b.subs → i + 1 < 2 ^ 64 → s ≡ sub_at b.subs k
+pub gives_from : (h : Site) (b : Broker) (k i at : ℕ) (e : Entry) (s : Subscription) (o : Option ℕ) (x : Consumer) (packet : WireOut) (p : PreparedBook) → k < length b.subs → i + 1 < 2 ^ 64 → s ≡ sub_at b.subs k
     → o ≡ pick s.kind s.consumers (key_bytes e.meta.key) → o ≡ Some at → at < length s.consumers → x ≡ consumer_at s.consumers at → ArePackets h.clusters (message h b i e x) (packet ∷ []) → p ≡ given_book k i at packet
     → IsPrepared h b (gives h b (sub_at b.subs k) i e) p
 gives_from h b k i at e s o x packet p within next same picked some among consumer told is =
@@ -105,27 +107,27 @@ with_small h cs (Some c) all small = cached_small h cs c all small
 only : (n i : ℕ) → i < n → All (λ j. j < n) (i ∷ [])
 only n i h = All-cons (λ (j : ℕ). j < n) i [] h (All-nil (λ (j : ℕ). j < n))
 
--- the event that passes the marker at index i
-pub passes : (h : Site) (b : Broker) (k i : ℕ) (o : Option CachedSnapshot) (p : PreparedBook) → IsSite h → IsWritable h b → k < length b.subs → is_name (sub_at b.subs k).name ≡ true → i < length b.entries → i + 1 < 2 ^ 64
-    → IfSome o (IsSnapshotOf h) → p ≡ writing_book k (sub_write.Acks (i ∷ [])) (update_after h b k (sub_write.Acks (i ∷ [])) (cached_with (sub_at b.subs k).cache o)) (passing_changes o i)
+-- the event that catches up with the marker at index i
+pub catches_up : (h : Site) (b : Broker) (k i : ℕ) (o : Option CachedSnapshot) (p : PreparedBook) → IsSite h → IsWritable h b → k < length b.subs → is_name (sub_at b.subs k).name ≡ true → i < length b.entries → i + 1 < 2 ^ 64
+    → IfSome o (IsSnapshotOf h) → p ≡ writing_book k (sub_write.Acks (i ∷ [])) (update_after h b k (sub_write.Acks (i ∷ [])) (cached_with (sub_at b.subs k).cache o)) (catch_up_changes o i)
     → IsPrepared h b (passes_by h b (sub_at b.subs k) i o) p
-passes h b k i None p site writable within named stored next small is =
+catches_up h b k i None p site writable within named stored next small is =
     let s = sub_at b.subs k in
     let w = sub_write.Acks (i ∷ []) in
     let one = only (length b.entries) i stored in
-    rw is (writes_cursor h b k w s.cache (passing_changes None i) site within named (cache_at h b.subs k writable.caches) one (name_there b.subs k within, (name_there b.subs k within, tt)) (λ c. (next, (tt, tt))) tt)
-passes h b k i (Some c) p site writable within named stored next small is =
+    rw is (writes_cursor h b k w s.cache (catch_up_changes None i) site within named (cache_at h b.subs k writable.caches) one (name_there b.subs k within, (name_there b.subs k within, tt)) (λ c. (next, (tt, tt))) tt)
+catches_up h b k i (Some c) p site writable within named stored next small is =
     let s = sub_at b.subs k in
     let w = sub_write.Acks (i ∷ []) in
     let one = only (length b.entries) i stored in
     let there = name_there b.subs k within in
     rw is
-    (writes_cursor h b k w (cached s.cache c) (passing_changes (Some c) i) site within named (cached_small h s.cache c (cache_at h b.subs k writable.caches) small) one (there, (there, (there, tt))) (λ d. (tt, (next, (tt, tt)))) (small, tt))
+    (writes_cursor h b k w (cached s.cache c) (catch_up_changes (Some c) i) site within named (cached_small h s.cache c (cache_at h b.subs k writable.caches) small) one (there, (there, (there, tt))) (λ d. (tt, (next, (tt, tt)))) (small, tt))
 
-pub passing_room : (o : Option CachedSnapshot) (i : ℕ) → total change_room (passing_changes o i) ≡ 0
-passing_room None i = refl
-passing_room (Some c) i = refl
+pub catch_up_room : (o : Option CachedSnapshot) (i : ℕ) → total change_room (catch_up_changes o i) ≡ 0
+catch_up_room None i = refl
+catch_up_room (Some c) i = refl
 
-pub passing_still : (o : Option CachedSnapshot) (i : ℕ) → total change_senders (passing_changes o i) ≡ 0
-passing_still None i = refl
-passing_still (Some c) i = refl
+pub catch_up_still : (o : Option CachedSnapshot) (i : ℕ) → total change_senders (catch_up_changes o i) ≡ 0
+catch_up_still None i = refl
+catch_up_still (Some c) i = refl

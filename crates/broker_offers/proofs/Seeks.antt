@@ -17,7 +17,8 @@ use Rattle.broker_state.specs.Prepared.{PreparedBook, quiet_book}
 use Rattle.broker_state.specs.Room.{HasRoom, Room}
 use Rattle.broker_state.specs.declared.change.BookChange.TheVariants as book_change
 use Rattle.broker_state.specs.declared.write.BookWrite.TheVariants as book_write
-use Rattle.broker_plans.specs.Prepared.{IsPrepared, IsSite}
+use Rattle.broker_state.specs.Site.{IsSite}
+use Rattle.broker_plans.specs.Prepared.{IsPrepared}
 use Rattle.broker_plans.specs.Storable.{IsWritable}
 use Rattle.broker_plans.specs.Updates.{update_after}
 use Rattle.broker_plans.proofs.Places.{name_there}

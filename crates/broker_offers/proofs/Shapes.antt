@@ -20,9 +20,10 @@ use Rattle.broker_state.specs.Prepared.{PreparedBook, idle_book, name_in, named_
 use Rattle.broker_state.specs.Room.{HasRoom, Room, WritesHaveRoom, change_room, change_senders, total}
 use Rattle.broker_state.specs.Writes.{machine_change}
 use Rattle.broker_state.specs.declared.change.BookChange.{BookChange}
-use Rattle.broker_state.specs.declared.prepared.Outgoing.{Outgoing}
+use Rattle.geo_base.specs.declared.packet.WireOut.{WireOut}
 use Rattle.broker_state.specs.declared.write.BookWrite.{BookWrite}
-use Rattle.broker_plans.specs.Prepared.{ArePackets, IsPrepared, IsSite, unsent}
+use Rattle.broker_state.specs.Site.{IsSite}
+use Rattle.broker_plans.specs.Prepared.{ArePackets, IsPrepared, unsent}
 use Rattle.broker_plans.specs.Storable.{ChangesStorable, IsSnapshotOf, PlanStorable}
 use Rattle.broker_plans.specs.Updates.{cursor_writes, update_after}
 use Rattle.broker_plans.proofs.Places.{name_there, there}
@@ -54,7 +55,7 @@ idle_room room p is =
 
 -- ---- an index is given
 
-pub gives_index : (h : Site) (b : Broker) (k i at : ℕ) (e : Entry) (o : Outgoing) (p : PreparedBook) → k < length b.subs → i + 1 < 2 ^ 64 → at < length (sub_at b.subs k).consumers
+pub gives_index : (h : Site) (b : Broker) (k i at : ℕ) (e : Entry) (o : WireOut) (p : PreparedBook) → k < length b.subs → i + 1 < 2 ^ 64 → at < length (sub_at b.subs k).consumers
     → ArePackets h.clusters (message h b i e (consumer_at (sub_at b.subs k).consumers at)) (o ∷ []) → p ≡ given_book k i at o
     → IsPrepared h b (plan_of [] (change.Given (sub_at b.subs k).name i at ∷ []) (message h b i e (consumer_at (sub_at b.subs k).consumers at))) p
 gives_index h b k i at e o p within next there_at packet is =
@@ -64,7 +65,7 @@ gives_index h b k i at e o p within next there_at packet is =
     (record { writes_named = tt; changes_named = (name_there b.subs k within, tt); writes = tt; changes = ((next, there_at), tt) })
     (record { writes = tt; changes = tt }))
 
-pub given_room : (room : Room) (k i at : ℕ) (o : Outgoing) (p : PreparedBook) → 1 ≤ (room_at room.subs k).room → p ≡ given_book k i at o → HasRoom room p
+pub given_room : (room : Room) (k i at : ℕ) (o : WireOut) (p : PreparedBook) → 1 ≤ (room_at room.subs k).room → p ≡ given_book k i at o → HasRoom room p
 given_room room k i at o p some is =
     rw is (record { writes = record { entries = omega arith; streams = omega arith; places = omega arith; acks = tt; senders = omega arith }; given = omega (arith, some); senders = omega arith })
 

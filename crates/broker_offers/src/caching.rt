@@ -6,7 +6,7 @@ ghost use Rattle.geo_base.specs.Offering.{own_snapshot};
 ghost use Rattle.broker_subs.specs.Table.{sub_at};
 ghost use Rattle.broker_plans.specs.Storable.{IsSnapshotOf};
 
-use broker_plans::{Site, sub_at};
+use broker_plans::sub_at;
 use broker_state::Book;
 use geo_base::{
     CachedSnapshot, ClusterPosition, Content, Cut, Entry, Marker, Memory, Place, Position, Sequence,
@@ -16,25 +16,24 @@ use std::alloc::Global;
 /// The snapshot that an entry brings to the subscription at a place, if it does.
 pub(crate) fn own_snapshot(
     alloc: Global,
-    site: &Site,
     book: &Book,
     place: usize,
     entry: &Entry,
 ) -> Result<Option<CachedSnapshot>, Memory>
     requires { place < length book.now.broker.subs }
-    ensures snapshot { IfOk result (λ o. o ≡ own_snapshot site.now book.now.broker (sub_at book.now.broker.subs place) entry.now.ident.origin entry.now.content) }
-    ensures small { IfOk result (λ o. IfSome o (IsSnapshotOf site.now)) }
+    ensures snapshot { IfOk result (λ o. o ≡ own_snapshot book.now.site book.now.broker (sub_at book.now.broker.subs place) entry.now.ident.origin entry.now.content) }
+    ensures small { IfOk result (λ o. IfSome o (IsSnapshotOf book.now.site)) }
 {
     let Content::Marked(Marker::Snapshot { local, remote, .. }) = &entry.content else {
         return Ok(None);
     };
-    if entry.ident.origin != site.own() || !sub_at(book, place).is_replicated() {
+    if entry.ident.origin != book.site().own() || !sub_at(book, place).is_replicated() {
         return Ok(None);
     }
     match book.index_of(*local) {
         None => Ok(None),
         Some(index) => {
-            let cut = cut_of(alloc, site, *local, remote.as_slice())?;
+            let cut = cut_of(alloc, book, *local, remote.as_slice())?;
             Ok(Some(CachedSnapshot { index, cut }))
         }
     }
@@ -44,15 +43,15 @@ pub(crate) fn own_snapshot(
 #[tactic(auto, using(crate::proofs::Cuts::as_many))]
 fn cut_of(
     alloc: Global,
-    site: &Site,
+    book: &Book,
     local: Position,
     named: &[ClusterPosition],
 ) -> Result<Cut, Memory>
-    ensures cut { IfOk result (λ c. c ≡ cut_of site.now.own (length site.now.clusters) local named.now) }
-    ensures many { IfOk result (λ c. length c.remote ≡ length site.now.clusters) }
+    ensures cut { IfOk result (λ c. c ≡ cut_of book.now.site.own (length book.now.site.clusters) local named.now) }
+    ensures many { IfOk result (λ c. length c.remote ≡ length book.now.site.clusters) }
 {
-    let mut remote = no_places(alloc, site.clusters().len())?;
-    put_all(&mut remote, site.own(), named);
+    let mut remote = no_places(alloc, book.site().clusters().len())?;
+    put_all(&mut remote, book.site().own(), named);
     Ok(Cut { local, remote })
 }
 

@@ -5,8 +5,8 @@
 #![tactic(auto)]
 
 mod caching;
+mod catching_up;
 mod offering;
-mod passing;
 mod seeking;
 
 pub use offering::prepare_offer;

@@ -1,23 +1,25 @@
 //! offer: the dispatcher of a subscription takes the least due index. A message goes to a consumer that has a permit; a marker needs
-//! none and is passed by.
-ghost use Rattle.std.specs.Prelude.{◌≡◌, ◌+◌, ◌<◌, ◌≤◌, ◌^◌, [], ◌∷◌, Some, length, slice_get, IfOk, IfSome};
+//! none, and the subscription catches up with it.
+ghost use Rattle.std.specs.Prelude.{◌≡◌, ◌+◌, ◌<◌, ◌≤◌, ◌^◌, [], ◌∷◌, Some, length, slice_get, IfOk, IfSome, OnOk};
 ghost use Rattle.geo_base.specs.Dispatcher.{least_due, pick};
 ghost use Rattle.geo_base.specs.Entry.{is_data, key_bytes};
 ghost use Rattle.geo_base.specs.Offering.{message, number_of, offer};
 ghost use Rattle.geo_base.specs.Broker.{session_at};
 ghost use Rattle.geo_base.specs.Topic.{position_at};
 ghost use Rattle.broker_subs.specs.Table.{room_at, sub_at};
+ghost use Rattle.broker_state.specs.Prepared.{IsEmptyPlan};
 ghost use Rattle.broker_state.specs.Room.{HasRoom};
-ghost use Rattle.broker_plans.specs.Prepared.{ArePackets, IsAt, IsPrepared, MarkerFits, SameState};
-ghost use Rattle.broker_plans.specs.Storable.{IsStorable, IsWritable};
+ghost use Rattle.broker_state.specs.Book.{SameState};
+ghost use Rattle.broker_plans.specs.Prepared.{ArePackets, CanWrite, IsPrepared};
+ghost use Rattle.broker_plans.specs.Storable.{IsStorable};
 ghost use Rattle.broker_offers.specs.Offering.{given_book, gives, offer_index};
 
 use crate::caching::own_snapshot;
-use crate::passing::passing;
-use broker_plans::{Site, place_named, sub_at};
-use broker_state::{Book, BookChange, Outgoing, Prepared};
+use crate::catching_up::catch_up;
+use broker_plans::{message_text, place_named, sub_at};
+use broker_state::{Book, BookChange, Prepared};
 use broker_subs::{Sub, SubChange};
-use geo_base::{Consumer, Content, Entry, EntryStore, Memory, Peer, Position};
+use geo_base::{Consumer, Content, Entry, EntryStore, Memory, Peer, Position, WireOut};
 use std::alloc::Global;
 
 /// The position of the first entry.
@@ -31,25 +33,24 @@ const FIRST: Position = Position {
 #[tactic(auto, using(crate::proofs::Offers::no_sub, crate::proofs::Offers::nothing_due, crate::proofs::Offers::some_due, crate::proofs::Shapes::idle, crate::proofs::Shapes::idle_room))]
 pub fn prepare_offer(
     alloc: Global,
-    site: &Site,
     book: &mut Book,
     name: &[u8],
-) -> Result<Prepared, Memory>
-    requires at { IsAt site.now book.old }
-    requires number { MarkerFits site.now book.old.broker }
-    requires stored { IsWritable site.now book.old.broker }
-    ensures prepared { IfOk result (IsPrepared site.now book.old.broker (offer site.now book.old.broker name.now)) }
-    ensures room { IfOk result (HasRoom book.new.room) }
+    plan: &mut Prepared,
+) -> Result<(), Memory>
+    requires can { CanWrite book.old.site book.old.broker }
+    requires empty { IsEmptyPlan plan.old }
+    ensures prepared { OnOk result (IsPrepared book.old.site book.old.broker (offer book.old.site book.old.broker name.now) plan.new) }
+    ensures room { OnOk result (HasRoom book.new.room plan.new) }
     ensures kept { SameState book.old book.new }
 {
     let Some(place) = place_named(book, name) else {
-        return Ok(Prepared::idle(alloc));
+        return Ok(());
     };
     let Some(index) = least_due(book, place) else {
-        return Ok(Prepared::idle(alloc));
+        return Ok(());
     };
-    let prepared = offer_index(alloc, site, book, place, index)?;
-    Ok(prepared)
+    offer_index(alloc, book, place, index, plan)?;
+    Ok(())
 }
 
 /// The least index that is due at the subscription at a place.
@@ -64,33 +65,32 @@ fn least_due(book: &Book, place: usize) -> Option<u64>
 }
 
 /// What becomes of an index that is due at the subscription at a place.
-#[tactic(auto, using(crate::proofs::Offers::is_given, crate::proofs::Offers::is_passed, crate::proofs::Offers::stored_there))]
+#[tactic(auto, using(crate::proofs::Offers::is_given, crate::proofs::Offers::is_caught_up, crate::proofs::Offers::stored_there))]
 fn offer_index(
     alloc: Global,
-    site: &Site,
     book: &mut Book,
     place: usize,
     index: u64,
-) -> Result<Prepared, Memory>
-    requires at { IsAt site.now book.old }
-    requires number { MarkerFits site.now book.old.broker }
-    requires stored { IsWritable site.now book.old.broker }
+    plan: &mut Prepared,
+) -> Result<(), Memory>
+    requires can { CanWrite book.old.site book.old.broker }
     requires place { place < length book.old.broker.subs }
     requires index { index < length book.old.broker.entries }
     requires next { index + 1 < 2 ^ 64 }
-    ensures prepared { IfOk result (IsPrepared site.now book.old.broker (offer_index site.now book.old.broker (sub_at book.old.broker.subs place) index)) }
-    ensures room { IfOk result (HasRoom book.new.room) }
+    requires empty { IsEmptyPlan plan.old }
+    ensures prepared { OnOk result (IsPrepared book.old.site book.old.broker (offer_index book.old.site book.old.broker (sub_at book.old.broker.subs place) index) plan.new) }
+    ensures room { OnOk result (HasRoom book.new.room plan.new) }
     ensures kept { SameState book.old book.new }
 {
     book.reserve_sub(place, 1, 0)?;
     let entry = entry_at(book, index);
     if is_message(entry) {
-        let prepared = giving(alloc, site, book, place, index, entry)?;
-        return Ok(prepared);
+        give_message(alloc, book, place, index, entry, plan)?;
+        return Ok(());
     }
-    let snapshot = own_snapshot(alloc, site, book, place, entry)?;
-    let prepared = passing(alloc, site, book, place, index, snapshot)?;
-    Ok(prepared)
+    let snapshot = own_snapshot(alloc, book, place, entry)?;
+    catch_up(alloc, book, place, index, snapshot, plan)?;
+    Ok(())
 }
 
 /// The entry at an index.
@@ -113,49 +113,51 @@ fn is_message(entry: &Entry) -> bool
 
 /// A message is given to the consumer that it is for, if that has a permit.
 #[tactic(auto, using(crate::proofs::Offers::picks_none, crate::proofs::Offers::picks_one, crate::proofs::Shapes::idle, crate::proofs::Shapes::idle_room, crate::proofs::Shapes::gives_index, crate::proofs::Shapes::given_room))]
-fn giving(
+fn give_message(
     alloc: Global,
-    site: &Site,
     book: &Book,
     place: usize,
     index: u64,
     entry: &Entry,
-) -> Result<Prepared, Memory>
-    requires storable { IsStorable site.now entry.now }
+    plan: &mut Prepared,
+) -> Result<(), Memory>
+    requires storable { IsStorable book.now.site entry.now }
     requires place { place < length book.now.broker.subs }
     requires next { index + 1 < 2 ^ 64 }
     requires some { 1 ≤ (room_at book.now.room.subs place).room }
-    ensures prepared { IfOk result (IsPrepared site.now book.now.broker (gives site.now book.now.broker (sub_at book.now.broker.subs place) index entry.now)) }
-    ensures room { IfOk result (HasRoom book.now.room) }
+    requires empty { IsEmptyPlan plan.old }
+    ensures prepared { OnOk result (IsPrepared book.now.site book.now.broker (gives book.now.site book.now.broker (sub_at book.now.broker.subs place) index entry.now) plan.new) }
+    ensures room { OnOk result (HasRoom book.now.room plan.new) }
 {
     let sub = sub_at(book, place);
-    let Some(at) = picked(sub, entry) else {
-        return Ok(Prepared::idle(alloc));
+    let Some(at) = pick(sub, entry) else {
+        return Ok(());
     };
     let consumer = &sub.consumers()[at];
-    let packet = message(alloc, site, book, index, entry, consumer)?;
-    let prepared = given(alloc, place, index, at, packet)?;
-    Ok(prepared)
+    let packet = message(alloc, book, index, entry, consumer)?;
+    give(place, index, at, packet, plan)?;
+    Ok(())
 }
 
 /// An event that gives an index to the consumer at a place in the order, in a packet.
-fn given(
-    alloc: Global,
+fn give(
     place: usize,
     index: u64,
     at: usize,
-    packet: Outgoing,
-) -> Result<Prepared, Memory>
-    ensures { IfOk result (λ p. p ≡ given_book place index at packet) }
+    packet: WireOut,
+    plan: &mut Prepared,
+) -> Result<(), Memory>
+    requires empty { IsEmptyPlan plan.old }
+    ensures { OnOk result (plan.new ≡ given_book place index at packet) }
 {
-    let mut plan = Prepared::quiet(alloc, place);
+    plan.begin(place);
     plan.change(BookChange::Sub(SubChange::Given { index, place: at }))?;
     plan.send(packet)?;
-    Ok(plan)
+    Ok(())
 }
 
 /// The place in the order of the consumer that a message is for; `None` exactly where that has no permit, and where there is none.
-fn picked(sub: &Sub, entry: &Entry) -> Option<usize>
+fn pick(sub: &Sub, entry: &Entry) -> Option<usize>
     ensures place { result ≡ pick sub.now.sub.kind sub.now.sub.consumers (key_bytes entry.now.meta.key) }
     ensures within { IfSome result (λ at. at < length sub.now.sub.consumers) }
 {
@@ -175,18 +177,17 @@ fn key_bytes(entry: &Entry) -> &[u8]
 /// The packet that gives the entry at an index to a consumer.
 fn message(
     alloc: Global,
-    site: &Site,
     book: &Book,
     index: u64,
     entry: &Entry,
     consumer: &Consumer,
-) -> Result<Outgoing, Memory>
-    requires { IsStorable site.now entry.now }
-    ensures { IfOk result (λ o. ArePackets site.now.clusters (message site.now book.now.broker index entry.now consumer.now) (o ∷ [])) }
+) -> Result<WireOut, Memory>
+    requires { IsStorable book.now.site entry.now }
+    ensures { IfOk result (λ o. ArePackets book.now.site.clusters (message book.now.site book.now.broker index entry.now consumer.now) (o ∷ [])) }
 {
     let position = position_at(book, index);
-    let frame = site.message_text(alloc, consumer.id, position, entry)?;
-    Ok(Outgoing {
+    let frame = message_text(alloc, book, consumer.id, position, entry)?;
+    Ok(WireOut {
         to: Peer::Client(consumer.client),
         session: session_number(book, consumer.client),
         frame,

@@ -15,7 +15,7 @@ use Rattle.geo_base.specs.Storing.{receipt_position, storing}
 use Rattle.geo_base.specs.Topic.{accepts, next_position}
 use Rattle.broker_state.specs.Prepared.{PreparedBook, quiet_book}
 use Rattle.broker_state.specs.Room.{HasRoom, Room}
-use Rattle.broker_state.specs.declared.prepared.Outgoing.{Outgoing}
+use Rattle.geo_base.specs.declared.packet.WireOut.{WireOut}
 use Rattle.broker_state.specs.declared.write.BookWrite.TheVariants as book_write
 use Rattle.broker_plans.specs.Prepared.{AlsoSends, ArePackets, IsPrepared}
 use Rattle.broker_plans.specs.Storable.{IsStorable}
@@ -62,7 +62,7 @@ no_room room k p is =
 
 -- ---- packets
 
-none_sent : (names : List (List ℕ)) (ps : List Outgoing) → ArePackets names [] ps → ps ≡ []
+none_sent : (names : List (List ℕ)) (ps : List WireOut) → ArePackets names [] ps → ps ≡ []
 none_sent names [] all = refl
 none_sent names (p ∷ ps) all = absurd all
 

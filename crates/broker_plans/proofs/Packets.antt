@@ -17,7 +17,7 @@ use Rattle.frame_values.specs.Texts.{is_readable, unread_bytes}
 use Rattle.frame_values.proofs.Counting.{varint_most}
 use Rattle.frame_values.proofs.Entries.{no_rest}
 use Rattle.frame_values.proofs.Fitting.{fits}
-use Rattle.broker_plans.specs.Prepared.{IsNameLong, IsSite}
+use Rattle.broker_state.specs.Site.{IsNameLong, IsSite}
 use Rattle.broker_plans.specs.Storable.{AreStorable, IsStorable}
 
 -- no field stands beside those that are read

@@ -31,7 +31,7 @@ use Rattle.broker_state.specs.Room.{Room, WritesHaveRoom}
 use Rattle.broker_state.specs.Writes.{machine_write}
 use Rattle.broker_state.specs.declared.write.BookWrite.{BookWrite}
 use Rattle.broker_state.specs.declared.write.BookWrite.TheVariants as book_write
-use Rattle.broker_plans.specs.Prepared.{IsNameLong, IsSite}
+use Rattle.broker_state.specs.Site.{IsNameLong, IsSite}
 use Rattle.broker_plans.specs.Storable.{IsCutOf, IsSnapshotOf, IsStorable, WritesStorable}
 use Rattle.broker_plans.specs.Updates.{IsAppend, cursor_writes, update_after, update_at, update_write, with_update}
 use Rattle.broker_plans.proofs.Packets.{bytes_most, name_most, number_most, place_most}

@@ -1,19 +1,19 @@
-//! What every event of a broker is prepared with: the broker's site, the bytes of its packets, the markers that it writes, and the
-//! update that may follow a cursor's write.
+//! What every event of a broker is prepared with: the bytes of its packets, the markers that it writes, and the update that may
+//! follow a cursor's write.
 //!
-//! An event first makes room in the tables that it touches, then only looks, and then puts a `Prepared` together. What it promises
-//! is one definition, `IsPrepared`.
+//! An event first makes room in the tables that it touches, then only looks, and fills a plan that was empty. What it promises is
+//! one definition, `IsPrepared`. An `Err` is want of memory everywhere: then the broker's state is as it was, and the plan is given
+//! up, for its caller to clear.
 #![tactic(auto)]
 
 mod finding;
 mod marking;
 mod packet;
 mod receiving;
-mod site;
 mod updating;
 
 pub use finding::{place_consumed, place_named, sub_at};
 pub use marking::{appending, own_marker};
-pub use receiving::{NOWHERE, Stored, also_send, storing};
-pub use site::Site;
+pub use packet::{message_text, send_text, text};
+pub use receiving::{NOWHERE, also_send, storing};
 pub use updating::{begin_write, update_after};

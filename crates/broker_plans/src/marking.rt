@@ -1,10 +1,9 @@
 //! Entries that a broker stores.
 ghost use Rattle.std.specs.Prelude.{◌≡◌, IfOk};
 ghost use Rattle.geo_base.specs.Storing.{own_marker};
-ghost use Rattle.broker_plans.specs.Prepared.{IsAt, MarkerFits};
+ghost use Rattle.broker_plans.specs.Prepared.{MarkerFits};
 ghost use Rattle.broker_plans.specs.Updates.{appending};
 
-use crate::site::Site;
 use broker_state::{Book, BookWrite};
 use dedup_table::Stream;
 use geo_base::{
@@ -18,19 +17,17 @@ const MARKER_PRODUCER: &str = "pulsar.marker";
 /// A marker that the own cluster writes next, for targets, which have these names.
 pub fn own_marker(
     alloc: Global,
-    site: &Site,
     book: &Book,
     marker: Marker,
     to: Targets,
     names: Sequence<Text>,
 ) -> Result<Entry, Memory>
-    requires at { IsAt site.now book.now }
-    requires number { MarkerFits site.now book.now.broker }
-    ensures { IfOk result (λ e. e ≡ own_marker site.now book.now.broker marker to names) }
+    requires number { MarkerFits book.now.site book.now.broker }
+    ensures { IfOk result (λ e. e ≡ own_marker book.now.site book.now.broker marker to names) }
 {
     Ok(Entry {
         ident: Ident {
-            origin: site.own(),
+            origin: book.site().own(),
             producer: ProducerName::any(alloc, MARKER_PRODUCER)?,
             seq: book.next_marker(),
         },

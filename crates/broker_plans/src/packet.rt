@@ -6,58 +6,62 @@ ghost use Rattle.geo_base.specs.declared.marker.Place.TheVariants as place;
 ghost use Rattle.frame_values.specs.Coded.{IsWritten, carries_entry};
 ghost use Rattle.frame_values.specs.Fitting.{IsSmall};
 ghost use Rattle.frame_values.specs.Texts.{is_readable};
-ghost use Rattle.broker_plans.specs.Prepared.{IsSite};
 ghost use Rattle.broker_plans.specs.Storable.{IsStorable};
 
-use crate::site::Site;
+use broker_state::Book;
 use frame_values::{write_message, write_send, write_value};
 use geo_base::{Blob, Entry, Frame, Memory, Place, Position};
 use std::alloc::Global;
 
-impl Site {
-    /// The text of a frame without an entry, whose texts are short.
-    #[tactic(auto, using(crate::proofs::Packets::simple_writable))]
-    pub fn text(&self, alloc: Global, frame: &Frame) -> Result<Blob, Memory>
-        requires simple { carries_entry frame.now ≡ false }
-        requires readable { is_readable frame.now ≡ true }
-        requires small { IsSmall self.now.clusters frame.now }
-        ensures { IfOk result (IsWritten self.now.clusters frame.now) }
-    {
-        write_value(alloc, self.clusters(), frame)
-    }
+/// The text of a frame without an entry, whose texts are short.
+#[tactic(auto, using(crate::proofs::Packets::simple_writable))]
+pub fn text(alloc: Global, book: &Book, frame: &Frame) -> Result<Blob, Memory>
+    requires simple { carries_entry frame.now ≡ false }
+    requires readable { is_readable frame.now ≡ true }
+    requires small { IsSmall book.now.site.clusters frame.now }
+    ensures { IfOk result (IsWritten book.now.site.clusters frame.now) }
+{
+    write_value(alloc, book.site().clusters(), frame)
+}
 
-    /// The text of a SEND of a stored entry, which the own cluster replicates.
-    pub fn send_text(&self, alloc: Global, id: u64, seq: u64, entry: &Entry) -> Result<Blob, Memory>
-        requires { IsStorable self.now entry.now }
-        ensures { IfOk result (IsWritten self.now.clusters (frame.Send id seq (Some (place.Known self.now.own)) entry.now)) }
-    {
-        let source = Some(Place::Known(self.own()));
-        write_send(alloc, self.clusters(), id, seq, &source, entry)
-    }
+/// The text of a SEND of a stored entry, which the own cluster replicates.
+pub fn send_text(
+    alloc: Global,
+    book: &Book,
+    id: u64,
+    seq: u64,
+    entry: &Entry,
+) -> Result<Blob, Memory>
+    requires { IsStorable book.now.site entry.now }
+    ensures { IfOk result (IsWritten book.now.site.clusters (frame.Send id seq (Some (place.Known book.now.site.own)) entry.now)) }
+{
+    let site = book.site();
+    let source = Some(Place::Known(site.own()));
+    write_send(alloc, site.clusters(), id, seq, &source, entry)
+}
 
-    /// The text of a MESSAGE of a stored entry, which names the cluster that stored it first where that is another one.
-    pub fn message_text(
-        &self,
-        alloc: Global,
-        id: u64,
-        position: Position,
-        entry: &Entry,
-    ) -> Result<Blob, Memory>
-        requires { IsStorable self.now entry.now }
-        ensures { IfOk result (IsWritten self.now.clusters (frame.Message id position (source_of self.now.own entry.now) entry.now)) }
-    {
-        let source = self.source_of(entry);
-        write_message(alloc, self.clusters(), id, position, &source, entry)
-    }
+/// The text of a MESSAGE of a stored entry, which names the cluster that stored it first where that is another one.
+pub fn message_text(
+    alloc: Global,
+    book: &Book,
+    id: u64,
+    position: Position,
+    entry: &Entry,
+) -> Result<Blob, Memory>
+    requires { IsStorable book.now.site entry.now }
+    ensures { IfOk result (IsWritten book.now.site.clusters (frame.Message id position (source_of book.now.site.own entry.now) entry.now)) }
+{
+    let site = book.site();
+    let source = source_of(site.own(), entry);
+    write_message(alloc, site.clusters(), id, position, &source, entry)
+}
 
-    /// The cluster that stored an entry first, where it is not the own one.
-    fn source_of(&self, entry: &Entry) -> Option<Place>
-        ensures source { result ≡ source_of self.now.own entry.now }
-        ensures site { IsSite self.now }
-    {
-        if entry.ident.origin == self.own() {
-            return None;
-        }
-        Some(Place::Known(entry.ident.origin))
+/// The cluster that stored an entry first, where it is not the own one.
+fn source_of(own: u32, entry: &Entry) -> Option<Place>
+    ensures { result ≡ source_of own entry.now }
+{
+    if entry.ident.origin == own {
+        return None;
     }
+    Some(Place::Known(entry.ident.origin))
 }

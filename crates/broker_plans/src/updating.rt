@@ -5,14 +5,14 @@ ghost use Rattle.geo_base.specs.Cursor.{below, mark, with_indexes};
 ghost use Rattle.geo_base.specs.Updating.{passed_over};
 ghost use Rattle.broker_subs.specs.Steps.{SubWriteFits, acks_needed, sub_written};
 ghost use Rattle.broker_subs.specs.Table.{room_at, sub_at};
-ghost use Rattle.broker_state.specs.Prepared.{quiet_book};
+ghost use Rattle.broker_state.specs.Book.{SameState};
+ghost use Rattle.broker_state.specs.Prepared.{IsEmptyPlan, quiet_book};
 ghost use Rattle.broker_state.specs.Room.{WritesHaveRoom};
-ghost use Rattle.broker_plans.specs.Prepared.{IsAt, MarkerFits, SameState};
+ghost use Rattle.broker_plans.specs.Prepared.{MarkerFits};
 ghost use Rattle.broker_plans.specs.Updates.{IsAppend, cursor_writes, update_after, update_at};
 
 use crate::finding::sub_at;
 use crate::marking::{appending, own_marker};
-use crate::site::Site;
 use broker_state::{Book, BookWrite, Prepared};
 use broker_subs::{Sub, SubWrite};
 use cursor_acks::Cursor;
@@ -23,37 +23,36 @@ use std::alloc::Global;
 /// The update that follows a write of the cursor of the subscription at a place, which has these snapshots then.
 pub fn update_after(
     alloc: Global,
-    site: &Site,
     book: &Book,
     place: usize,
     write: &SubWrite,
     cache: &SnapshotCache,
 ) -> Result<Option<BookWrite>, Memory>
-    requires at { IsAt site.now book.now }
-    requires number { MarkerFits site.now book.now.broker }
+    requires number { MarkerFits book.now.site book.now.broker }
     requires place { place < length book.now.broker.subs }
     requires fits { SubWriteFits book.now.broker.entries (sub_at book.now.broker.subs place) write.now }
-    ensures { IfOk result (λ o. o ≡ update_after site.now book.now.broker place write.now cache.now) }
+    ensures { IfOk result (λ o. o ≡ update_after book.now.site book.now.broker place write.now cache.now) }
 {
     let sub = sub_at(book, place);
     let mark = mark_after(alloc, sub, write, book.store())?;
-    update_at(alloc, site, book, sub, mark, cache)
+    update_at(alloc, book, sub, mark, cache)
 }
 
 /// An event that begins with a write of the cursor of the subscription at a place and the update that follows it, with room for
 /// them, and for so many consumers that join or indexes that are given there.
 #[tactic(auto, using(crate::proofs::Updates::cursor_room))]
 pub fn begin_write(
-    alloc: Global,
     book: &mut Book,
     place: usize,
     room: usize,
     write: SubWrite,
     update: Option<BookWrite>,
-) -> Result<Prepared, Memory>
+    plan: &mut Prepared,
+) -> Result<(), Memory>
     requires place { place < length book.old.broker.subs }
     requires update { IfSome update IsAppend }
-    ensures prepared { IfOk result (λ p. p ≡ record (quiet_book place) { writes = cursor_writes write update }) }
+    requires empty { IsEmptyPlan plan.old }
+    ensures prepared { OnOk result (plan.new ≡ record (quiet_book place) { writes = cursor_writes write update }) }
     ensures kept { SameState book.old book.new }
     ensures writes { OnOk result (WritesHaveRoom book.new.room place (cursor_writes write update)) }
     ensures given { OnOk result ((room_at book.new.room.subs place).room ≡ room) }
@@ -66,12 +65,12 @@ pub fn begin_write(
         acks_needed(&write),
         entries_needed(&update),
     )?;
-    let mut plan = Prepared::quiet(alloc, place);
+    plan.begin(place);
     plan.write(BookWrite::Sub(write))?;
     if let Some(update) = update {
         plan.write(update)?;
     }
-    Ok(plan)
+    Ok(())
 }
 
 /// Makes room at the subscription at a place, and for so many entries.
@@ -117,15 +116,13 @@ fn acks_needed(write: &SubWrite) -> usize
 /// and passes one of these snapshots.
 fn update_at(
     alloc: Global,
-    site: &Site,
     book: &Book,
     sub: &Sub,
     mark: u64,
     cache: &SnapshotCache,
 ) -> Result<Option<BookWrite>, Memory>
-    requires at { IsAt site.now book.now }
-    requires number { MarkerFits site.now book.now.broker }
-    ensures { IfOk result (λ o. o ≡ update_at site.now book.now.broker sub.now.sub.name sub.now.sub.replicated mark cache.now) }
+    requires number { MarkerFits book.now.site book.now.broker }
+    ensures { IfOk result (λ o. o ≡ update_at book.now.site book.now.broker sub.now.sub.name sub.now.sub.replicated mark cache.now) }
 {
     if !sub.is_replicated() {
         return Ok(None);
@@ -135,7 +132,7 @@ fn update_at(
         Some(cut) => {
             let marker = sub_update::make(alloc, sub.name(), cut)?;
             let names = Sequence::new(alloc);
-            let entry = own_marker(alloc, site, book, marker, Targets::All, names)?;
+            let entry = own_marker(alloc, book, marker, Targets::All, names)?;
             Ok(Some(appending(alloc, entry)?))
         }
     }

@@ -2,4 +2,4 @@ pub mod Plans
 pub mod Entries
 pub mod Heard
 pub mod Sizes
-pub mod Passes
+pub mod Acknowledged

@@ -49,8 +49,8 @@ reads_on ss y i s within sent = (rw (length-set ss y s) within, rw (get_or-set_s
 abbrev pub acked_sender : Broker → ℕ → ℕ → Sender
 acked_sender b y i = record (sender_at b y) { cursor = with_index (sender_at b y).cursor i }
 
-pub passed_by : (h : Site) (b : Broker) (y i : ℕ) (p : PreparedBook) → IsReading h b y i → p ≡ handled_book y i (quiet_book 0) → IsPrepared h b (handled y i [] []) p
-passed_by h b y i p at is =
+pub skipped : (h : Site) (b : Broker) (y i : ℕ) (p : PreparedBook) → IsReading h b y i → p ≡ handled_book y i (quiet_book 0) → IsPrepared h b (handled y i [] []) p
+skipped h b y i p at is =
     rw is (record {
       steps = refl;
       sent = tt;
@@ -63,8 +63,8 @@ passed_by h b y i p at is =
       stored = record { writes = tt; changes = tt };
     })
 
-pub passed_by_room : (room : Room) (y i : ℕ) (p : PreparedBook) → ReadRoom room → p ≡ handled_book y i (quiet_book 0) → HasRoom room p
-passed_by_room room y i p has is =
+pub skipped_room : (room : Room) (y i : ℕ) (p : PreparedBook) → ReadRoom room → p ≡ handled_book y i (quiet_book 0) → HasRoom room p
+skipped_room room y i p has is =
     rw is (record {
       writes = record { entries = omega arith; streams = omega arith; places = omega arith; acks = (tt, tt); senders = omega (arith, has.senders) };
       given = omega arith;
@@ -204,7 +204,8 @@ pub not_asked : (h : Site) (b : Broker) (p : PreparedBook) → may_ask b ≡ fal
 unfolding snap
 not_asked h b p may is = rw may (idle h b p is)
 
-pub asks_now : (h : Site) (b c : Broker) (id : List ℕ) (p : PreparedBook) → c ≡ b → may_ask b ≡ true → id ≡ snapshot_id (cluster_name h h.own) (next_position h.per_ledger b.ledgers) → IsPrepared h c (asks h c id) p
-    → IsPrepared h b (snap h b) p
+pub asks_now : (h g : Site) (b c : Broker) (id : List ℕ) (p : PreparedBook) → g ≡ h → c ≡ b → may_ask b ≡ true → id ≡ snapshot_id (cluster_name h h.own) (next_position h.per_ledger b.ledgers)
+    → IsPrepared g c (asks g c id) p → IsPrepared h b (snap h b) p
 unfolding snap
-asks_now h b c id p same may named prepared = rw (may, sym named) (subst (λ (d : Broker). IsPrepared h d (asks h d id) p) same prepared)
+asks_now h g b c id p site same may named prepared =
+    rw (may, sym named) (subst (λ (f : Site). IsPrepared f b (asks f b id) p) site (subst (λ (d : Broker). IsPrepared g d (asks g d id) p) same prepared))

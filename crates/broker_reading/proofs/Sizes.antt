@@ -15,7 +15,7 @@ use Rattle.geo_base.specs.Sizes.{cluster_position_size, position_size}
 use Rattle.geo_base.specs.Topic.{next_marker, position_at}
 use Rattle.frame_values.proofs.Entries.{no_rest}
 use Rattle.broker_subs.proofs.Held.{itself}
-use Rattle.broker_plans.specs.Prepared.{IsSite}
+use Rattle.broker_state.specs.Site.{IsSite}
 use Rattle.broker_plans.specs.Storable.{IsBuilderOf, IsStorable}
 use Rattle.broker_plans.proofs.Packets.{bytes_most, name_most, number_most, place_most}
 use Rattle.broker_plans.proofs.Updates.{own_accepted, positions_most}

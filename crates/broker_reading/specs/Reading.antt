@@ -8,7 +8,7 @@ use Rattle.geo_base.specs.Broker.{Broker, Site, sender_at, sub_named}
 use Rattle.geo_base.specs.Plan.{Plan}
 use Rattle.geo_base.specs.Topic.{accepts}
 use Rattle.geo_base.specs.Updating.{handled, passed_over, passing}
-use Rattle.broker_state.specs.Prepared.{PreparedBook}
+use Rattle.broker_state.specs.Prepared.{IsEmptyPlan, PreparedBook}
 use Rattle.broker_state.specs.Room.{HasRoom, Room}
 use Rattle.broker_state.specs.declared.change.BookChange.TheVariants as book_change
 use Rattle.broker_state.specs.declared.write.BookWrite.TheVariants as book_write
@@ -40,15 +40,15 @@ pub record IsReady (h : Site) (b : Broker) (e : Entry) : Type 0 where
   pub new : accepts b.entries e.ident ≡ true
   pub storable : IsStorable h e
 
--- an update of y that has an effect: the subscription of name n passes over entries up to index j
-pub record IsPassing (h : Site) (b : Broker) (y i : ℕ) (p : Plan) (n : List ℕ) (j : ℕ) : Type 0 where
+-- an update of y that has an effect: the subscription of name n acknowledges entries up to index j
+pub record IsAcknowledging (h : Site) (b : Broker) (y i : ℕ) (p : Plan) (n : List ℕ) (j : ℕ) : Type 0 where
   pub plan : p ≡ handled y i (passing h b n (passed_over y 0 (j + 1) b.entries) (sub_named b.subs n)) (change.Acked n ∷ [])
   pub within : j < length b.entries
 
--- what is done with an entry is the plan p: it is prepared, or it is such an update
-abbrev pub IsRead : Site → Broker → Room → ℕ → ℕ → Plan → ReadAct → Type 0
-IsRead h b room y i p (act.Ready q) = IsPrepared h b p q × HasRoom room q
-IsRead h b room y i p (act.Passes n j) = IsPassing h b y i p n j
+-- what is done with an entry is the plan p: it is prepared, or it is such an update, and nothing is prepared yet
+abbrev pub IsRead : Site → Broker → Room → ℕ → ℕ → Plan → ReadAct → PreparedBook → Type 0
+IsRead h b room y i p act.Ready q = IsPrepared h b p q × HasRoom room q
+IsRead h b room y i p (act.Acknowledges n j) q = IsAcknowledging h b y i p n j × IsEmptyPlan q
 
 -- the text that a marker begins with, where the entry is one
 abbrev pub told_text : Content → List ℕ

@@ -17,9 +17,9 @@ abbrev pub listed : Option Position → List Position
 listed None = []
 listed (Some p) = p ∷ []
 
--- a cursor gains what an update of y passes over up to index j, with as many places as it takes
-abbrev pub passed_write : List Entry → List ℕ → ℕ → ℕ → SubWrite
-passed_write es cursor y j = sub_write.Passed j y (alone cursor (passed_over y 0 (j + 1) es))
+-- a cursor gains what an update of y acknowledges up to index j, with as many places as it takes
+abbrev pub update_acks : List Entry → List ℕ → ℕ → ℕ → SubWrite
+update_acks es cursor y j = sub_write.Passed j y (alone cursor (passed_over y 0 (j + 1) es))
 
 -- writes about the subscription at place k, behind which nothing acknowledged is out or due
 abbrev pub acked_book : ℕ → List BookWrite → PreparedBook

@@ -1,14 +1,13 @@
 //! What a sender does with what it reads.
-ghost use Rattle.std.specs.Prelude.{◌≡◌, ◌<◌, ◌+◌, ◌^◌, [], IfOk};
+ghost use Rattle.std.specs.Prelude.{◌≡◌, ◌<◌, ◌+◌, ◌^◌, [], OnOk};
 ghost use Rattle.geo_base.specs.Updating.{handled};
+ghost use Rattle.broker_state.specs.Prepared.{IsEmptyPlan};
 ghost use Rattle.broker_state.specs.Room.{HasRoom};
 ghost use Rattle.broker_plans.specs.Prepared.{IsPrepared};
 ghost use Rattle.broker_reading.specs.Reading.{IsReading, ReadRoom, handled_book};
 
-use broker_plans::Site;
 use broker_state::{Book, BookChange, BookWrite, Prepared};
 use geo_base::{Memory, SubName};
-use std::alloc::Global;
 
 /// The sender to a cluster reads the entry at an index.
 #[derive(Clone, Copy, Debug, Drop)]
@@ -21,38 +20,34 @@ pub(crate) struct ReadAt {
 #[derive(Debug, Drop)]
 pub(crate) enum ReadAct {
     /// All of it is prepared.
-    Ready(Prepared),
-    /// The subscription of a name passes over what the other cluster could have had up to an index.
-    Passes { sub: SubName, to: u64 },
+    Ready,
+    /// The subscription of a name acknowledges what the other cluster could have had up to an index.
+    Acknowledges { sub: SubName, to: u64 },
 }
 
 /// An event behind which what was read is acknowledged on the sender's cursor.
-pub(crate) fn handled(prepared: Prepared, at: ReadAt) -> Result<Prepared, Memory>
+pub(crate) fn acknowledge_read(plan: &mut Prepared, at: ReadAt) -> Result<(), Memory>
     requires { at.index + 1 < 2 ^ 64 }
-    ensures { IfOk result (λ p. p ≡ handled_book at.remote at.index prepared) }
+    ensures { OnOk result (plan.new ≡ handled_book at.remote at.index plan.old) }
 {
     let ReadAt { remote, index } = at;
-    let mut plan = prepared;
     plan.write(BookWrite::SenderAck { remote, index })?;
     plan.change(BookChange::ReadTo {
         remote,
         index: index + 1,
     })?;
-    Ok(plan)
+    Ok(())
 }
 
-/// What was read has no other effect.
-#[tactic(auto, using(crate::proofs::Plans::passed_by, crate::proofs::Plans::passed_by_room))]
-pub(crate) fn passing_by(
-    alloc: Global,
-    site: &Site,
-    book: &Book,
-    at: ReadAt,
-) -> Result<Prepared, Memory>
-    requires reading { IsReading site.now book.now.broker at.remote at.index }
+/// What was read is skipped: it has no other effect.
+#[tactic(auto, using(crate::proofs::Plans::skipped, crate::proofs::Plans::skipped_room))]
+pub(crate) fn skip(book: &Book, at: ReadAt, plan: &mut Prepared) -> Result<(), Memory>
+    requires reading { IsReading book.now.site book.now.broker at.remote at.index }
     requires room { ReadRoom book.now.room }
-    ensures prepared { IfOk result (IsPrepared site.now book.now.broker (handled at.remote at.index [] [])) }
-    ensures room { IfOk result (HasRoom book.now.room) }
+    requires empty { IsEmptyPlan plan.old }
+    ensures prepared { OnOk result (IsPrepared book.now.site book.now.broker (handled at.remote at.index [] []) plan.new) }
+    ensures room { OnOk result (HasRoom book.now.room plan.new) }
 {
-    handled(Prepared::quiet(alloc, 0), at)
+    plan.begin(0);
+    acknowledge_read(plan, at)
 }

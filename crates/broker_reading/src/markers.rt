@@ -7,11 +7,11 @@ ghost use Rattle.geo_base.specs.Markers.{request_marker, response_marker, snapsh
 ghost use Rattle.geo_base.specs.Sizes.{most_entry_size};
 ghost use Rattle.geo_base.specs.Storing.{own_marker};
 ghost use Rattle.geo_base.specs.Topic.{or_first};
-ghost use Rattle.broker_plans.specs.Prepared.{IsAt, MarkerFits};
+ghost use Rattle.broker_plans.specs.Prepared.{MarkerFits};
 ghost use Rattle.broker_plans.specs.Storable.{IsBuilderOf, most_id};
 ghost use Rattle.broker_reading.specs.Reading.{IsReady};
 
-use broker_plans::{Site, own_marker};
+use broker_plans::own_marker;
 use broker_state::Book;
 use geo_base::{
     ClusterPosition, Entry, EntryStore, Marker, Memory, Place, Position, Sequence, Targets, Text,
@@ -28,67 +28,46 @@ const FIRST: Position = Position {
 
 /// A request of this id, of a snapshot's first or second round.
 #[tactic(auto, using(crate::proofs::Sizes::request_ready))]
-pub(crate) fn request(alloc: Global, site: &Site, book: &Book, id: &str) -> Result<Entry, Memory>
-    requires at { IsAt site.now book.now }
-    requires number { MarkerFits site.now book.now.broker }
+pub(crate) fn request(alloc: Global, book: &Book, id: &str) -> Result<Entry, Memory>
+    requires number { MarkerFits book.now.site book.now.broker }
     requires short { length id.now ≤ most_id + 2 }
-    ensures marker { IfOk result (λ e. e ≡ request_marker site.now book.now.broker id.now) }
-    ensures ready { IfOk result (IsReady site.now book.now.broker) }
+    ensures marker { IfOk result (λ e. e ≡ request_marker book.now.site book.now.broker id.now) }
+    ensures ready { IfOk result (IsReady book.now.site book.now.broker) }
 {
     let marker = Marker::Request {
         id: Text::from_str(alloc, id)?,
-        source: Place::Known(site.own()),
+        source: Place::Known(book.site().own()),
     };
-    own_marker(
-        alloc,
-        site,
-        book,
-        marker,
-        Targets::All,
-        Sequence::new(alloc),
-    )
+    own_marker(alloc, book, marker, Targets::All, Sequence::new(alloc))
 }
 
 /// The answer to a request of a cluster: the last entry that was stored before it.
 #[tactic(auto, using(crate::proofs::Sizes::response_ready))]
-pub(crate) fn response(
-    alloc: Global,
-    site: &Site,
-    book: &Book,
-    remote: u32,
-    id: &Text,
-) -> Result<Entry, Memory>
-    requires at { IsAt site.now book.now }
-    requires number { MarkerFits site.now book.now.broker }
-    requires remote { remote < length site.now.clusters }
+pub(crate) fn response(alloc: Global, book: &Book, remote: u32, id: &Text) -> Result<Entry, Memory>
+    requires number { MarkerFits book.now.site book.now.broker }
+    requires remote { remote < length book.now.site.clusters }
     requires short { length id.now ≤ most_entry_size }
-    ensures marker { IfOk result (λ e. e ≡ response_marker site.now book.now.broker remote id.now) }
-    ensures ready { IfOk result (IsReady site.now book.now.broker) }
+    ensures marker { IfOk result (λ e. e ≡ response_marker book.now.site book.now.broker remote id.now) }
+    ensures ready { IfOk result (IsReady book.now.site book.now.broker) }
 {
     let marker = Marker::Response {
         id: id.copy(alloc)?,
         answer: ClusterPosition {
-            cluster: Place::Known(site.own()),
+            cluster: Place::Known(book.site().own()),
             position: or_first(book.store().last()),
         },
     };
-    marker_for(alloc, site, book, marker, remote)
+    marker_for(alloc, book, marker, remote)
 }
 
 /// The snapshot that a builder has made.
 #[tactic(auto, using(crate::proofs::Sizes::snapshot_ready))]
-pub(crate) fn snapshot(
-    alloc: Global,
-    site: &Site,
-    book: &Book,
-    builder: &Builder,
-) -> Result<Entry, Memory>
-    requires at { IsAt site.now book.now }
-    requires number { MarkerFits site.now book.now.broker }
-    requires builder { IsBuilderOf site.now builder.now }
+pub(crate) fn snapshot(alloc: Global, book: &Book, builder: &Builder) -> Result<Entry, Memory>
+    requires number { MarkerFits book.now.site book.now.broker }
+    requires builder { IsBuilderOf book.now.site builder.now }
     requires made { builder.now.finished ≡ true }
-    ensures marker { IfOk result (λ e. e ≡ snapshot_marker site.now book.now.broker builder.now) }
-    ensures ready { IfOk result (IsReady site.now book.now.broker) }
+    ensures marker { IfOk result (λ e. e ≡ snapshot_marker book.now.site book.now.broker builder.now) }
+    ensures ready { IfOk result (IsReady book.now.site book.now.broker) }
 {
     let Some(cut) = builder.cut() else {
         unreachable!()
@@ -98,34 +77,27 @@ pub(crate) fn snapshot(
         local: cut.local,
         remote: named_positions(alloc, cut)?,
     };
-    marker_for(alloc, site, book, marker, site.own())
+    marker_for(alloc, book, marker, book.site().own())
 }
 
 /// A marker that is for one cluster.
-fn marker_for(
-    alloc: Global,
-    site: &Site,
-    book: &Book,
-    marker: Marker,
-    cluster: u32,
-) -> Result<Entry, Memory>
-    requires at { IsAt site.now book.now }
-    requires number { MarkerFits site.now book.now.broker }
-    requires cluster { cluster < length site.now.clusters }
-    ensures { IfOk result (λ e. e ≡ own_marker site.now book.now.broker marker (targets.Only (2 ^ cluster)) (cluster_name site.now cluster ∷ [])) }
+fn marker_for(alloc: Global, book: &Book, marker: Marker, cluster: u32) -> Result<Entry, Memory>
+    requires number { MarkerFits book.now.site book.now.broker }
+    requires cluster { cluster < length book.now.site.clusters }
+    ensures { IfOk result (λ e. e ≡ own_marker book.now.site book.now.broker marker (targets.Only (2 ^ cluster)) (cluster_name book.now.site cluster ∷ [])) }
 {
     let mut names = Sequence::new(alloc);
-    names.push(Text::from_str(alloc, site.cluster_name(cluster).as_str())?)?;
-    let to = only(site, cluster);
-    own_marker(alloc, site, book, marker, to, names)
+    names.push(Text::from_str(alloc, book.site().cluster_name(cluster).as_str())?)?;
+    let to = only(book, cluster);
+    own_marker(alloc, book, marker, to, names)
 }
 
 /// The targets that are one cluster.
-fn only(site: &Site, cluster: u32) -> Targets
-    requires { cluster < length site.now.clusters }
+fn only(book: &Book, cluster: u32) -> Targets
+    requires { cluster < length book.now.site.clusters }
     ensures { result ≡ targets.Only (2 ^ cluster) }
 {
-    let _clusters = site.clusters();
+    let _site = book.site();
     Targets::Only(1 << cluster)
 }
 

@@ -1,24 +1,26 @@
 //! Read: the sender to another cluster looks at the next entry that its cursor lacks. What the own cluster stored first and is to go
-//! there is sent, a marker of the other cluster is acted on, and all else is passed over: a replicated message is never replicated
+//! there is sent, a marker of the other cluster is acted on, and all else is skipped: a replicated message is never replicated
 //! again (geo-replication manual).
-ghost use Rattle.std.specs.Prelude.{◌≡◌, ◌≤◌, ◌<◌, ◌+◌, ◌^◌, Some, length, slice_get, IfOk, IfSome};
+ghost use Rattle.std.specs.Prelude.{◌≡◌, ◌≤◌, ◌<◌, ◌+◌, ◌^◌, Some, length, slice_get, IfOk, IfSome, OnOk};
 ghost use Rattle.geo_base.specs.Broker.{sender_at};
 ghost use Rattle.geo_base.specs.Entry.{is_outbound};
 ghost use Rattle.geo_base.specs.Markers.{read_content};
 ghost use Rattle.geo_base.specs.Reading.{forwards, read, read_entry};
 ghost use Rattle.geo_base.specs.Sender.{index_to_read};
 ghost use Rattle.geo_base.specs.Sizes.{most_entry_size};
+ghost use Rattle.broker_state.specs.Prepared.{IsEmptyPlan};
 ghost use Rattle.broker_state.specs.Room.{HasRoom};
-ghost use Rattle.broker_plans.specs.Prepared.{IsAt, IsPrepared, MarkerFits, SameState};
-ghost use Rattle.broker_plans.specs.Storable.{IsStorable, IsWritable};
+ghost use Rattle.broker_state.specs.Book.{SameState};
+ghost use Rattle.broker_plans.specs.Prepared.{CanWrite, IsPrepared};
+ghost use Rattle.broker_plans.specs.Storable.{IsStorable};
 ghost use Rattle.broker_reading.specs.Reading.{IsRead, IsReading, ReadRoom, told_text};
 
-use crate::act::{ReadAct, ReadAt, passing_by};
+use crate::act::{ReadAct, ReadAt, skip};
 use crate::hearing::read_marker;
-use crate::updating::passing;
-use broker_plans::Site;
-use broker_state::{Book, BookChange, Outgoing, Prepared};
-use geo_base::{Content, Entry, EntryStore, Memory, Peer};
+use crate::updating::acknowledge;
+use broker_plans::send_text;
+use broker_state::{Book, BookChange, Prepared};
+use geo_base::{Content, Entry, EntryStore, Memory, Peer, WireOut};
 use std::alloc::Global;
 
 /// What the next read of the sender to a cluster will do; it is not enabled where there is nothing to read, and where the cluster is
@@ -26,23 +28,22 @@ use std::alloc::Global;
 #[tactic(auto, unfolding(geo_base::specs::Reading::read), using(crate::proofs::Plans::idle, crate::proofs::Plans::idle_room, crate::proofs::Entries::reading_of))]
 pub fn prepare_read(
     alloc: Global,
-    site: &Site,
     book: &mut Book,
     remote: u32,
-) -> Result<Prepared, Memory>
-    requires at { IsAt site.now book.old }
-    requires number { MarkerFits site.now book.old.broker }
-    requires stored { IsWritable site.now book.old.broker }
-    ensures prepared { IfOk result (IsPrepared site.now book.old.broker (read site.now book.old.broker remote)) }
-    ensures room { IfOk result (HasRoom book.new.room) }
+    plan: &mut Prepared,
+) -> Result<(), Memory>
+    requires can { CanWrite book.old.site book.old.broker }
+    requires empty { IsEmptyPlan plan.old }
+    ensures prepared { OnOk result (IsPrepared book.old.site book.old.broker (read book.old.site book.old.broker remote) plan.new) }
+    ensures room { OnOk result (HasRoom book.new.room plan.new) }
     ensures kept { SameState book.old book.new }
 {
-    if !site.is_remote(remote) {
-        return Ok(Prepared::idle(alloc));
+    if !book.site().is_remote(remote) {
+        return Ok(());
     }
     match index_to_read(book, remote) {
-        None => Ok(Prepared::idle(alloc)),
-        Some(index) => read_at(alloc, site, book, ReadAt { remote, index }),
+        None => Ok(()),
+        Some(index) => read_at(alloc, book, ReadAt { remote, index }, plan),
     }
 }
 
@@ -58,37 +59,35 @@ fn index_to_read(book: &Book, remote: u32) -> Option<u64>
 }
 
 /// What a sender does with the entry at an index.
-#[tactic(auto, using(crate::proofs::Entries::ready_from, crate::proofs::Entries::passes_from))]
-fn read_at(alloc: Global, site: &Site, book: &mut Book, at: ReadAt) -> Result<Prepared, Memory>
-    requires at { IsAt site.now book.old }
-    requires number { MarkerFits site.now book.old.broker }
-    requires stored { IsWritable site.now book.old.broker }
-    requires reading { IsReading site.now book.old.broker at.remote at.index }
-    ensures prepared { IfOk result (IsPrepared site.now book.old.broker (read_entry site.now book.old.broker at.remote at.index (slice_get book.old.broker.entries at.index))) }
-    ensures room { IfOk result (HasRoom book.new.room) }
+#[tactic(auto, using(crate::proofs::Entries::ready_from, crate::proofs::Entries::ready_room, crate::proofs::Entries::acknowledges_from, crate::proofs::Entries::acknowledges_empty, crate::proofs::Entries::acknowledges_within))]
+fn read_at(alloc: Global, book: &mut Book, at: ReadAt, plan: &mut Prepared) -> Result<(), Memory>
+    requires can { CanWrite book.old.site book.old.broker }
+    requires reading { IsReading book.old.site book.old.broker at.remote at.index }
+    requires empty { IsEmptyPlan plan.old }
+    ensures prepared { OnOk result (IsPrepared book.old.site book.old.broker (read_entry book.old.site book.old.broker at.remote at.index (slice_get book.old.broker.entries at.index)) plan.new) }
+    ensures room { OnOk result (HasRoom book.new.room plan.new) }
     ensures kept { SameState book.old book.new }
 {
     book.reserve_senders(1)?;
     book.reserve_entries(1)?;
-    match look(alloc, site, book, at)? {
-        ReadAct::Ready(prepared) => Ok(prepared),
-        ReadAct::Passes { sub, to } => passing(alloc, site, book, at, sub, to),
+    match look(alloc, book, at, plan)? {
+        ReadAct::Ready => Ok(()),
+        ReadAct::Acknowledges { sub, to } => acknowledge(alloc, book, at, sub, to, plan),
     }
 }
 
 /// What is to be done with the entry at an index.
 #[tactic(auto, using(broker_plans::proofs::Packets::stored_at, crate::proofs::Plans::idle, crate::proofs::Plans::idle_room))]
-fn look(alloc: Global, site: &Site, book: &Book, at: ReadAt) -> Result<ReadAct, Memory>
-    requires at { IsAt site.now book.now }
-    requires number { MarkerFits site.now book.now.broker }
-    requires stored { IsWritable site.now book.now.broker }
-    requires reading { IsReading site.now book.now.broker at.remote at.index }
+fn look(alloc: Global, book: &Book, at: ReadAt, plan: &mut Prepared) -> Result<ReadAct, Memory>
+    requires can { CanWrite book.now.site book.now.broker }
+    requires reading { IsReading book.now.site book.now.broker at.remote at.index }
     requires room { ReadRoom book.now.room }
-    ensures { IfOk result (IsRead site.now book.now.broker book.now.room at.remote at.index (read_entry site.now book.now.broker at.remote at.index (slice_get book.now.broker.entries at.index))) }
+    requires empty { IsEmptyPlan plan.old }
+    ensures { IfOk result (λ a. IsRead book.now.site book.now.broker book.now.room at.remote at.index (read_entry book.now.site book.now.broker at.remote at.index (slice_get book.now.broker.entries at.index)) a plan.new) }
 {
     match book.store().get(at.index as usize) {
-        None => Ok(ReadAct::Ready(Prepared::idle(alloc))),
-        Some(entry) => look_at(alloc, site, book, at, entry),
+        None => Ok(ReadAct::Ready),
+        Some(entry) => look_at(alloc, book, at, entry, plan),
     }
 }
 
@@ -96,85 +95,87 @@ fn look(alloc: Global, site: &Site, book: &Book, at: ReadAt) -> Result<ReadAct, 
 #[tactic(auto, using(crate::proofs::Entries::sent, crate::proofs::Entries::of_others, crate::proofs::Entries::of_other, crate::proofs::Entries::short_told))]
 fn look_at(
     alloc: Global,
-    site: &Site,
     book: &Book,
     at: ReadAt,
     entry: &Entry,
+    plan: &mut Prepared,
 ) -> Result<ReadAct, Memory>
-    requires at { IsAt site.now book.now }
-    requires number { MarkerFits site.now book.now.broker }
-    requires stored { IsWritable site.now book.now.broker }
-    requires reading { IsReading site.now book.now.broker at.remote at.index }
+    requires can { CanWrite book.now.site book.now.broker }
+    requires reading { IsReading book.now.site book.now.broker at.remote at.index }
     requires room { ReadRoom book.now.room }
-    requires storable { IsStorable site.now entry.now }
-    ensures { IfOk result (IsRead site.now book.now.broker book.now.room at.remote at.index (read_entry site.now book.now.broker at.remote at.index (Some entry.now))) }
+    requires storable { IsStorable book.now.site entry.now }
+    requires empty { IsEmptyPlan plan.old }
+    ensures { IfOk result (λ a. IsRead book.now.site book.now.broker book.now.room at.remote at.index (read_entry book.now.site book.now.broker at.remote at.index (Some entry.now)) a plan.new) }
 {
-    if is_outbound(site, at.remote, entry) {
-        return Ok(ReadAct::Ready(forwarding(alloc, site, book, at, entry)?));
+    if is_outbound(book, at.remote, entry) {
+        forward(alloc, book, at, entry, plan)?;
+        return Ok(ReadAct::Ready);
     }
     if entry.ident.origin != at.remote {
-        return Ok(ReadAct::Ready(passing_by(alloc, site, book, at)?));
+        skip(book, at, plan)?;
+        return Ok(ReadAct::Ready);
     }
-    let act = read_content(alloc, site, book, at, &entry.content)?;
+    let act = read_content(alloc, book, at, &entry.content, plan)?;
     Ok(act)
 }
 
 /// Whether the own cluster stored an entry first, and it goes to another one.
-fn is_outbound(site: &Site, remote: u32, entry: &Entry) -> bool
-    ensures { result ≡ is_outbound site.now.own remote entry.now }
+fn is_outbound(book: &Book, remote: u32, entry: &Entry) -> bool
+    ensures { result ≡ is_outbound book.now.site.own remote entry.now }
 {
-    entry.ident.origin == site.own() && entry.to.contains(remote)
+    entry.ident.origin == book.site().own() && entry.to.contains(remote)
 }
 
 /// What is to be done with an entry of the other cluster: a marker is acted on.
 fn read_content(
     alloc: Global,
-    site: &Site,
     book: &Book,
     at: ReadAt,
     content: &Content,
+    plan: &mut Prepared,
 ) -> Result<ReadAct, Memory>
-    requires at { IsAt site.now book.now }
-    requires number { MarkerFits site.now book.now.broker }
-    requires stored { IsWritable site.now book.now.broker }
-    requires reading { IsReading site.now book.now.broker at.remote at.index }
+    requires can { CanWrite book.now.site book.now.broker }
+    requires reading { IsReading book.now.site book.now.broker at.remote at.index }
     requires room { ReadRoom book.now.room }
     requires short { length (told_text content.now) ≤ most_entry_size }
-    ensures { IfOk result (IsRead site.now book.now.broker book.now.room at.remote at.index (read_content site.now book.now.broker at.remote at.index content.now)) }
+    requires empty { IsEmptyPlan plan.old }
+    ensures { IfOk result (λ a. IsRead book.now.site book.now.broker book.now.room at.remote at.index (read_content book.now.site book.now.broker at.remote at.index content.now) a plan.new) }
 {
     match content {
-        Content::Marked(marker) => read_marker(alloc, site, book, at, marker),
+        Content::Marked(marker) => read_marker(alloc, book, at, marker, plan),
         Content::Data | Content::Unread(_) => {
-            Ok(ReadAct::Ready(passing_by(alloc, site, book, at)?))
+            skip(book, at, plan)?;
+            Ok(ReadAct::Ready)
         }
     }
 }
 
 /// An entry of the own cluster is sent under the next number of the session, and awaits its receipt.
 #[tactic(auto, using(crate::proofs::Plans::forwarded, crate::proofs::Plans::forwarded_room))]
-fn forwarding(
+fn forward(
     alloc: Global,
-    site: &Site,
     book: &Book,
     at: ReadAt,
     entry: &Entry,
-) -> Result<Prepared, Memory>
-    requires reading { IsReading site.now book.now.broker at.remote at.index }
+    plan: &mut Prepared,
+) -> Result<(), Memory>
+    requires reading { IsReading book.now.site book.now.broker at.remote at.index }
     requires room { ReadRoom book.now.room }
-    requires storable { IsStorable site.now entry.now }
-    ensures prepared { IfOk result (IsPrepared site.now book.now.broker (forwards site.now at.remote (sender_at book.now.broker at.remote) at.index entry.now)) }
-    ensures room { IfOk result (HasRoom book.now.room) }
+    requires storable { IsStorable book.now.site entry.now }
+    requires empty { IsEmptyPlan plan.old }
+    ensures prepared { OnOk result (IsPrepared book.now.site book.now.broker (forwards book.now.site at.remote (sender_at book.now.broker at.remote) at.index entry.now) plan.new) }
+    ensures room { OnOk result (HasRoom book.now.room plan.new) }
 {
     let ReadAt { remote, index } = at;
     let sender = book.sender(remote).sender();
     let session = sender.session();
-    let frame = site.send_text(alloc, session, sender.next(), entry)?;
-    let mut plan = Prepared::quiet(alloc, 0);
+    let frame = send_text(alloc, book, session, sender.next(), entry)?;
+    plan.begin(0);
     plan.change(BookChange::Pend { remote, index })?;
-    plan.send(Outgoing {
+    plan.send(WireOut {
         to: Peer::Forward(remote),
         session,
         frame,
     })?;
-    Ok(plan)
+    Ok(())
 }

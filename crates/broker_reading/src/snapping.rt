@@ -1,15 +1,17 @@
 //! Snap: a snapshot begins with a request to all other clusters, where a subscription is replicated and none is being made (PIP-33).
-ghost use Rattle.std.specs.Prelude.{◌≡◌, ◌≤◌, ◌&&◌, is_none, length, IfOk};
+ghost use Rattle.std.specs.Prelude.{◌≡◌, ◌≤◌, ◌&&◌, is_none, length, IfOk, OnOk};
 ghost use Rattle.std.specs.List.{list_any};
 ghost use Rattle.geo_base.specs.Builder.{snapshot_id};
 ghost use Rattle.geo_base.specs.Markers.{asks, snap};
 ghost use Rattle.geo_base.specs.Subscription.{Subscription};
+ghost use Rattle.broker_state.specs.Prepared.{IsEmptyPlan};
 ghost use Rattle.broker_state.specs.Room.{HasRoom};
-ghost use Rattle.broker_plans.specs.Prepared.{IsAt, IsPrepared, MarkerFits, SameState};
+ghost use Rattle.broker_state.specs.Book.{SameState};
+ghost use Rattle.broker_plans.specs.Prepared.{CanWrite, IsPrepared, MarkerFits};
 ghost use Rattle.broker_plans.specs.Storable.{most_id};
 
 use crate::markers::request;
-use broker_plans::{Site, appending};
+use broker_plans::appending;
 use broker_state::{Book, BookChange, Prepared};
 use geo_base::{EntryStore, Memory, Position, Text};
 use snapshot_builder::Builder;
@@ -18,22 +20,23 @@ use std::alloc::Global;
 /// What the beginning of a snapshot will do, among at least two clusters; it is not enabled where no subscription is replicated, or
 /// where a snapshot is being made. Only room is made; an `Err` is want of memory.
 #[tactic(auto, using(crate::proofs::Plans::not_asked, crate::proofs::Plans::idle_room, crate::proofs::Plans::asks_now))]
-pub fn prepare_snap(alloc: Global, site: &Site, book: &mut Book) -> Result<Prepared, Memory>
-    requires at { IsAt site.now book.old }
-    requires number { MarkerFits site.now book.old.broker }
-    requires remotes { 2 ≤ length site.now.clusters }
-    ensures prepared { IfOk result (IsPrepared site.now book.old.broker (snap site.now book.old.broker)) }
-    ensures room { IfOk result (HasRoom book.new.room) }
+pub fn prepare_snap(alloc: Global, book: &mut Book, plan: &mut Prepared) -> Result<(), Memory>
+    requires can { CanWrite book.old.site book.old.broker }
+    requires remotes { 2 ≤ length book.old.site.clusters }
+    requires empty { IsEmptyPlan plan.old }
+    ensures prepared { OnOk result (IsPrepared book.old.site book.old.broker (snap book.old.site book.old.broker) plan.new) }
+    ensures room { OnOk result (HasRoom book.new.room plan.new) }
     ensures kept { SameState book.old book.new }
 {
     if !may_ask(book) {
-        return Ok(Prepared::idle(alloc));
+        return Ok(());
     }
     book.reserve_entries(1)?;
+    let site = book.site();
     let name = site.cluster_name(site.own()).as_str();
     let id = snapshot_id(alloc, name, book.store().next())?;
-    let prepared = asking(alloc, site, book, &id)?;
-    Ok(prepared)
+    ask(alloc, book, &id, plan)?;
+    Ok(())
 }
 
 /// Whether a subscription is replicated and no snapshot is being made.
@@ -45,25 +48,25 @@ fn may_ask(book: &Book) -> bool
 
 /// A request of this id is stored, and a builder begins.
 #[tactic(auto, using(crate::proofs::Plans::asked, crate::proofs::Plans::asked_room, crate::proofs::Heard::started_builder))]
-fn asking(alloc: Global, site: &Site, book: &Book, id: &Text) -> Result<Prepared, Memory>
-    requires at { IsAt site.now book.now }
-    requires number { MarkerFits site.now book.now.broker }
-    requires remotes { 2 ≤ length site.now.clusters }
+fn ask(alloc: Global, book: &Book, id: &Text, plan: &mut Prepared) -> Result<(), Memory>
+    requires number { MarkerFits book.now.site book.now.broker }
+    requires remotes { 2 ≤ length book.now.site.clusters }
     requires short { length id.now ≤ most_id }
     requires entries { 1 ≤ book.now.room.entries }
     requires streams { 1 ≤ book.now.room.streams }
-    ensures prepared { IfOk result (IsPrepared site.now book.now.broker (asks site.now book.now.broker id.now)) }
-    ensures room { IfOk result (HasRoom book.now.room) }
+    requires empty { IsEmptyPlan plan.old }
+    ensures prepared { OnOk result (IsPrepared book.now.site book.now.broker (asks book.now.site book.now.broker id.now) plan.new) }
+    ensures room { OnOk result (HasRoom book.now.room plan.new) }
 {
-    let clusters = site.clusters().len() as u32;
-    let builder = Builder::start(alloc, id.as_str(), site.own(), clusters)?;
-    let asked = request(alloc, site, book, id.as_str())?;
-    let mut plan = Prepared::quiet(alloc, 0);
+    let clusters = book.site().clusters().len() as u32;
+    let builder = Builder::start(alloc, id.as_str(), book.site().own(), clusters)?;
+    let asked = request(alloc, book, id.as_str())?;
+    plan.begin(0);
     plan.write(appending(alloc, asked)?)?;
     plan.change(BookChange::Building {
         builder: Some(builder),
     })?;
-    Ok(plan)
+    Ok(())
 }
 
 /// A snapshot's id: the cluster's name and the position of its request, as `a:0:1` (own).

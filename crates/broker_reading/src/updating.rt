@@ -1,5 +1,5 @@
-//! An update of another cluster (PIP-33): a subscription passes over what the update's cluster has passed over.
-ghost use Rattle.std.specs.Prelude.{◌≡◌, ◌<◌, ◌≤◌, ◌+◌, ◌∷◌, [], None, true, length, IfOk, IfSome};
+//! An update of another cluster (PIP-33): a subscription acknowledges what its mark there has passed.
+ghost use Rattle.std.specs.Prelude.{◌≡◌, ◌<◌, ◌≤◌, ◌+◌, ◌∷◌, [], None, true, length, IfOk, IfSome, OnOk};
 ghost use Rattle.geo_base.specs.declared.change.Change.TheVariants as change;
 ghost use Rattle.geo_base.specs.declared.write.Write.TheVariants as write;
 ghost use Rattle.geo_base.specs.Broker.{sub_named};
@@ -8,15 +8,16 @@ ghost use Rattle.geo_base.specs.Storing.{cursor_write};
 ghost use Rattle.geo_base.specs.Subscribing.{has_room};
 ghost use Rattle.geo_base.specs.Updating.{handled, only_index, passed_over, passing, positions_for, read_update};
 ghost use Rattle.broker_subs.specs.Table.{sub_at};
+ghost use Rattle.broker_state.specs.Prepared.{IsEmptyPlan};
 ghost use Rattle.broker_state.specs.Room.{HasRoom};
-ghost use Rattle.broker_plans.specs.Prepared.{IsAt, IsPrepared, MarkerFits, SameState};
-ghost use Rattle.broker_plans.specs.Storable.{IsWritable};
+ghost use Rattle.broker_state.specs.Book.{SameState};
+ghost use Rattle.broker_plans.specs.Prepared.{CanWrite, IsPrepared};
 ghost use Rattle.broker_reading.specs.Reading.{IsRead, IsReading, ReadRoom};
-ghost use Rattle.broker_reading.specs.Updating.{listed, passed_write};
+ghost use Rattle.broker_reading.specs.Updating.{listed, update_acks};
 
-use crate::act::{ReadAct, ReadAt, handled, passing_by};
+use crate::act::{ReadAct, ReadAt, acknowledge_read, skip};
 use crate::hearing::is_place;
-use broker_plans::{Site, begin_write, place_named, sub_at, update_after};
+use broker_plans::{begin_write, place_named, sub_at, update_after};
 use broker_state::{Book, BookChange, BookWrite, Prepared};
 use broker_subs::{Sub, SubChange, SubWrite};
 use cursor_acks::Cursor;
@@ -28,34 +29,37 @@ use std::alloc::Global;
 /// its name is a name of a subscription that is here or may be made (own).
 pub(crate) fn read_update(
     alloc: Global,
-    site: &Site,
     book: &Book,
     at: ReadAt,
     sub: &Text,
     remote: &[ClusterPosition],
+    plan: &mut Prepared,
 ) -> Result<ReadAct, Memory>
-    requires reading { IsReading site.now book.now.broker at.remote at.index }
+    requires reading { IsReading book.now.site book.now.broker at.remote at.index }
     requires room { ReadRoom book.now.room }
-    ensures { IfOk result (IsRead site.now book.now.broker book.now.room at.remote at.index (read_update site.now book.now.broker at.remote at.index sub.now remote.now)) }
+    requires empty { IsEmptyPlan plan.old }
+    ensures { IfOk result (λ a. IsRead book.now.site book.now.broker book.now.room at.remote at.index (read_update book.now.site book.now.broker at.remote at.index sub.now remote.now) a plan.new) }
 {
-    let Some(to) = only_index(site, book, remote) else {
-        return Ok(ReadAct::Ready(passing_by(alloc, site, book, at)?));
+    let Some(to) = only_index(book, remote) else {
+        skip(book, at, plan)?;
+        return Ok(ReadAct::Ready);
     };
     if !is_name(sub.as_bytes()) || !has_room(book, sub) {
-        return Ok(ReadAct::Ready(passing_by(alloc, site, book, at)?));
+        skip(book, at, plan)?;
+        return Ok(ReadAct::Ready);
     }
     let sub = sub_name(alloc, sub)?;
-    Ok(ReadAct::Passes { sub, to })
+    Ok(ReadAct::Acknowledges { sub, to })
 }
 
 /// The index of the one position that an update names for the own cluster, where it names exactly one and that is stored.
-fn only_index(site: &Site, book: &Book, remote: &[ClusterPosition]) -> Option<u64>
-    ensures index { result ≡ only_index book.now.broker.ledgers (positions_for site.now.own remote.now) }
+fn only_index(book: &Book, remote: &[ClusterPosition]) -> Option<u64>
+    ensures index { result ≡ only_index book.now.broker.ledgers (positions_for book.now.site.own remote.now) }
     ensures within { IfSome result (λ j. j < length book.now.broker.entries) }
 {
     let mut only = None;
     for named in remote {
-        if is_place(site.own(), &named.cluster) {
+        if is_place(book.site().own(), &named.cluster) {
             if only.is_some() {
                 return None;
             }
@@ -105,71 +109,62 @@ fn sub_name(alloc: Global, text: &Text) -> Result<SubName, Memory>
 
 /// What an update will do to the subscription of a name, which is created at Earliest, replicated and Exclusive, where it is missing;
 /// one that is here is not changed otherwise, and need not be marked replicated (own).
-#[tactic(auto, using(crate::proofs::Passes::missing_prepared, crate::proofs::Passes::there_prepared))]
-pub(crate) fn passing(
+#[tactic(auto, using(crate::proofs::Acknowledged::missing_prepared, crate::proofs::Acknowledged::there_prepared))]
+pub(crate) fn acknowledge(
     alloc: Global,
-    site: &Site,
     book: &mut Book,
     at: ReadAt,
     sub: SubName,
     to: u64,
-) -> Result<Prepared, Memory>
-    requires at { IsAt site.now book.old }
-    requires number { MarkerFits site.now book.old.broker }
-    requires stored { IsWritable site.now book.old.broker }
-    requires reading { IsReading site.now book.old.broker at.remote at.index }
+    plan: &mut Prepared,
+) -> Result<(), Memory>
+    requires can { CanWrite book.old.site book.old.broker }
+    requires reading { IsReading book.old.site book.old.broker at.remote at.index }
     requires senders { 1 ≤ book.old.room.senders }
     requires to { to < length book.old.broker.entries }
-    ensures prepared { IfOk result (IsPrepared site.now book.old.broker (handled at.remote at.index (passing site.now book.old.broker sub (passed_over at.remote 0 (to + 1) book.old.broker.entries) (sub_named book.old.broker.subs sub)) (change.Acked sub ∷ []))) }
-    ensures room { IfOk result (HasRoom book.new.room) }
+    requires empty { IsEmptyPlan plan.old }
+    ensures prepared { OnOk result (IsPrepared book.old.site book.old.broker (handled at.remote at.index (passing book.old.site book.old.broker sub (passed_over at.remote 0 (to + 1) book.old.broker.entries) (sub_named book.old.broker.subs sub)) (change.Acked sub ∷ [])) plan.new) }
+    ensures room { OnOk result (HasRoom book.new.room plan.new) }
     ensures kept { SameState book.old book.new }
 {
     match place_named(book, sub.as_str().as_bytes()) {
-        None => creating(alloc, site, book, at, sub, to),
-        Some(place) => passing_over(alloc, site, book, at, place, to),
+        None => create(alloc, book, at, sub, to, plan),
+        Some(place) => acknowledge_at(alloc, book, at, place, to, plan),
     }
 }
 
-/// The subscription at a place passes over what the other cluster could have had up to an index.
-#[tactic(auto, using(crate::proofs::Passes::passed, crate::proofs::Passes::passed_room))]
-fn passing_over(
+/// The subscription at a place acknowledges what the other cluster could have had up to an index.
+#[tactic(auto, using(crate::proofs::Acknowledged::acknowledges, crate::proofs::Acknowledged::acknowledges_room))]
+fn acknowledge_at(
     alloc: Global,
-    site: &Site,
     book: &mut Book,
     at: ReadAt,
     place: usize,
     to: u64,
-) -> Result<Prepared, Memory>
-    requires at { IsAt site.now book.old }
-    requires number { MarkerFits site.now book.old.broker }
-    requires stored { IsWritable site.now book.old.broker }
-    requires reading { IsReading site.now book.old.broker at.remote at.index }
+    plan: &mut Prepared,
+) -> Result<(), Memory>
+    requires can { CanWrite book.old.site book.old.broker }
+    requires reading { IsReading book.old.site book.old.broker at.remote at.index }
     requires senders { 1 ≤ book.old.room.senders }
     requires place { place < length book.old.broker.subs }
     requires to { to < length book.old.broker.entries }
-    ensures prepared { IfOk result (IsPrepared site.now book.old.broker (handled at.remote at.index (cursor_write site.now book.old.broker (sub_at book.old.broker.subs place) (write.Acks (sub_at book.old.broker.subs place).name (passed_over at.remote 0 (to + 1) book.old.broker.entries))) (change.Acked (sub_at book.old.broker.subs place).name ∷ []))) }
-    ensures room { IfOk result (HasRoom book.new.room) }
+    requires empty { IsEmptyPlan plan.old }
+    ensures prepared { OnOk result (IsPrepared book.old.site book.old.broker (handled at.remote at.index (cursor_write book.old.site book.old.broker (sub_at book.old.broker.subs place) (write.Acks (sub_at book.old.broker.subs place).name (passed_over at.remote 0 (to + 1) book.old.broker.entries))) (change.Acked (sub_at book.old.broker.subs place).name ∷ [])) plan.new) }
+    ensures room { OnOk result (HasRoom book.new.room plan.new) }
     ensures kept { SameState book.old book.new }
 {
-    let _own = site.own();
-    let write = passes(book, sub_at(book, place).cursor(), at.remote, to);
-    let update = update_after(
-        alloc,
-        site,
-        book,
-        place,
-        &write,
-        sub_at(book, place).cache(),
-    )?;
-    let mut plan = begin_write(alloc, book, place, 0, write, update)?;
+    let _site = book.site();
+    let write = update_acks(book, sub_at(book, place).cursor(), at.remote, to);
+    let update = update_after(alloc, book, place, &write, sub_at(book, place).cache())?;
+    begin_write(book, place, 0, write, update, plan)?;
     plan.change(BookChange::Sub(SubChange::Acked))?;
-    let prepared = handled(plan, at)?;
-    Ok(prepared)
+    acknowledge_read(plan, at)?;
+    Ok(())
 }
 
 /// The write of a cursor by an update of a cluster.
-fn passes(book: &Book, cursor: &Cursor, remote: u32, to: u64) -> SubWrite
-    ensures { result ≡ passed_write book.now.broker.entries cursor.now.indexes remote to }
+fn update_acks(book: &Book, cursor: &Cursor, remote: u32, to: u64) -> SubWrite
+    ensures { result ≡ update_acks book.now.broker.entries cursor.now.indexes remote to }
 {
     SubWrite::Passed {
         index: to,
@@ -178,22 +173,23 @@ fn passes(book: &Book, cursor: &Cursor, remote: u32, to: u64) -> SubWrite
     }
 }
 
-/// A subscription of this name is created, and passes over what the other cluster could have had up to an index.
-#[tactic(auto, using(crate::proofs::Passes::created, crate::proofs::Passes::created_room))]
-fn creating(
+/// A subscription of this name is created, and acknowledges what the other cluster could have had up to an index.
+#[tactic(auto, using(crate::proofs::Acknowledged::created, crate::proofs::Acknowledged::created_room))]
+fn create(
     alloc: Global,
-    site: &Site,
     book: &mut Book,
     at: ReadAt,
     sub: SubName,
     to: u64,
-) -> Result<Prepared, Memory>
-    requires reading { IsReading site.now book.old.broker at.remote at.index }
+    plan: &mut Prepared,
+) -> Result<(), Memory>
+    requires reading { IsReading book.old.site book.old.broker at.remote at.index }
     requires senders { 1 ≤ book.old.room.senders }
     requires missing { sub_named book.old.broker.subs sub ≡ None }
     requires to { to < length book.old.broker.entries }
-    ensures prepared { IfOk result (IsPrepared site.now book.old.broker (handled at.remote at.index (passing site.now book.old.broker sub (passed_over at.remote 0 (to + 1) book.old.broker.entries) None) (change.Acked sub ∷ []))) }
-    ensures room { IfOk result (HasRoom book.new.room) }
+    requires empty { IsEmptyPlan plan.old }
+    ensures prepared { OnOk result (IsPrepared book.old.site book.old.broker (handled at.remote at.index (passing book.old.site book.old.broker sub (passed_over at.remote 0 (to + 1) book.old.broker.entries) None) (change.Acked sub ∷ [])) plan.new) }
+    ensures room { OnOk result (HasRoom book.new.room plan.new) }
     ensures kept { SameState book.old book.new }
 {
     let runs = sub_update::runs(&Cursor::none(alloc), book.store(), to, at.remote);
@@ -202,7 +198,7 @@ fn creating(
     };
     let sub = Sub::new(alloc, sub, SubKind::Exclusive, true, 0, acks)?;
     book.reserve_places(1)?;
-    let mut plan = Prepared::quiet(alloc, book.subs().len());
+    plan.begin(book.subs().len());
     plan.write(BookWrite::Create { sub, latest: false })?;
     plan.write(BookWrite::Sub(SubWrite::Passed {
         index: to,
@@ -210,6 +206,6 @@ fn creating(
         runs,
     }))?;
     plan.change(BookChange::Sub(SubChange::Acked))?;
-    let prepared = handled(plan, at)?;
-    Ok(prepared)
+    acknowledge_read(plan, at)?;
+    Ok(())
 }

@@ -81,13 +81,14 @@ having_more h b c f ps qs p q same is sends =
     (subst (λ (xs : List AttachedProducer). IsPrepared h b (plan_of [] (with_producers c (open_at b c) xs ∷ []) []) p) same is) sends
 
 -- a message as the code has it, which bears the own cluster's number, and the position that its receipt names
-pub stored_more : (h : Site) (b now : Broker) (c id seq own : ℕ) (e : Entry) (at : Position) (p q : PreparedBook) → now ≡ b → own ≡ h.own → IsPrepared h b (plan_of (storing b (with_origin own e)) [] []) p
-    → Some at ≡ receipt_position h.per_ledger b (with_origin own e) → AlsoSends h.clusters (record { to = peer.Client c; session = (open_at now c).number; frame = frame.SendReceipt id seq (Some at) }) p q
+pub stored_more : (h now_h : Site) (b now : Broker) (c id seq own : ℕ) (e : Entry) (at : Position) (p q : PreparedBook) → now_h ≡ h → now ≡ b → own ≡ h.own → IsPrepared h b (plan_of (storing b (with_origin own e)) [] []) p
+    → Some at ≡ receipt_position h.per_ledger b (with_origin own e) → AlsoSends now_h.clusters (record { to = peer.Client c; session = (open_at now c).number; frame = frame.SendReceipt id seq (Some at) }) p q
     → IsPrepared h b (stores h b c (open_at b c) id seq (with_origin h.own e)) q
-stored_more h b now c id seq own e at p q same is_own is place sends =
+stored_more h now_h b now c id seq own e at p q same_h same is_own is place sends =
     subst (λ (x : ℕ). IsPrepared h b (stores h b c (open_at b c) id seq (with_origin x e)) q) is_own
     (answers_more h b now c (frame.SendReceipt id seq (receipt_position h.per_ledger b (with_origin own e))) (storing b (with_origin own e)) [] p q same is
-    (subst (λ (o : Option Position). AlsoSends h.clusters (record { to = peer.Client c; session = (open_at now c).number; frame = frame.SendReceipt id seq o }) p q) place sends))
+    (subst (λ (o : Option Position). AlsoSends h.clusters (record { to = peer.Client c; session = (open_at now c).number; frame = frame.SendReceipt id seq o }) p q) place
+    (subst (λ (g : Site). AlsoSends g.clusters (record { to = peer.Client c; session = (open_at now c).number; frame = frame.SendReceipt id seq (Some at) }) p q) same_h sends)))
 
 -- ---- CLOSE_PRODUCER
 

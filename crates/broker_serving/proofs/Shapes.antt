@@ -1,6 +1,6 @@
 -- Events of a few steps: each is the machine's plan, and a broker can do it.
 use Rattle.std.proofs.Common.{◌≡◌, ℕ, ◌<◌, ◌≤◌, Bool, true, false, List, [], ◌∷◌, length, refl, sym, subst, arith}
-use Rattle.std.specs.Prelude.{if◌then◌else◌, Option, Some, None, Result, IfOk}
+use Rattle.std.specs.Prelude.{if◌then◌else◌, Option, Some, None, Result, OnOk}
 use Rattle.std.proofs.lemmas.Bool.{le-ltb, lt-ltb}
 use Rattle.geo_base.specs.declared.change.Change.{Change}
 use Rattle.geo_base.specs.declared.change.Change.TheVariants as change
@@ -41,8 +41,12 @@ with_name h b plan p n is steps sent fits stored = record {
 }
 
 -- a call whose plan is the machine's
-pub same_plan : {E : Type 0} (h : Site) (b : Broker) (x y : Plan) (r : Result PreparedBook E) → x ≡ y → IfOk r (IsPrepared h b x) → IfOk r (IsPrepared h b y)
-same_plan h b x y r same is = subst (λ (z : Plan). IfOk r (IsPrepared h b z)) same is
+pub same_plan : {E : Type 0} (h : Site) (b : Broker) (x y : Plan) (p : PreparedBook) (r : Result (Unit {0}) E) → x ≡ y → OnOk r (IsPrepared h b x p) → OnOk r (IsPrepared h b y p)
+same_plan h b x y p r same is = subst (λ (z : Plan). OnOk r (IsPrepared h b z p)) same is
+
+-- what was prepared behind a call that made room is prepared for the state before it, which is the same
+pub at_old : (new_h h : Site) (new_b b : Broker) (plan : Broker → Plan) (p : PreparedBook) → new_h ≡ h → new_b ≡ b → IsPrepared new_h new_b (plan new_b) p → IsPrepared h b (plan b) p
+at_old new_h h new_b b plan p site broker is = subst (λ (g : Site). IsPrepared g b (plan b) p) site (subst (λ (x : Broker). IsPrepared new_h x (plan x) p) broker is)
 
 -- a request is refused with a code, or else done
 abbrev pub plan_at : Option ℕ → (ℕ → Plan) → Plan → Plan

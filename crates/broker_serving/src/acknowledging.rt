@@ -8,13 +8,14 @@ ghost use Rattle.geo_base.specs.Storing.{cursor_write};
 ghost use Rattle.geo_base.specs.Subscribing.{consumed_by};
 ghost use Rattle.broker_subs.specs.Steps.{SubWriteFits, machine_sub_write};
 ghost use Rattle.broker_subs.specs.Table.{sub_at};
+ghost use Rattle.broker_state.specs.Prepared.{IsEmptyPlan};
 ghost use Rattle.broker_state.specs.Room.{HasRoom};
-ghost use Rattle.broker_plans.specs.Prepared.{IsAt, IsPrepared, MarkerFits, SameState};
-ghost use Rattle.broker_plans.specs.Storable.{IsWritable};
+ghost use Rattle.broker_state.specs.Book.{SameState};
+ghost use Rattle.broker_plans.specs.Prepared.{CanWrite, IsPrepared};
 ghost use Rattle.broker_serving.specs.Acknowledging.{WritesAcks};
 
-use crate::answering::ignoring;
-use broker_plans::{Site, begin_write, place_consumed, sub_at, update_after};
+use crate::answering::ignore;
+use broker_plans::{begin_write, place_consumed, sub_at, update_after};
 use broker_state::{Book, BookChange, Prepared};
 use broker_subs::{SubChange, SubWrite};
 use geo_base::{AckKind, Memory, Position, Sequence, SubKind};
@@ -32,58 +33,53 @@ pub(crate) struct Acked {
 #[tactic(auto, using(crate::proofs::Acks::no_acks, crate::proofs::Acks::some_acks))]
 pub(crate) fn serve_ack(
     alloc: Global,
-    site: &Site,
     book: &mut Book,
     client: u32,
     acked: &Acked,
-) -> Result<Prepared, Memory>
-    requires at { IsAt site.now book.old }
-    requires number { MarkerFits site.now book.old.broker }
-    requires stored { IsWritable site.now book.old.broker }
-    ensures prepared { IfOk result (IsPrepared site.now book.old.broker (serve_ack site.now book.old.broker acked.now.kind acked.now.positions (consumed_by book.old.broker.subs client acked.now.id))) }
-    ensures room { IfOk result (HasRoom book.new.room) }
+    plan: &mut Prepared,
+) -> Result<(), Memory>
+    requires can { CanWrite book.old.site book.old.broker }
+    requires empty { IsEmptyPlan plan.old }
+    ensures prepared { OnOk result (IsPrepared book.old.site book.old.broker (serve_ack book.old.site book.old.broker acked.now.kind acked.now.positions (consumed_by book.old.broker.subs client acked.now.id)) plan.new) }
+    ensures room { OnOk result (HasRoom book.new.room plan.new) }
     ensures kept { SameState book.old book.new }
 {
     let Some(place) = place_consumed(book, client, acked.id) else {
-        return Ok(ignoring(alloc, site, book));
+        ignore(book, plan);
+        return Ok(());
     };
     match acks(alloc, book, place, acked)? {
-        None => Ok(ignoring(alloc, site, book)),
-        Some(write) => acknowledging(alloc, site, book, place, write),
+        None => {
+            ignore(book, plan);
+            Ok(())
+        }
+        Some(write) => acknowledge(alloc, book, place, write, plan),
     }
 }
 
 /// A write of the cursor of the subscription at a place, the update that follows it, and nothing acknowledged is out or due from
 /// then on.
 #[tactic(auto, using(crate::proofs::Acks::acked, crate::proofs::Acks::ack_room, broker_plans::proofs::Updates::update_appends))]
-fn acknowledging(
+fn acknowledge(
     alloc: Global,
-    site: &Site,
     book: &mut Book,
     place: usize,
     write: SubWrite,
-) -> Result<Prepared, Memory>
-    requires at { IsAt site.now book.old }
-    requires number { MarkerFits site.now book.old.broker }
-    requires stored { IsWritable site.now book.old.broker }
+    plan: &mut Prepared,
+) -> Result<(), Memory>
+    requires can { CanWrite book.old.site book.old.broker }
     requires place { place < length book.old.broker.subs }
     requires fits { SubWriteFits book.old.broker.entries (sub_at book.old.broker.subs place) write }
-    ensures prepared { IfOk result (IsPrepared site.now book.old.broker (plan_of (cursor_write site.now book.old.broker (sub_at book.old.broker.subs place) (machine_sub_write (sub_at book.old.broker.subs place).name book.old.broker.entries write)) (change.Acked (sub_at book.old.broker.subs place).name ∷ []) [])) }
-    ensures room { IfOk result (HasRoom book.new.room) }
+    requires empty { IsEmptyPlan plan.old }
+    ensures prepared { OnOk result (IsPrepared book.old.site book.old.broker (plan_of (cursor_write book.old.site book.old.broker (sub_at book.old.broker.subs place) (machine_sub_write (sub_at book.old.broker.subs place).name book.old.broker.entries write)) (change.Acked (sub_at book.old.broker.subs place).name ∷ []) []) plan.new) }
+    ensures room { OnOk result (HasRoom book.new.room plan.new) }
     ensures kept { SameState book.old book.new }
 {
-    let _own = site.own();
-    let update = update_after(
-        alloc,
-        site,
-        book,
-        place,
-        &write,
-        sub_at(book, place).cache(),
-    )?;
-    let mut plan = begin_write(alloc, book, place, 0, write, update)?;
+    let _site = book.site();
+    let update = update_after(alloc, book, place, &write, sub_at(book, place).cache())?;
+    begin_write(book, place, 0, write, update, plan)?;
     plan.change(BookChange::Sub(SubChange::Acked))?;
-    Ok(plan)
+    Ok(())
 }
 
 /// The write that an ACK asks of the subscription at a place, where it names what is stored.

@@ -1,9 +1,10 @@
 //! What a broker answers to a client.
-ghost use Rattle.std.specs.Prelude.{◌≡◌, true, false, [], ◌∷◌, IfOk};
+ghost use Rattle.std.specs.Prelude.{◌≡◌, true, false, [], ◌∷◌, OnOk};
 ghost use Rattle.geo_base.specs.declared.frame.Frame.TheVariants as frame;
 ghost use Rattle.geo_base.specs.declared.packet.Peer.TheVariants as peer;
 ghost use Rattle.geo_base.specs.Answers.{answers, refuses};
 ghost use Rattle.geo_base.specs.Plan.{quiet_plan};
+ghost use Rattle.broker_state.specs.Prepared.{IsEmptyPlan};
 ghost use Rattle.broker_state.specs.Room.{HasRoom, Room};
 ghost use Rattle.broker_plans.specs.Prepared.{AlsoSends, IsPrepared};
 ghost use Rattle.broker_serving.specs.Serving.{IsOpen, open_at};
@@ -11,7 +12,7 @@ ghost use Rattle.frame_values.specs.Coded.{carries_entry};
 ghost use Rattle.frame_values.specs.Fitting.{IsSmall};
 ghost use Rattle.frame_values.specs.Texts.{is_readable};
 
-use broker_plans::{Site, also_send};
+use broker_plans::also_send;
 use broker_state::{Book, Prepared};
 use geo_base::{AttachedProducer, Frame, Memory, Peer, Session};
 use std::alloc::Global;
@@ -47,71 +48,73 @@ pub(crate) fn open_producers(book: &Book, client: u32) -> &[AttachedProducer]
     open_session(book, client).producers.as_slice()
 }
 
-/// An event that also answers a client, in its open session.
-pub(crate) fn answered(
+/// Also answers a client, in its open session, behind all that the event does.
+pub(crate) fn also_answer(
     alloc: Global,
-    site: &Site,
     book: &Book,
     client: u32,
-    prepared: Prepared,
+    plan: &mut Prepared,
     frame: Frame,
-) -> Result<Prepared, Memory>
+) -> Result<(), Memory>
     requires open { IsOpen book.now.broker client }
     requires simple { carries_entry frame ≡ false }
     requires readable { is_readable frame ≡ true }
-    requires small { IsSmall site.now.clusters frame }
-    ensures { IfOk result (AlsoSends site.now.clusters (record { to = peer.Client client; session = (open_at book.now.broker client).number; frame = frame }) prepared) }
+    requires small { IsSmall book.now.site.clusters frame }
+    ensures { OnOk result (AlsoSends book.now.site.clusters (record { to = peer.Client client; session = (open_at book.now.broker client).number; frame = frame }) plan.old plan.new) }
 {
     let session = open_session(book, client).number;
     let to = Peer::Client(client);
-    let sent = also_send(alloc, site, prepared, to, session, &frame);
+    let sent = also_send(alloc, book, plan, to, session, &frame);
     drop(frame);
     sent
 }
 
-/// An answer that changes nothing.
+/// Answers a client, and changes nothing.
 #[tactic(auto, using(crate::proofs::Shapes::nothing, broker_plans::proofs::Keeping::sends_more, broker_plans::proofs::Keeping::room_more, broker_plans::proofs::Keeping::no_room))]
-pub(crate) fn answering(
+pub(crate) fn answer(
     alloc: Global,
-    site: &Site,
     book: &Book,
     client: u32,
     frame: Frame,
-) -> Result<Prepared, Memory>
+    plan: &mut Prepared,
+) -> Result<(), Memory>
     requires open { IsOpen book.now.broker client }
     requires simple { carries_entry frame ≡ false }
     requires readable { is_readable frame ≡ true }
-    requires small { IsSmall site.now.clusters frame }
-    ensures prepared { IfOk result (IsPrepared site.now book.now.broker (answers client (open_at book.now.broker client) frame)) }
-    ensures room { (room : Room) → IfOk result (HasRoom room) }
+    requires small { IsSmall book.now.site.clusters frame }
+    requires empty { IsEmptyPlan plan.old }
+    ensures prepared { OnOk result (IsPrepared book.now.site book.now.broker (answers client (open_at book.now.broker client) frame) plan.new) }
+    ensures room { (room : Room) → OnOk result (HasRoom room plan.new) }
 {
-    let quiet = Prepared::quiet(alloc, 0);
-    let prepared = answered(alloc, site, book, client, quiet, frame)?;
-    Ok(prepared)
+    plan.begin(0);
+    also_answer(alloc, book, client, plan, frame)?;
+    Ok(())
 }
 
-/// A request is refused.
-pub(crate) fn refusing(
+/// Refuses a request.
+pub(crate) fn refuse(
     alloc: Global,
-    site: &Site,
     book: &Book,
     client: u32,
     request: u64,
     code: u64,
-) -> Result<Prepared, Memory>
+    plan: &mut Prepared,
+) -> Result<(), Memory>
     requires open { IsOpen book.now.broker client }
-    ensures prepared { IfOk result (IsPrepared site.now book.now.broker (refuses client (open_at book.now.broker client) request code)) }
-    ensures room { (room : Room) → IfOk result (HasRoom room) }
+    requires empty { IsEmptyPlan plan.old }
+    ensures prepared { OnOk result (IsPrepared book.now.site book.now.broker (refuses client (open_at book.now.broker client) request code) plan.new) }
+    ensures room { (room : Room) → OnOk result (HasRoom room plan.new) }
 {
     let frame = Frame::Error { request, code };
-    answering(alloc, site, book, client, frame)
+    answer(alloc, book, client, frame, plan)
 }
 
-/// An event that does nothing.
+/// An event that is enabled, and does nothing.
 #[tactic(auto, using(crate::proofs::Shapes::nothing, broker_plans::proofs::Keeping::no_room))]
-pub(crate) fn ignoring(alloc: Global, site: &Site, book: &Book) -> Prepared
-    ensures prepared { IsPrepared site.now book.now.broker (quiet_plan []) result }
-    ensures room { (room : Room) → HasRoom room result }
+pub(crate) fn ignore(book: &Book, plan: &mut Prepared)
+    requires { IsEmptyPlan plan.old }
+    ensures prepared { IsPrepared book.now.site book.now.broker (quiet_plan []) plan.new }
+    ensures room { (room : Room) → HasRoom room plan.new }
 {
-    Prepared::quiet(alloc, 0)
+    plan.begin(0);
 }

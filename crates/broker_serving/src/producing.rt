@@ -1,20 +1,20 @@
 //! A broker and its clients' producers: PRODUCER and CLOSE_PRODUCER.
-ghost use Rattle.std.specs.Prelude.{◌≡◌, ◌<◌, ◌≤◌, ◌++◌, ◌∷◌, [], true, None, Some, length, IfOk};
+ghost use Rattle.std.specs.Prelude.{◌≡◌, ◌<◌, ◌≤◌, ◌++◌, ◌∷◌, [], true, None, Some, length, IfOk, OnOk};
 ghost use Rattle.std.specs.List.{list_any};
 ghost use Rattle.std.specs.Option.{option_copied};
 ghost use Rattle.std.specs.Str.{bytes_eq};
 ghost use Rattle.geo_base.specs.Answers.{succeeds};
 ghost use Rattle.geo_base.specs.Plan.{plan_of};
 ghost use Rattle.geo_base.specs.Producing.{attaches, is_taken, may_attach, name_with, serve_close_producer, serve_producer, uses_name, with_producers, without_producer};
+ghost use Rattle.broker_state.specs.Prepared.{IsEmptyPlan};
 ghost use Rattle.broker_state.specs.Room.{HasRoom, Room};
 ghost use Rattle.broker_plans.specs.Prepared.{IsPrepared};
 ghost use Rattle.broker_serving.specs.Producing.{has_id, refusal};
 ghost use Rattle.broker_serving.specs.Serving.{IsOpen, open_at};
 
 use crate::answering::{
-    PRODUCER_BUSY, UNKNOWN_ERROR, answered, open_producers, open_session, refusing,
+    PRODUCER_BUSY, UNKNOWN_ERROR, also_answer, open_producers, open_session, refuse,
 };
-use broker_plans::Site;
 use broker_state::{Book, BookChange, Prepared};
 use geo_base::limits::PRODUCER_NAME_BYTES;
 use geo_base::{AttachedProducer, Frame, Memory, Sequence, Session, Text};
@@ -32,46 +32,48 @@ pub(crate) struct Attaching {
 /// What PRODUCER will do: the producer attaches, or is refused.
 pub(crate) fn serve_producer(
     alloc: Global,
-    site: &Site,
     book: &Book,
     client: u32,
     asked: &Attaching,
-) -> Result<Prepared, Memory>
+    plan: &mut Prepared,
+) -> Result<(), Memory>
     requires open { IsOpen book.now.broker client }
-    ensures prepared { IfOk result (IsPrepared site.now book.now.broker (serve_producer site.now book.now.broker client (open_at book.now.broker client) asked.now.topic asked.now.id asked.now.request asked.now.name)) }
-    ensures room { (room : Room) → IfOk result (HasRoom room) }
+    requires empty { IsEmptyPlan plan.old }
+    ensures prepared { OnOk result (IsPrepared book.now.site book.now.broker (serve_producer book.now.site book.now.broker client (open_at book.now.broker client) asked.now.topic asked.now.id asked.now.request asked.now.name) plan.new) }
+    ensures room { (room : Room) → OnOk result (HasRoom room plan.new) }
 {
     match &asked.name {
-        None => refusing(alloc, site, book, client, asked.request, UNKNOWN_ERROR),
-        Some(name) => serve_named(alloc, site, book, client, asked, name),
+        None => refuse(alloc, book, client, asked.request, UNKNOWN_ERROR, plan),
+        Some(name) => attach_unless_refused(alloc, book, client, asked, name, plan),
     }
 }
 
 /// What PRODUCER with a name will do.
-fn serve_named(
+fn attach_unless_refused(
     alloc: Global,
-    site: &Site,
     book: &Book,
     client: u32,
     asked: &Attaching,
     name: &Text,
-) -> Result<Prepared, Memory>
+    plan: &mut Prepared,
+) -> Result<(), Memory>
     requires open { IsOpen book.now.broker client }
-    ensures prepared { IfOk result (IsPrepared site.now book.now.broker (serve_producer site.now book.now.broker client (open_at book.now.broker client) asked.now.topic asked.now.id asked.now.request (Some name.now))) }
-    ensures room { (room : Room) → IfOk result (HasRoom room) }
+    requires empty { IsEmptyPlan plan.old }
+    ensures prepared { OnOk result (IsPrepared book.now.site book.now.broker (serve_producer book.now.site book.now.broker client (open_at book.now.broker client) asked.now.topic asked.now.id asked.now.request (Some name.now)) plan.new) }
+    ensures room { (room : Room) → OnOk result (HasRoom room plan.new) }
 {
-    match refusal(site, book, client, &asked.topic, name) {
-        Some(code) => refusing(alloc, site, book, client, asked.request, code),
-        None => attach_producer(alloc, site, book, client, asked, name),
+    match refusal(book, client, &asked.topic, name) {
+        Some(code) => refuse(alloc, book, client, asked.request, code, plan),
+        None => attach_producer(alloc, book, client, asked, name, plan),
     }
 }
 
 /// Why a producer may not attach, as a ServerError, if it may not.
-fn refusal(site: &Site, book: &Book, client: u32, topic: &Text, name: &Text) -> Option<u64>
-    ensures refusal { result ≡ refusal site.now book.now.broker client topic.now name.now }
+fn refusal(book: &Book, client: u32, topic: &Text, name: &Text) -> Option<u64>
+    ensures refusal { result ≡ refusal book.now.site book.now.broker client topic.now name.now }
     ensures allowed { result ≡ None → may_attach name.now ≡ true }
 {
-    if topic.as_bytes() != site.topic().as_str().as_bytes() || !may_attach(name.as_bytes()) {
+    if topic.as_bytes() != book.site().topic().as_str().as_bytes() || !may_attach(name.as_bytes()) {
         return Some(UNKNOWN_ERROR);
     }
     if is_taken(name.as_bytes(), client, book.sessions()) {
@@ -84,87 +86,90 @@ fn refusal(site: &Site, book: &Book, client: u32, topic: &Text, name: &Text) -> 
 #[tactic(auto, using(crate::proofs::Producers::short_name))]
 fn attach_producer(
     alloc: Global,
-    site: &Site,
     book: &Book,
     client: u32,
     asked: &Attaching,
     name: &Text,
-) -> Result<Prepared, Memory>
+    plan: &mut Prepared,
+) -> Result<(), Memory>
     requires open { IsOpen book.now.broker client }
     requires allowed { may_attach name.now ≡ true }
-    ensures prepared { IfOk result (IsPrepared site.now book.now.broker (attaches client (open_at book.now.broker client) asked.now.id asked.now.request name.now)) }
-    ensures room { (room : Room) → IfOk result (HasRoom room) }
+    requires empty { IsEmptyPlan plan.old }
+    ensures prepared { OnOk result (IsPrepared book.now.site book.now.broker (attaches client (open_at book.now.broker client) asked.now.id asked.now.request name.now) plan.new) }
+    ensures room { (room : Room) → OnOk result (HasRoom room plan.new) }
 {
     let kept = without_producer(alloc, asked.id, open_producers(book, client))?;
     let producers = with_producer(alloc, kept, asked.id, name)?;
-    let plan = having(alloc, site, book, client, producers)?;
+    set_producers(book, client, producers, plan)?;
     let success = Frame::ProducerSuccess {
         request: asked.request,
         name: name.copy(alloc)?,
     };
-    let prepared = answered(alloc, site, book, client, plan, success)?;
-    Ok(prepared)
+    also_answer(alloc, book, client, plan, success)?;
+    Ok(())
 }
 
 /// A client's session has these producers.
 #[tactic(auto, using(crate::proofs::Shapes::client_changes, crate::proofs::Shapes::change_room_none))]
-fn having(
-    alloc: Global,
-    site: &Site,
+fn set_producers(
     book: &Book,
     client: u32,
     producers: Sequence<AttachedProducer>,
-) -> Result<Prepared, Memory>
+    plan: &mut Prepared,
+) -> Result<(), Memory>
     requires open { IsOpen book.now.broker client }
-    ensures prepared { IfOk result (IsPrepared site.now book.now.broker (plan_of [] (with_producers client (open_at book.now.broker client) producers ∷ []) [])) }
-    ensures room { (room : Room) → IfOk result (HasRoom room) }
+    requires empty { IsEmptyPlan plan.old }
+    ensures prepared { OnOk result (IsPrepared book.now.site book.now.broker (plan_of [] (with_producers client (open_at book.now.broker client) producers ∷ []) []) plan.new) }
+    ensures room { (room : Room) → OnOk result (HasRoom room plan.new) }
 {
     let number = open_session(book, client).number;
-    let mut plan = Prepared::quiet(alloc, 0);
+    plan.begin(0);
     plan.change(BookChange::Client {
         client,
         session: Some(Session { number, producers }),
     })?;
-    Ok(plan)
+    Ok(())
 }
 
 /// What CLOSE_PRODUCER will do.
 pub(crate) fn serve_close_producer(
     alloc: Global,
-    site: &Site,
     book: &Book,
     client: u32,
     id: u64,
     request: u64,
-) -> Result<Prepared, Memory>
+    plan: &mut Prepared,
+) -> Result<(), Memory>
     requires open { IsOpen book.now.broker client }
-    ensures prepared { IfOk result (IsPrepared site.now book.now.broker (serve_close_producer client (open_at book.now.broker client) id request)) }
-    ensures room { (room : Room) → IfOk result (HasRoom room) }
+    requires empty { IsEmptyPlan plan.old }
+    ensures prepared { OnOk result (IsPrepared book.now.site book.now.broker (serve_close_producer client (open_at book.now.broker client) id request) plan.new) }
+    ensures room { (room : Room) → OnOk result (HasRoom room plan.new) }
 {
     if has_id(id, open_producers(book, client)) {
-        close_producer(alloc, site, book, client, id, request)
+        close_producer(alloc, book, client, id, request, plan)
     } else {
-        refusing(alloc, site, book, client, request, UNKNOWN_ERROR)
+        refuse(alloc, book, client, request, UNKNOWN_ERROR, plan)
     }
 }
 
 /// The producer of an id leaves the session.
 fn close_producer(
     alloc: Global,
-    site: &Site,
     book: &Book,
     client: u32,
     id: u64,
     request: u64,
-) -> Result<Prepared, Memory>
+    plan: &mut Prepared,
+) -> Result<(), Memory>
     requires open { IsOpen book.now.broker client }
-    ensures prepared { IfOk result (IsPrepared site.now book.now.broker (plan_of [] (with_producers client (open_at book.now.broker client) (without_producer id (open_at book.now.broker client).producers) ∷ []) (succeeds client (open_at book.now.broker client) request))) }
-    ensures room { (room : Room) → IfOk result (HasRoom room) }
+    requires empty { IsEmptyPlan plan.old }
+    ensures prepared { OnOk result (IsPrepared book.now.site book.now.broker (plan_of [] (with_producers client (open_at book.now.broker client) (without_producer id (open_at book.now.broker client).producers) ∷ []) (succeeds client (open_at book.now.broker client) request)) plan.new) }
+    ensures room { (room : Room) → OnOk result (HasRoom room plan.new) }
 {
     let kept = without_producer(alloc, id, open_producers(book, client))?;
-    let plan = having(alloc, site, book, client, kept)?;
-    let prepared = answered(alloc, site, book, client, plan, Frame::Success { request })?;
-    Ok(prepared)
+    set_producers(book, client, kept, plan)?;
+    also_answer(alloc, book, client, plan, Frame::Success { request })?;
+    Ok(())
 }
 
 /// The name of the producer of an id.

@@ -1,155 +1,154 @@
 //! A broker and its clients: CONNECT, PING, and the way to every other command; and a client that is dropped.
-ghost use Rattle.std.specs.Prelude.{◌≡◌, ◌<◌, false, None, length, IfOk, IfSome};
+ghost use Rattle.std.specs.Prelude.{◌≡◌, ◌<◌, false, None, length, IfSome, OnOk};
 ghost use Rattle.geo_base.specs.Broker.{session_at};
 ghost use Rattle.geo_base.specs.Plan.{quiet_plan};
 ghost use Rattle.geo_base.specs.Serving.{drop_client, serve, serve_command, serve_frame, session_becomes};
+ghost use Rattle.broker_state.specs.Prepared.{IsEmptyPlan};
 ghost use Rattle.broker_state.specs.Room.{HasRoom, Room};
-ghost use Rattle.broker_plans.specs.Prepared.{IsAt, IsPrepared, MarkerFits, SameState};
-ghost use Rattle.broker_plans.specs.Storable.{IsReadFrame, IsWritable};
+ghost use Rattle.broker_state.specs.Book.{SameState};
+ghost use Rattle.broker_plans.specs.Prepared.{CanWrite, IsPrepared};
+ghost use Rattle.broker_plans.specs.Storable.{IsReadFrame};
 ghost use Rattle.broker_serving.specs.Serving.{IsOpen, connects, is_consumers, is_in, is_producers, open_at, serves_in};
 
 use crate::acknowledging::{Acked, serve_ack};
-use crate::answering::{answering, ignoring};
+use crate::answering::{answer, ignore};
 use crate::consuming::{serve_close_consumer, serve_flow, serve_unsubscribe};
 use crate::producing::{Attaching, serve_close_producer, serve_producer};
 use crate::publishing::{Publish, serve_send};
 use crate::subscribing::{Joining, serve_subscribe};
-use broker_plans::{Site, also_send};
+use broker_plans::also_send;
 use broker_state::{Book, BookChange, Prepared};
 use geo_base::{Frame, Memory, Packet, Peer, Sequence, Session};
 use std::alloc::Global;
 
-/// What the next packet of a client will do. Only room is made; an `Err` is want of memory.
+/// Fills an empty plan with what the next packet of a client will do; without a packet the event is not enabled, and the plan stays
+/// empty. The broker's state is as it was, with other room. An `Err` is want of memory: the plan is then for its caller to clear.
 #[tactic(auto, unfolding(geo_base::specs::Serving::serve), using(crate::proofs::Shapes::idle, crate::proofs::Shapes::idle_room))]
 pub fn prepare_serve(
     alloc: Global,
-    site: &Site,
     book: &mut Book,
     client: u32,
     packet: Option<Packet>,
-) -> Result<Prepared, Memory>
-    requires at { IsAt site.now book.old }
+    plan: &mut Prepared,
+) -> Result<(), Memory>
     requires client { client < length book.old.broker.sessions }
-    requires number { MarkerFits site.now book.old.broker }
-    requires stored { IsWritable site.now book.old.broker }
+    requires can { CanWrite book.old.site book.old.broker }
     requires read { IfSome packet (λ p. IsReadFrame p.frame) }
-    ensures prepared { IfOk result (IsPrepared site.now book.old.broker (serve site.now book.old.broker client packet)) }
-    ensures room { IfOk result (HasRoom book.new.room) }
+    requires empty { IsEmptyPlan plan.old }
+    ensures prepared { OnOk result (IsPrepared book.old.site book.old.broker (serve book.old.site book.old.broker client packet) plan.new) }
+    ensures room { OnOk result (HasRoom book.new.room plan.new) }
     ensures kept { SameState book.old book.new }
 {
     match packet {
-        None => Ok(Prepared::idle(alloc)),
-        Some(packet) => serve_packet(alloc, site, book, client, packet),
+        None => Ok(()),
+        Some(packet) => serve_packet(alloc, book, client, packet, plan),
     }
 }
 
-/// What the end of a client's connection will do; it is not enabled where the client has no session open.
+/// Fills an empty plan with what the end of a client's connection will do; where the client has no session open the event is not
+/// enabled, and the plan stays empty. An `Err` is want of memory: the plan is then for its caller to clear.
 #[tactic(auto, unfolding(geo_base::specs::Serving::drop_client), using(crate::proofs::Shapes::idle, crate::proofs::Shapes::idle_room))]
-pub fn prepare_drop(
-    alloc: Global,
-    site: &Site,
-    book: &Book,
-    client: u32,
-) -> Result<Prepared, Memory>
-    requires { client < length book.now.broker.sessions }
-    ensures prepared { IfOk result (IsPrepared site.now book.now.broker (drop_client book.now.broker client)) }
-    ensures room { (room : Room) → IfOk result (HasRoom room) }
+pub fn prepare_drop(book: &Book, client: u32, plan: &mut Prepared) -> Result<(), Memory>
+    requires client { client < length book.now.broker.sessions }
+    requires empty { IsEmptyPlan plan.old }
+    ensures prepared { OnOk result (IsPrepared book.now.site book.now.broker (drop_client book.now.broker client) plan.new) }
+    ensures room { (room : Room) → OnOk result (HasRoom room plan.new) }
 {
     match book.session(client) {
-        None => Ok(Prepared::idle(alloc)),
-        Some(_) => becoming(alloc, site, book, client, None),
+        None => Ok(()),
+        Some(_) => change_session(book, client, None, plan),
     }
 }
 
 /// A session ends, or another one begins, and what the client had is detached.
 #[tactic(auto, using(crate::proofs::Shapes::session_changes, crate::proofs::Shapes::session_room))]
-fn becoming(
-    alloc: Global,
-    site: &Site,
+fn change_session(
     book: &Book,
     client: u32,
     session: Option<Session>,
-) -> Result<Prepared, Memory>
-    requires { client < length book.now.broker.sessions }
-    ensures prepared { IfOk result (IsPrepared site.now book.now.broker (quiet_plan (session_becomes client session))) }
-    ensures room { (room : Room) → IfOk result (HasRoom room) }
+    plan: &mut Prepared,
+) -> Result<(), Memory>
+    requires client { client < length book.now.broker.sessions }
+    requires empty { IsEmptyPlan plan.old }
+    ensures prepared { OnOk result (IsPrepared book.now.site book.now.broker (quiet_plan (session_becomes client session)) plan.new) }
+    ensures room { (room : Room) → OnOk result (HasRoom room plan.new) }
 {
-    let mut plan = Prepared::quiet(alloc, 0);
+    plan.begin(0);
     plan.change(BookChange::Detach { client })?;
     plan.change(BookChange::Client { client, session })?;
-    Ok(plan)
+    Ok(())
 }
 
 /// CONNECT opens the packet's session, a frame that can't be read closes the open one, and what comes in another session is
 /// discarded.
 fn serve_packet(
     alloc: Global,
-    site: &Site,
     book: &mut Book,
     client: u32,
     packet: Packet,
-) -> Result<Prepared, Memory>
-    requires at { IsAt site.now book.old }
+    plan: &mut Prepared,
+) -> Result<(), Memory>
     requires client { client < length book.old.broker.sessions }
-    requires number { MarkerFits site.now book.old.broker }
-    requires stored { IsWritable site.now book.old.broker }
+    requires can { CanWrite book.old.site book.old.broker }
     requires read { IsReadFrame packet.frame }
-    ensures prepared { IfOk result (IsPrepared site.now book.old.broker (serve_frame site.now book.old.broker client packet packet.frame)) }
-    ensures room { IfOk result (HasRoom book.new.room) }
+    requires empty { IsEmptyPlan plan.old }
+    ensures prepared { OnOk result (IsPrepared book.old.site book.old.broker (serve_frame book.old.site book.old.broker client packet packet.frame) plan.new) }
+    ensures room { OnOk result (HasRoom book.new.room plan.new) }
     ensures kept { SameState book.old book.new }
 {
     match packet.frame {
-        Frame::Connect => connecting(alloc, site, book, client, packet.session),
-        Frame::Unreadable => becoming(alloc, site, book, client, None),
-        frame => serve_in(alloc, site, book, client, packet.session, frame),
+        Frame::Connect => connect(alloc, book, client, packet.session, plan),
+        Frame::Unreadable => change_session(book, client, None, plan),
+        frame => serve_in(alloc, book, client, packet.session, frame, plan),
     }
 }
 
 /// CONNECT opens a session.
-fn connecting(
+fn connect(
     alloc: Global,
-    site: &Site,
     book: &Book,
     client: u32,
     number: u64,
-) -> Result<Prepared, Memory>
-    requires { client < length book.now.broker.sessions }
-    ensures prepared { IfOk result (IsPrepared site.now book.now.broker (connects client number)) }
-    ensures room { (room : Room) → IfOk result (HasRoom room) }
+    plan: &mut Prepared,
+) -> Result<(), Memory>
+    requires client { client < length book.now.broker.sessions }
+    requires empty { IsEmptyPlan plan.old }
+    ensures prepared { OnOk result (IsPrepared book.now.site book.now.broker (connects client number) plan.new) }
+    ensures room { (room : Room) → OnOk result (HasRoom room plan.new) }
 {
     let session = Session {
         number,
         producers: Sequence::new(alloc),
     };
-    let plan = becoming(alloc, site, book, client, Some(session))?;
+    change_session(book, client, Some(session), plan)?;
     let to = Peer::Client(client);
-    let prepared = also_send(alloc, site, plan, to, number, &Frame::Connected)?;
-    Ok(prepared)
+    also_send(alloc, book, plan, to, number, &Frame::Connected)?;
+    Ok(())
 }
 
 /// A command in a session.
 fn serve_in(
     alloc: Global,
-    site: &Site,
     book: &mut Book,
     client: u32,
     session: u64,
     frame: Frame,
-) -> Result<Prepared, Memory>
-    requires at { IsAt site.now book.old }
+    plan: &mut Prepared,
+) -> Result<(), Memory>
     requires client { client < length book.old.broker.sessions }
-    requires number { MarkerFits site.now book.old.broker }
-    requires stored { IsWritable site.now book.old.broker }
+    requires can { CanWrite book.old.site book.old.broker }
     requires read { IsReadFrame frame }
-    ensures prepared { IfOk result (IsPrepared site.now book.old.broker (serves_in site.now book.old.broker client session frame)) }
-    ensures room { IfOk result (HasRoom book.new.room) }
+    requires empty { IsEmptyPlan plan.old }
+    ensures prepared { OnOk result (IsPrepared book.old.site book.old.broker (serves_in book.old.site book.old.broker client session frame) plan.new) }
+    ensures room { OnOk result (HasRoom book.new.room plan.new) }
     ensures kept { SameState book.old book.new }
 {
     if is_open(book, client, session) {
-        serve_command(alloc, site, book, client, frame)
+        serve_command(alloc, book, client, frame, plan)
     } else {
         drop(frame);
-        Ok(ignoring(alloc, site, book))
+        ignore(book, plan);
+        Ok(())
     }
 }
 
@@ -167,18 +166,17 @@ fn is_open(book: &Book, client: u32, session: u64) -> bool
 /// A command of the open session: one of a producer, or another one.
 fn serve_command(
     alloc: Global,
-    site: &Site,
     book: &mut Book,
     client: u32,
     frame: Frame,
-) -> Result<Prepared, Memory>
-    requires at { IsAt site.now book.old }
+    plan: &mut Prepared,
+) -> Result<(), Memory>
     requires open { IsOpen book.old.broker client }
-    requires number { MarkerFits site.now book.old.broker }
-    requires stored { IsWritable site.now book.old.broker }
+    requires can { CanWrite book.old.site book.old.broker }
     requires read { IsReadFrame frame }
-    ensures prepared { IfOk result (IsPrepared site.now book.old.broker (serve_command site.now book.old.broker client (open_at book.old.broker client) frame)) }
-    ensures room { IfOk result (HasRoom book.new.room) }
+    requires empty { IsEmptyPlan plan.old }
+    ensures prepared { OnOk result (IsPrepared book.old.site book.old.broker (serve_command book.old.site book.old.broker client (open_at book.old.broker client) frame) plan.new) }
+    ensures room { OnOk result (HasRoom book.new.room plan.new) }
     ensures kept { SameState book.old book.new }
 {
     match frame {
@@ -194,7 +192,7 @@ fn serve_command(
                 request,
                 name,
             };
-            serve_producer(alloc, site, book, client, &asked)
+            serve_producer(alloc, book, client, &asked, plan)
         }
         Frame::Send {
             id,
@@ -208,30 +206,29 @@ fn serve_command(
                 source,
                 entry,
             };
-            serve_send(alloc, site, book, client, publish)
+            serve_send(alloc, book, client, publish, plan)
         }
         Frame::CloseProducer { id, request } => {
-            serve_close_producer(alloc, site, book, client, id, request)
+            serve_close_producer(alloc, book, client, id, request, plan)
         }
-        frame => serve_consumer(alloc, site, book, client, frame),
+        frame => serve_consumer(alloc, book, client, frame, plan),
     }
 }
 
 /// A command by which a consumer comes or goes, or another one.
 fn serve_consumer(
     alloc: Global,
-    site: &Site,
     book: &mut Book,
     client: u32,
     frame: Frame,
-) -> Result<Prepared, Memory>
-    requires at { IsAt site.now book.old }
+    plan: &mut Prepared,
+) -> Result<(), Memory>
     requires open { IsOpen book.old.broker client }
-    requires number { MarkerFits site.now book.old.broker }
-    requires stored { IsWritable site.now book.old.broker }
+    requires can { CanWrite book.old.site book.old.broker }
     requires other { is_producers frame ≡ false }
-    ensures prepared { IfOk result (IsPrepared site.now book.old.broker (serve_command site.now book.old.broker client (open_at book.old.broker client) frame)) }
-    ensures room { IfOk result (HasRoom book.new.room) }
+    requires empty { IsEmptyPlan plan.old }
+    ensures prepared { OnOk result (IsPrepared book.old.site book.old.broker (serve_command book.old.site book.old.broker client (open_at book.old.broker client) frame) plan.new) }
+    ensures room { OnOk result (HasRoom book.new.room plan.new) }
     ensures kept { SameState book.old book.new }
 {
     match frame {
@@ -254,38 +251,37 @@ fn serve_consumer(
                 earliest,
                 replicated,
             };
-            serve_subscribe(alloc, site, book, client, &asked)
+            serve_subscribe(alloc, book, client, &asked, plan)
         }
         Frame::Unsubscribe { id, request } => {
-            serve_unsubscribe(alloc, site, book, client, id, request)
+            serve_unsubscribe(alloc, book, client, id, request, plan)
         }
         Frame::CloseConsumer { id, request } => {
-            serve_close_consumer(alloc, site, book, client, id, request)
+            serve_close_consumer(alloc, book, client, id, request, plan)
         }
-        frame => serve_other(alloc, site, book, client, frame),
+        frame => serve_other(alloc, book, client, frame, plan),
     }
 }
 
 /// FLOW, ACK and PING. A command that a client's link does not carry closes the session, without an answer.
 fn serve_other(
     alloc: Global,
-    site: &Site,
     book: &mut Book,
     client: u32,
     frame: Frame,
-) -> Result<Prepared, Memory>
-    requires at { IsAt site.now book.old }
+    plan: &mut Prepared,
+) -> Result<(), Memory>
     requires open { IsOpen book.old.broker client }
-    requires number { MarkerFits site.now book.old.broker }
-    requires stored { IsWritable site.now book.old.broker }
+    requires can { CanWrite book.old.site book.old.broker }
     requires producers { is_producers frame ≡ false }
     requires consumers { is_consumers frame ≡ false }
-    ensures prepared { IfOk result (IsPrepared site.now book.old.broker (serve_command site.now book.old.broker client (open_at book.old.broker client) frame)) }
-    ensures room { IfOk result (HasRoom book.new.room) }
+    requires empty { IsEmptyPlan plan.old }
+    ensures prepared { OnOk result (IsPrepared book.old.site book.old.broker (serve_command book.old.site book.old.broker client (open_at book.old.broker client) frame) plan.new) }
+    ensures room { OnOk result (HasRoom book.new.room plan.new) }
     ensures kept { SameState book.old book.new }
 {
     match frame {
-        Frame::Flow { id, permits } => serve_flow(alloc, site, book, client, id, permits),
+        Frame::Flow { id, permits } => serve_flow(book, client, id, permits, plan),
         Frame::Ack {
             id,
             kind,
@@ -296,26 +292,24 @@ fn serve_other(
                 kind,
                 positions,
             };
-            serve_ack(alloc, site, book, client, &acked)
+            serve_ack(alloc, book, client, &acked, plan)
         }
-        Frame::Ping => answering(alloc, site, book, client, Frame::Pong),
-        Frame::Pong => Ok(ignoring(alloc, site, book)),
-        frame => closing(alloc, site, book, client, frame),
+        Frame::Ping => answer(alloc, book, client, Frame::Pong, plan),
+        Frame::Pong => {
+            ignore(book, plan);
+            Ok(())
+        }
+        frame => close_session(book, client, frame, plan),
     }
 }
 
 /// A frame that nothing is done with closes the session.
-fn closing(
-    alloc: Global,
-    site: &Site,
-    book: &Book,
-    client: u32,
-    frame: Frame,
-) -> Result<Prepared, Memory>
-    requires { client < length book.now.broker.sessions }
-    ensures prepared { IfOk result (IsPrepared site.now book.now.broker (quiet_plan (session_becomes client None))) }
-    ensures room { (room : Room) → IfOk result (HasRoom room) }
+fn close_session(book: &Book, client: u32, frame: Frame, plan: &mut Prepared) -> Result<(), Memory>
+    requires client { client < length book.now.broker.sessions }
+    requires empty { IsEmptyPlan plan.old }
+    ensures prepared { OnOk result (IsPrepared book.now.site book.now.broker (quiet_plan (session_becomes client None)) plan.new) }
+    ensures room { (room : Room) → OnOk result (HasRoom room plan.new) }
 {
     drop(frame);
-    becoming(alloc, site, book, client, None)
+    change_session(book, client, None, plan)
 }

@@ -1,19 +1,20 @@
 //! A broker and its clients' consumers: SUBSCRIBE.
-ghost use Rattle.std.specs.Prelude.{◌≡◌, ◌<◌, ◌∷◌, [], ◌&&◌, true, false, None, Some, not, length, IfOk};
+ghost use Rattle.std.specs.Prelude.{◌≡◌, ◌<◌, ◌∷◌, [], ◌&&◌, true, false, None, Some, not, length, IfOk, OnOk};
 ghost use Rattle.std.specs.Str.{bytes_eq};
 ghost use Rattle.geo_base.specs.declared.write.Write.TheVariants as write;
 ghost use Rattle.geo_base.specs.Broker.{sub_named};
 ghost use Rattle.geo_base.specs.Name.{is_name};
 ghost use Rattle.geo_base.specs.Subscribing.{altering, has_room, is_busy, joins, same_kind, serve_subscribe, subscribes};
 ghost use Rattle.broker_subs.specs.Table.{room_at, sub_at};
-ghost use Rattle.broker_state.specs.Prepared.{quiet_book};
+ghost use Rattle.broker_state.specs.Prepared.{IsEmptyPlan, quiet_book};
 ghost use Rattle.broker_state.specs.Room.{HasRoom};
-ghost use Rattle.broker_plans.specs.Prepared.{IsPrepared, SameState};
+ghost use Rattle.broker_state.specs.Book.{SameState};
+ghost use Rattle.broker_plans.specs.Prepared.{IsPrepared};
 ghost use Rattle.broker_serving.specs.Serving.{IsOpen, open_at};
 ghost use Rattle.broker_serving.specs.Subscribing.{alter_writes, altered, attach, denial, joining};
 
-use crate::answering::{CONSUMER_BUSY, UNKNOWN_ERROR, answered, refusing};
-use broker_plans::{Site, place_named, sub_at};
+use crate::answering::{CONSUMER_BUSY, UNKNOWN_ERROR, also_answer, refuse};
+use broker_plans::{place_named, sub_at};
 use broker_state::{Book, BookChange, BookWrite, Prepared};
 use broker_subs::{Sub, SubChange, SubWrite};
 use geo_base::limits::SUBSCRIPTIONS;
@@ -35,29 +36,30 @@ pub(crate) struct Joining {
 /// What SUBSCRIBE will do.
 pub(crate) fn serve_subscribe(
     alloc: Global,
-    site: &Site,
     book: &mut Book,
     client: u32,
     asked: &Joining,
-) -> Result<Prepared, Memory>
+    plan: &mut Prepared,
+) -> Result<(), Memory>
     requires open { IsOpen book.old.broker client }
-    ensures prepared { IfOk result (IsPrepared site.now book.old.broker (serve_subscribe site.now book.old.broker client (open_at book.old.broker client) asked.now.topic asked.now.sub asked.now.kind asked.now.id asked.now.request asked.now.earliest asked.now.replicated)) }
-    ensures room { IfOk result (HasRoom book.new.room) }
+    requires empty { IsEmptyPlan plan.old }
+    ensures prepared { OnOk result (IsPrepared book.old.site book.old.broker (serve_subscribe book.old.site book.old.broker client (open_at book.old.broker client) asked.now.topic asked.now.sub asked.now.kind asked.now.id asked.now.request asked.now.earliest asked.now.replicated) plan.new) }
+    ensures room { OnOk result (HasRoom book.new.room plan.new) }
     ensures kept { SameState book.old book.new }
 {
-    match denial(site, book, client, asked) {
-        Some(code) => refusing(alloc, site, book, client, asked.request, code),
-        None => subscribe(alloc, site, book, client, asked),
+    match denial(book, client, asked) {
+        Some(code) => refuse(alloc, book, client, asked.request, code, plan),
+        None => subscribe(alloc, book, client, asked, plan),
     }
 }
 
 /// Why a client may not subscribe, as a ServerError, if it may not: unknown for another topic, for a name that is none, and for a
 /// subscription beyond the most that a topic has; busy for a client that has a consumer.
-fn denial(site: &Site, book: &Book, client: u32, asked: &Joining) -> Option<u64>
-    ensures denial { result ≡ denial site.now book.now.broker client asked.now.topic asked.now.sub }
+fn denial(book: &Book, client: u32, asked: &Joining) -> Option<u64>
+    ensures denial { result ≡ denial book.now.site book.now.broker client asked.now.topic asked.now.sub }
     ensures named { result ≡ None → is_name asked.now.sub ≡ true }
 {
-    if !admits(site, book, asked) {
+    if !admits(book, asked) {
         return Some(UNKNOWN_ERROR);
     }
     if book.subs().is_attached(client) {
@@ -67,11 +69,11 @@ fn denial(site: &Site, book: &Book, client: u32, asked: &Joining) -> Option<u64>
 }
 
 /// Whether a subscription of this name and topic is here or may be made.
-fn admits(site: &Site, book: &Book, asked: &Joining) -> bool
-    ensures admits { result ≡ (bytes_eq asked.now.topic site.now.topic && is_name asked.now.sub && has_room book.now.broker asked.now.sub) }
+fn admits(book: &Book, asked: &Joining) -> bool
+    ensures admits { result ≡ (bytes_eq asked.now.topic book.now.site.topic && is_name asked.now.sub && has_room book.now.broker asked.now.sub) }
     ensures named { result ≡ true → is_name asked.now.sub ≡ true }
 {
-    asked.topic.as_bytes() == site.topic().as_str().as_bytes()
+    asked.topic.as_bytes() == book.site().topic().as_str().as_bytes()
         && is_name(asked.sub.as_bytes())
         && has_room(book, &asked.sub)
 }
@@ -93,43 +95,45 @@ fn has_room(book: &Book, sub: &Text) -> bool
 /// A consumer joins a subscription, which is created where there is none.
 fn subscribe(
     alloc: Global,
-    site: &Site,
     book: &mut Book,
     client: u32,
     asked: &Joining,
-) -> Result<Prepared, Memory>
+    plan: &mut Prepared,
+) -> Result<(), Memory>
     requires open { IsOpen book.old.broker client }
     requires named { is_name asked.now.sub ≡ true }
-    ensures prepared { IfOk result (IsPrepared site.now book.old.broker (subscribes client (open_at book.old.broker client) asked.now.sub asked.now.kind asked.now.id asked.now.request asked.now.earliest asked.now.replicated (sub_named book.old.broker.subs asked.now.sub))) }
-    ensures room { IfOk result (HasRoom book.new.room) }
+    requires empty { IsEmptyPlan plan.old }
+    ensures prepared { OnOk result (IsPrepared book.old.site book.old.broker (subscribes client (open_at book.old.broker client) asked.now.sub asked.now.kind asked.now.id asked.now.request asked.now.earliest asked.now.replicated (sub_named book.old.broker.subs asked.now.sub)) plan.new) }
+    ensures room { OnOk result (HasRoom book.new.room plan.new) }
     ensures kept { SameState book.old book.new }
 {
     match place_named(book, asked.sub.as_bytes()) {
-        None => creating(alloc, site, book, client, asked),
-        Some(place) => join_unless_busy(alloc, site, book, client, place, asked),
+        None => create_and_join(alloc, book, client, asked, plan),
+        Some(place) => join_unless_busy(alloc, book, client, place, asked, plan),
     }
 }
 
 /// A consumer joins the subscription of its name, which is at a place, unless it is busy.
 fn join_unless_busy(
     alloc: Global,
-    site: &Site,
     book: &mut Book,
     client: u32,
     place: usize,
     asked: &Joining,
-) -> Result<Prepared, Memory>
+    plan: &mut Prepared,
+) -> Result<(), Memory>
     requires open { IsOpen book.old.broker client }
     requires place { place < length book.old.broker.subs }
     requires there { sub_named book.old.broker.subs asked.now.sub ≡ Some (sub_at book.old.broker.subs place) }
-    ensures prepared { IfOk result (IsPrepared site.now book.old.broker (subscribes client (open_at book.old.broker client) asked.now.sub asked.now.kind asked.now.id asked.now.request asked.now.earliest asked.now.replicated (Some (sub_at book.old.broker.subs place)))) }
-    ensures room { IfOk result (HasRoom book.new.room) }
+    requires empty { IsEmptyPlan plan.old }
+    ensures prepared { OnOk result (IsPrepared book.old.site book.old.broker (subscribes client (open_at book.old.broker client) asked.now.sub asked.now.kind asked.now.id asked.now.request asked.now.earliest asked.now.replicated (Some (sub_at book.old.broker.subs place))) plan.new) }
+    ensures room { OnOk result (HasRoom book.new.room plan.new) }
     ensures kept { SameState book.old book.new }
 {
     if is_busy(book, place, asked.kind) {
-        refusing(alloc, site, book, client, asked.request, CONSUMER_BUSY)
+        refuse(alloc, book, client, asked.request, CONSUMER_BUSY, plan)
     } else {
-        join(alloc, site, book, client, place, asked)
+        join(alloc, book, client, place, asked, plan)
     }
 }
 
@@ -142,98 +146,101 @@ fn is_busy(book: &Book, place: usize, kind: SubKind) -> bool
 }
 
 /// A consumer joins a subscription that is created first.
-fn creating(
+fn create_and_join(
     alloc: Global,
-    site: &Site,
     book: &mut Book,
     client: u32,
     asked: &Joining,
-) -> Result<Prepared, Memory>
+    plan: &mut Prepared,
+) -> Result<(), Memory>
     requires open { IsOpen book.old.broker client }
     requires named { is_name asked.now.sub ≡ true }
     requires missing { sub_named book.old.broker.subs asked.now.sub ≡ None }
-    ensures prepared { IfOk result (IsPrepared site.now book.old.broker (joins client (open_at book.old.broker client) asked.now.sub asked.now.id asked.now.request (write.Create asked.now.sub asked.now.kind asked.now.replicated (not asked.now.earliest) ∷ []))) }
-    ensures room { IfOk result (HasRoom book.new.room) }
+    requires empty { IsEmptyPlan plan.old }
+    ensures prepared { OnOk result (IsPrepared book.old.site book.old.broker (joins client (open_at book.old.broker client) asked.now.sub asked.now.id asked.now.request (write.Create asked.now.sub asked.now.kind asked.now.replicated (not asked.now.earliest) ∷ [])) plan.new) }
+    ensures room { OnOk result (HasRoom book.new.room plan.new) }
     ensures kept { SameState book.old book.new }
 {
     book.reserve_places(1)?;
-    let plan = create_plan(alloc, site, book, client, asked)?;
+    prepare_create(alloc, book, client, asked, plan)?;
     let success = Frame::Success {
         request: asked.request,
     };
-    let prepared = answered(alloc, site, book, client, plan, success)?;
-    Ok(prepared)
+    also_answer(alloc, book, client, plan, success)?;
+    Ok(())
 }
 
 /// The subscription is created, and the consumer joins it.
-fn create_plan(
+fn prepare_create(
     alloc: Global,
-    site: &Site,
     book: &Book,
     client: u32,
     asked: &Joining,
-) -> Result<Prepared, Memory>
+    plan: &mut Prepared,
+) -> Result<(), Memory>
     requires named { is_name asked.now.sub ≡ true }
     requires missing { sub_named book.now.broker.subs asked.now.sub ≡ None }
     requires places { book.now.room.places ≡ 1 }
-    ensures prepared { IfOk result (IsPrepared site.now book.now.broker (joining client asked.now.sub asked.now.id (write.Create asked.now.sub asked.now.kind asked.now.replicated (not asked.now.earliest) ∷ []))) }
-    ensures room { IfOk result (HasRoom book.now.room) }
+    requires empty { IsEmptyPlan plan.old }
+    ensures prepared { OnOk result (IsPrepared book.now.site book.now.broker (joining client asked.now.sub asked.now.id (write.Create asked.now.sub asked.now.kind asked.now.replicated (not asked.now.earliest) ∷ [])) plan.new) }
+    ensures room { OnOk result (HasRoom book.now.room plan.new) }
 {
     let name = sub_name(alloc, &asked.sub)?;
     let sub = Sub::new(alloc, name, asked.kind, asked.replicated, 1, 1)?;
-    let mut plan = Prepared::quiet(alloc, book.subs().len());
+    plan.begin(book.subs().len());
     plan.write(BookWrite::Create {
         sub,
         latest: !asked.earliest,
     })?;
     plan.change(attach(client, asked.id))?;
-    Ok(plan)
+    Ok(())
 }
 
 /// A consumer joins the subscription at a place.
 fn join(
     alloc: Global,
-    site: &Site,
     book: &mut Book,
     client: u32,
     place: usize,
     asked: &Joining,
-) -> Result<Prepared, Memory>
+    plan: &mut Prepared,
+) -> Result<(), Memory>
     requires open { IsOpen book.old.broker client }
     requires place { place < length book.old.broker.subs }
     requires free { is_busy asked.now.kind (sub_at book.old.broker.subs place) ≡ false }
-    ensures prepared { IfOk result (IsPrepared site.now book.old.broker (joins client (open_at book.old.broker client) (sub_at book.old.broker.subs place).name asked.now.id asked.now.request (altering (sub_at book.old.broker.subs place) asked.now.kind asked.now.replicated))) }
-    ensures room { IfOk result (HasRoom book.new.room) }
+    requires empty { IsEmptyPlan plan.old }
+    ensures prepared { OnOk result (IsPrepared book.old.site book.old.broker (joins client (open_at book.old.broker client) (sub_at book.old.broker.subs place).name asked.now.id asked.now.request (altering (sub_at book.old.broker.subs place) asked.now.kind asked.now.replicated)) plan.new) }
+    ensures room { OnOk result (HasRoom book.new.room plan.new) }
     ensures kept { SameState book.old book.new }
 {
     book.reserve_sub(place, 1, 0)?;
-    let plan = join_plan(alloc, site, book, client, place, asked)?;
+    prepare_join(book, client, place, asked, plan)?;
     let success = Frame::Success {
         request: asked.request,
     };
-    let prepared = answered(alloc, site, book, client, plan, success)?;
-    Ok(prepared)
+    also_answer(alloc, book, client, plan, success)?;
+    Ok(())
 }
 
 /// The subscription at a place takes the kind that came, where it has another one, and the consumer joins it.
-fn join_plan(
-    alloc: Global,
-    site: &Site,
+fn prepare_join(
     book: &Book,
     client: u32,
     place: usize,
     asked: &Joining,
-) -> Result<Prepared, Memory>
+    plan: &mut Prepared,
+) -> Result<(), Memory>
     requires place { place < length book.now.broker.subs }
     requires free { is_busy asked.now.kind (sub_at book.now.broker.subs place) ≡ false }
     requires given { (room_at book.now.room.subs place).room ≡ 1 }
-    ensures prepared { IfOk result (IsPrepared site.now book.now.broker (joining client (sub_at book.now.broker.subs place).name asked.now.id (altering (sub_at book.now.broker.subs place) asked.now.kind asked.now.replicated))) }
-    ensures room { IfOk result (HasRoom book.now.room) }
+    requires empty { IsEmptyPlan plan.old }
+    ensures prepared { OnOk result (IsPrepared book.now.site book.now.broker (joining client (sub_at book.now.broker.subs place).name asked.now.id (altering (sub_at book.now.broker.subs place) asked.now.kind asked.now.replicated)) plan.new) }
+    ensures room { OnOk result (HasRoom book.now.room plan.new) }
 {
-    let altered = altering(sub_at(book, place), asked.kind, asked.replicated);
-    let mut plan = altering_plan(alloc, place, altered)?;
+    let altered = alter_write(sub_at(book, place), asked.kind, asked.replicated);
+    prepare_alter(place, altered, plan)?;
     plan.change(attach(client, asked.id))?;
-    Ok(plan)
+    Ok(())
 }
 
 /// The consumer comes last in order, without permits.
@@ -248,18 +255,19 @@ fn attach(client: u32, id: u64) -> BookChange
 }
 
 /// The event that alters the subscription at a place, where it is altered.
-fn altering_plan(alloc: Global, place: usize, altered: Option<SubWrite>) -> Result<Prepared, Memory>
-    ensures { IfOk result (λ p. p ≡ record (quiet_book place) { writes = alter_writes altered }) }
+fn prepare_alter(place: usize, altered: Option<SubWrite>, plan: &mut Prepared) -> Result<(), Memory>
+    requires empty { IsEmptyPlan plan.old }
+    ensures { OnOk result (plan.new ≡ record (quiet_book place) { writes = alter_writes altered }) }
 {
-    let mut plan = Prepared::quiet(alloc, place);
+    plan.begin(place);
     if let Some(write) = altered {
         plan.write(BookWrite::Sub(write))?;
     }
-    Ok(plan)
+    Ok(())
 }
 
 /// The write that gives a subscription the kind that came, and the mark that it is replicated, where that changes it.
-fn altering(sub: &Sub, kind: SubKind, replicated: bool) -> Option<SubWrite>
+fn alter_write(sub: &Sub, kind: SubKind, replicated: bool) -> Option<SubWrite>
     ensures { result ≡ altered sub.now.sub kind replicated }
 {
     let now = sub.is_replicated();

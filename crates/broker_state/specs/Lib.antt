@@ -1,3 +1,4 @@
+pub mod Site
 pub mod Senders
 pub mod Writes
 pub mod Prepared

@@ -1,12 +1,12 @@
 -- A prepared event, and the plan that it is in the state that it was prepared for.
-use Rattle.std.specs.Prelude.{ℕ, Bool, true, false, List, [], ◌∷◌, ◌++◌, map, take, Option, Some, None, slice_get}
+use Rattle.std.specs.Prelude.{◌≡◌, ℕ, Bool, true, false, List, [], ◌∷◌, ◌++◌, map, take, Option, Some, None, slice_get}
 use Rattle.geo_base.specs.declared.entry.Entry.{Entry}
+use Rattle.geo_base.specs.declared.packet.WireOut.{WireOut}
 use Rattle.geo_base.specs.Broker.{Broker}
 use Rattle.geo_base.specs.Plan.{Plan}
 use Rattle.geo_base.specs.Subscription.{Subscription}
 use Rattle.broker_state.specs.declared.change.BookChange.{BookChange}
 use Rattle.broker_state.specs.declared.change.BookChange.TheVariants as book_change
-use Rattle.broker_state.specs.declared.prepared.Outgoing.{Outgoing}
 use Rattle.broker_state.specs.declared.write.BookWrite.{BookWrite}
 use Rattle.broker_state.specs.declared.write.BookWrite.TheVariants as book_write
 use Rattle.broker_state.specs.Writes.{machine_change, machine_write}
@@ -18,11 +18,15 @@ pub record PreparedBook : Type 0 where
   pub sub : ℕ
   pub writes : List BookWrite
   pub changes : List BookChange
-  pub sent : List Outgoing
+  pub sent : List WireOut
 
 -- an event that is not enabled, and one about a subscription that does nothing yet
 abbrev pub idle_book : PreparedBook
 idle_book = record { idle = true; sub = 0; writes = []; changes = []; sent = [] }
+
+-- no event is prepared yet: as one that is not enabled
+abbrev pub IsEmptyPlan : PreparedBook → Type 0
+IsEmptyPlan p = p ≡ idle_book
 
 abbrev pub quiet_book : ℕ → PreparedBook
 quiet_book k = record { idle = false; sub = k; writes = []; changes = []; sent = [] }
@@ -59,7 +63,3 @@ plan_in b p = named_plan (name_in b.subs p) b.entries p
 -- a stop behind the first k durable writes, as an event: a ledger opens, and what is in memory is lost
 abbrev pub halted_book : ℕ → PreparedBook → PreparedBook
 halted_book k p = record { idle = false; sub = p.sub; writes = take k p.writes ++ book_write.Ledger ∷ []; changes = book_change.Forget ∷ []; sent = [] }
-
--- an event and then another one, as one
-abbrev pub again_book : PreparedBook → PreparedBook → PreparedBook
-again_book p q = record { idle = p.idle; sub = p.sub; writes = p.writes ++ q.writes; changes = p.changes ++ q.changes; sent = p.sent ++ q.sent }

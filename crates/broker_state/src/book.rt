@@ -6,9 +6,11 @@ ghost use Rattle.geo_base.specs.Topic.{accepts, index_of};
 ghost use Rattle.broker_subs.specs.SubBook.{subs_of};
 ghost use Rattle.broker_subs.specs.Table.{rooms_of};
 ghost use Rattle.broker_state.specs.Book.{BrokerBook, marker_number, no_room};
+ghost use Rattle.broker_state.specs.Site.{IsSite};
 
 use crate::sender_row::SenderRow;
 use crate::senders::SenderTable;
+use crate::site::Site;
 use broker_subs::SubTable;
 use dedup_table::{DedupTable, Stream, Verdict};
 use geo_base::{EntryStore, Memory, Position, Session};
@@ -18,11 +20,11 @@ use std::alloc::Global;
 use std::marker::Model;
 use topic_ledger::TopicLedger;
 
-/// A topic at one cluster, with the table of its duplicates and the sequence id of the cluster's next marker; the senders and
-/// receivers by cluster; the subscriptions; the clients' sessions; and the snapshot that is being made.
+/// What a broker knows of the setup; its topic, with the table of its duplicates and the sequence id of the cluster's next marker;
+/// the senders and receivers by cluster; the subscriptions; the clients' sessions; and the snapshot that is being made.
 #[derive(Debug, Drop)]
 pub struct Book {
-    pub(crate) own: u32,
+    pub(crate) site: Site,
     pub(crate) store: TopicLedger,
     pub(crate) dedup: DedupTable,
     pub(crate) next_marker: u64,
@@ -34,6 +36,7 @@ pub struct Book {
 }
 
 impl Model for Book {
+    ghost use Rattle.std.specs.Prelude.{length};
     ghost use Rattle.broker_subs.specs.SubBook.{subs_of};
     ghost use Rattle.broker_subs.specs.Table.{rooms_of};
     ghost use Rattle.broker_state.specs.Book.{BookHolds, BrokerBook};
@@ -41,53 +44,51 @@ impl Model for Book {
     ghost Value = { BrokerBook };
 
     ghost view = { λ b. record {
+      site = b.site;
       broker = record { entries = b.store.entries; ledgers = b.store.ledgers; senders = b.senders.senders; receivers = b.receivers.items; subs = subs_of b.subs.subs; sessions = b.sessions.items; builder = b.builder };
-      own = b.own;
-      per_ledger = b.store.per_ledger;
       room = record { entries = b.store.spare; streams = b.dedup.room; places = b.subs.room; subs = rooms_of b.subs.subs; senders = b.senders.room };
     } };
 
-    ghost invariant = { λ b. BookHolds b.own b.next_marker b.dedup.rows b.store.entries };
+    ghost invariant = { λ b. BookHolds b.site b.store.per_ledger b.next_marker (length b.senders.senders) (length b.receivers.items) b.dedup.rows b.store.entries };
 }
 
 impl Book {
-    /// An empty topic of cluster `own`, one of so many, whose ledgers take `per_ledger` entries, and no session of so many clients.
+    /// The broker of a site, with an empty topic and no session of so many clients.
     #[tactic(auto, using(dedup_table::proofs::Tells::tells_none))]
-    pub fn new(
-        alloc: Global,
-        own: u32,
-        clusters: u32,
-        clients: usize,
-        per_ledger: u64,
-    ) -> Result<Book, Memory>
-        requires { 0 < per_ledger }
-        ensures { IfOk result (λ b. b ≡ record { broker = new_broker clusters clients; own = own; per_ledger = per_ledger; room = no_room }) }
+    pub fn new(alloc: Global, site: Site, clients: usize) -> Result<Book, Memory>
+        requires { 0 < site.per_ledger }
+        ensures { IfOk result (λ b. b ≡ record { site = site; broker = new_broker (length site.clusters) clients; room = no_room }) }
     {
+        let clusters = site.clusters().len();
         Ok(Book {
-            own,
-            store: TopicLedger::new(alloc, per_ledger)?,
+            store: TopicLedger::new(alloc, site.per_ledger())?,
             dedup: DedupTable::new(alloc),
             next_marker: 0,
-            senders: SenderTable::new(alloc, own, clusters)?,
-            receivers: closed_receivers(alloc, clusters as usize)?,
+            senders: SenderTable::new(alloc, site.own(), clusters as u32)?,
+            receivers: closed_receivers(alloc, clusters)?,
             subs: SubTable::new(alloc),
             sessions: no_sessions(alloc, clients)?,
             builder: None,
+            site,
         })
     }
 
-    /// The number of the own cluster.
-    pub fn own(&self) -> u32
-        ensures { result ≡ self.now.own }
+    /// What the broker knows of the setup. There is a sender and a receiver for each of its clusters.
+    pub fn site(&self) -> &Site
+        ensures value { result.now ≡ self.now.site }
+        ensures known { IsSite self.now.site }
+        ensures senders { length self.now.broker.senders ≡ length self.now.site.clusters }
+        ensures receivers { length self.now.broker.receivers ≡ length self.now.site.clusters }
     {
-        self.own
+        let _own = self.site.own();
+        &self.site
     }
 
     /// The topic's entries and ledgers.
     pub fn store(&self) -> &TopicLedger
         ensures entries { result.now.entries ≡ self.now.broker.entries }
         ensures ledgers { result.now.ledgers ≡ self.now.broker.ledgers }
-        ensures per_ledger { result.now.per_ledger ≡ self.now.per_ledger }
+        ensures per_ledger { result.now.per_ledger ≡ self.now.site.per_ledger }
     {
         &self.store
     }
@@ -114,7 +115,7 @@ impl Book {
 
     /// The sequence id of the cluster's next own marker; the greatest number where it would pass that.
     pub fn next_marker(&self) -> u64
-        ensures { result ≡ marker_number self.now.own self.now.broker.entries }
+        ensures { result ≡ marker_number self.now.site.own self.now.broker.entries }
     {
         self.next_marker
     }

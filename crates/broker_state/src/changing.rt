@@ -26,8 +26,7 @@ impl Book {
         requires senders { change_senders change ≤ self.old.room.senders }
         ensures broker { self.new.broker ≡ changed self.old.broker (machine_change (sub_at self.old.broker.subs place).name change) }
         ensures names { names_of self.new.broker.subs ≡ names_of self.old.broker.subs }
-        ensures own { self.new.own ≡ self.old.own }
-        ensures per_ledger { self.new.per_ledger ≡ self.old.per_ledger }
+        ensures site { self.new.site ≡ self.old.site }
         ensures shape { SameShape self.old.broker self.new.broker }
         ensures room { ChangeLeaves place change self.old.room self.new.room }
     {
@@ -68,8 +67,7 @@ impl Book {
         requires fits { sub.SubChangeFits (sub_at self.old.broker.subs place) change }
         ensures broker { self.new.broker ≡ changed self.old.broker (sub.machine_sub_change (sub_at self.old.broker.subs place).name change) }
         ensures names { names_of self.new.broker.subs ≡ names_of self.old.broker.subs }
-        ensures own { self.new.own ≡ self.old.own }
-        ensures per_ledger { self.new.per_ledger ≡ self.old.per_ledger }
+        ensures site { self.new.site ≡ self.old.site }
         ensures room { (room_at self.old.room.subs place).room ≡ (room_at self.new.room.subs place).room + sub.room_needed change }
         ensures rest { self.new.room ≡ record self.old.room { subs = self.new.room.subs } }
     {
@@ -80,8 +78,7 @@ impl Book {
     fn forget(&mut self)
         ensures broker { self.new.broker ≡ changed self.old.broker change.Forget }
         ensures names { names_of self.new.broker.subs ≡ names_of self.old.broker.subs }
-        ensures own { self.new.own ≡ self.old.own }
-        ensures per_ledger { self.new.per_ledger ≡ self.old.per_ledger }
+        ensures site { self.new.site ≡ self.old.site }
         ensures room { self.new.room ≡ self.old.room }
     {
         self.senders.restart();

@@ -1,5 +1,6 @@
 //! The state of a broker, which owns one topic at one cluster, and the steps of its events: durable writes and changes in memory.
-//! An event is prepared first, which takes all its memory and changes nothing, and then committed, which can't fail.
+//! An event is prepared first, which takes all its memory and changes nothing, and then committed, which can't fail. It is prepared
+//! in a plan that is there before, whose queues keep their memory from one event to the next.
 //!
 //! An event is about one subscription at most, which is found once. A prepared event names it by its place, so that no step carries
 //! its name.
@@ -14,13 +15,15 @@ mod prepared;
 mod reserving;
 mod sender_row;
 mod senders;
+mod site;
 mod starting;
 mod write;
 mod writing;
 
 pub use book::Book;
 pub use change::BookChange;
-pub use prepared::{Outgoing, Prepared};
+pub use prepared::Prepared;
 pub use sender_row::{SenderRow, SenderStep};
 pub use senders::SenderTable;
+pub use site::Site;
 pub use write::BookWrite;

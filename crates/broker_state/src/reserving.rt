@@ -9,8 +9,7 @@ impl Book {
     /// Makes room for `n` more entries, each of a new stream, or ledgers.
     pub fn reserve_entries(&mut self, n: usize) -> Result<(), Memory>
         ensures broker { self.new.broker ≡ self.old.broker }
-        ensures own { self.new.own ≡ self.old.own }
-        ensures per_ledger { self.new.per_ledger ≡ self.old.per_ledger }
+        ensures site { self.new.site ≡ self.old.site }
         ensures entries { OnOk result (n ≤ self.new.room.entries) }
         ensures streams { OnOk result (n ≤ self.new.room.streams) }
         ensures rest { self.new.room ≡ record self.old.room { entries = self.new.room.entries; streams = self.new.room.streams } }
@@ -22,8 +21,7 @@ impl Book {
     /// Makes room for `n` more subscriptions.
     pub fn reserve_places(&mut self, n: usize) -> Result<(), Memory>
         ensures broker { self.new.broker ≡ self.old.broker }
-        ensures own { self.new.own ≡ self.old.own }
-        ensures per_ledger { self.new.per_ledger ≡ self.old.per_ledger }
+        ensures site { self.new.site ≡ self.old.site }
         ensures places { OnOk result (self.new.room.places ≡ n) }
         ensures rest { self.new.room ≡ record self.old.room { places = self.new.room.places } }
     {
@@ -35,8 +33,7 @@ impl Book {
     pub fn reserve_sub(&mut self, place: usize, room: usize, acks: usize) -> Result<(), Memory>
         requires { place < length self.old.broker.subs }
         ensures broker { self.new.broker ≡ self.old.broker }
-        ensures own { self.new.own ≡ self.old.own }
-        ensures per_ledger { self.new.per_ledger ≡ self.old.per_ledger }
+        ensures site { self.new.site ≡ self.old.site }
         ensures room { OnOk result ((room_at self.new.room.subs place).room ≡ room) }
         ensures acks { OnOk result (acks ≤ (room_at self.new.room.subs place).acks) }
         ensures rest { self.new.room ≡ record self.old.room { subs = self.new.room.subs } }
@@ -47,8 +44,7 @@ impl Book {
     /// Makes room for `n` more indexes that a sender is acknowledged or sends.
     pub fn reserve_senders(&mut self, n: usize) -> Result<(), Memory>
         ensures broker { self.new.broker ≡ self.old.broker }
-        ensures own { self.new.own ≡ self.old.own }
-        ensures per_ledger { self.new.per_ledger ≡ self.old.per_ledger }
+        ensures site { self.new.site ≡ self.old.site }
         ensures senders { OnOk result (self.new.room.senders ≡ n) }
         ensures rest { self.new.room ≡ record self.old.room { senders = self.new.room.senders } }
     {

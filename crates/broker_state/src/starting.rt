@@ -9,6 +9,7 @@ ghost use Rattle.broker_state.specs.Senders.{senders_of};
 use crate::book::{Book, closed_receivers, no_sessions};
 use crate::sender_row::SenderRow;
 use crate::senders::SenderTable;
+use crate::site::Site;
 use broker_subs::SubTable;
 use durable_parts::{Durable, DurableSender, DurableSenders, recover};
 use geo_base::Memory;
@@ -18,22 +19,29 @@ impl Book {
     /// What is durable.
     pub fn durable(&self, alloc: Global) -> Result<Durable, Memory>
         ensures broker { IfOk result (λ d. broker_of d ≡ durable_part self.now.broker) }
-        ensures own { IfOk result (λ d. d.own ≡ self.now.own) }
-        ensures per_ledger { IfOk result (λ d. d.store.per_ledger ≡ self.now.per_ledger) }
+        ensures own { IfOk result (λ d. d.own ≡ self.now.site.own) }
+        ensures per_ledger { IfOk result (λ d. d.store.per_ledger ≡ self.now.site.per_ledger) }
     {
         Ok(Durable {
-            own: self.own,
+            own: self.site.own(),
             store: self.store.copy(alloc)?,
             subs: self.subs.durable(alloc)?,
             senders: self.senders.durable(alloc)?,
         })
     }
 
-    /// A broker as it is after a restart, with no session of so many clients.
-    pub fn from_durable(alloc: Global, durable: Durable, clients: usize) -> Result<Book, Memory>
+    /// The broker of a site as it is after a restart, with no session of so many clients.
+    pub fn from_durable(
+        alloc: Global,
+        site: Site,
+        durable: Durable,
+        clients: usize,
+    ) -> Result<Book, Memory>
+        requires own { durable.own ≡ site.own }
+        requires per_ledger { durable.store.per_ledger ≡ site.per_ledger }
+        requires senders { length durable.senders ≡ length site.clusters }
         ensures broker { IfOk result (λ b. b.broker ≡ record (broker_of durable) { receivers = replicate (length durable.senders) None; sessions = replicate clients None }) }
-        ensures own { IfOk result (λ b. b.own ≡ durable.own) }
-        ensures per_ledger { IfOk result (λ b. b.per_ledger ≡ durable.store.per_ledger) }
+        ensures site { IfOk result (λ b. b.site ≡ site) }
     {
         let recovered = recover(alloc, &durable)?;
         let Durable {
@@ -45,7 +53,7 @@ impl Book {
         let senders = SenderTable::restored(alloc, own, senders)?;
         let receivers = closed_receivers(alloc, senders.len())?;
         Ok(Book {
-            own,
+            site,
             store,
             dedup: recovered.dedup,
             next_marker: recovered.next_marker,

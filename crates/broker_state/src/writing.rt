@@ -31,10 +31,9 @@ impl Book {
         requires places { places_of write ≤ self.old.room.places }
         requires acks { AcksFit (room_at self.old.room.subs place).acks write }
         requires senders { senders_of write ≤ self.old.room.senders }
-        ensures broker { self.new.broker ≡ written self.old.per_ledger self.old.broker (machine_write (sub_at self.old.broker.subs place).name self.old.broker.entries write) }
+        ensures broker { self.new.broker ≡ written self.old.site.per_ledger self.old.broker (machine_write (sub_at self.old.broker.subs place).name self.old.broker.entries write) }
         ensures names { names_of self.new.broker.subs ≡ names_after place (names_of self.old.broker.subs) write }
-        ensures own { self.new.own ≡ self.old.own }
-        ensures per_ledger { self.new.per_ledger ≡ self.old.per_ledger }
+        ensures site { self.new.site ≡ self.old.site }
         ensures shape { SameShape self.old.broker self.new.broker }
         ensures room { WriteLeaves place write self.old.room self.new.room }
     {
@@ -62,15 +61,14 @@ impl Book {
         requires stream { stream ≡ stream_of entry.ident }
         requires entries { 0 < self.old.room.entries }
         requires streams { 0 < self.old.room.streams }
-        ensures broker { self.new.broker ≡ written self.old.per_ledger self.old.broker (write.Append entry) }
-        ensures own { self.new.own ≡ self.old.own }
-        ensures per_ledger { self.new.per_ledger ≡ self.old.per_ledger }
+        ensures broker { self.new.broker ≡ written self.old.site.per_ledger self.old.broker (write.Append entry) }
+        ensures site { self.new.site ≡ self.old.site }
         ensures entries { self.old.room.entries ≤ self.new.room.entries + 1 }
         ensures streams { self.old.room.streams ≤ self.new.room.streams + 1 }
         ensures rest { self.new.room ≡ record self.old.room { entries = self.new.room.entries; streams = self.new.room.streams } }
     {
         self.dedup.note(stream, entry.ident.seq);
-        self.next_marker = marker_after(self.own, self.next_marker, &entry);
+        self.next_marker = marker_after(self.site.own(), self.next_marker, &entry);
         self.store.append(entry);
     }
 
@@ -81,10 +79,9 @@ impl Book {
         requires acks { 0 < sub.acks }
         requires absent { sub_named self.old.broker.subs sub.sub.name ≡ None }
         requires places { 0 < self.old.room.places }
-        ensures broker { self.new.broker ≡ written self.old.per_ledger self.old.broker (write.Create sub.sub.name sub.sub.kind sub.sub.replicated latest) }
+        ensures broker { self.new.broker ≡ written self.old.site.per_ledger self.old.broker (write.Create sub.sub.name sub.sub.kind sub.sub.replicated latest) }
         ensures names { names_of self.new.broker.subs ≡ names_of self.old.broker.subs ++ sub.sub.name ∷ [] }
-        ensures own { self.new.own ≡ self.old.own }
-        ensures per_ledger { self.new.per_ledger ≡ self.old.per_ledger }
+        ensures site { self.new.site ≡ self.old.site }
         ensures places { self.old.room.places ≤ self.new.room.places + 1 }
         ensures room { (room_at self.new.room.subs (length self.old.broker.subs)).room ≡ sub.room }
         ensures acks { sub.acks ≤ (room_at self.new.room.subs (length self.old.broker.subs)).acks + 1 }
@@ -100,10 +97,9 @@ impl Book {
         requires place { place < length self.old.broker.subs }
         requires acks { sub.acks_needed write ≤ (room_at self.old.room.subs place).acks }
         requires fits { sub.SubWriteFits self.old.broker.entries (sub_at self.old.broker.subs place) write }
-        ensures broker { self.new.broker ≡ written self.old.per_ledger self.old.broker (sub.machine_sub_write (sub_at self.old.broker.subs place).name self.old.broker.entries write) }
+        ensures broker { self.new.broker ≡ written self.old.site.per_ledger self.old.broker (sub.machine_sub_write (sub_at self.old.broker.subs place).name self.old.broker.entries write) }
         ensures names { names_of self.new.broker.subs ≡ names_of self.old.broker.subs }
-        ensures own { self.new.own ≡ self.old.own }
-        ensures per_ledger { self.new.per_ledger ≡ self.old.per_ledger }
+        ensures site { self.new.site ≡ self.old.site }
         ensures room { (room_at self.new.room.subs place).room ≡ (room_at self.old.room.subs place).room }
         ensures acks { sub.acks_after (room_at self.old.room.subs place).acks write ≤ (room_at self.new.room.subs place).acks }
         ensures rest { self.new.room ≡ record self.old.room { subs = self.new.room.subs } }

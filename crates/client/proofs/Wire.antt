@@ -11,9 +11,10 @@ use Rattle.geo_base.specs.Getting.{get, got_frame}
 use Rattle.geo_base.specs.Setup.{Declared}
 use Rattle.pulsar_frames.specs.declared.frame.Frame.{Frame as WireFrame}
 use Rattle.pulsar_frames.specs.Frames.{IsFrameText}
+use Rattle.frame_values.proofs.Bare.{reads_stand}
 use Rattle.frame_values.proofs.One.{value_one}
 use Rattle.frame_values.specs.Standing.{Reads, text, no_text, bare}
-use Rattle.client.specs.Packets.{BytePacket, IsDiscarded, of_another, unread, StandsFor, StandsForNext}
+use Rattle.client.specs.Packets.{BytePacket, IsDiscarded, IsSaid, of_another, unread, StandsFor, StandsForNext}
 
 got_bare : (d : Declared) (k : Client) (f : Frame) → got_frame d k (bare f) ≡ got_frame d k f
 got_bare d k frame.Connect = refl
@@ -89,3 +90,12 @@ pub none_taken : (names : List (List ℕ)) (d : Declared) (k : Client) → (v : 
 unfolding get
 none_taken names d k None h = refl
 none_taken names d k (Some p) h = absurd h
+
+-- what was read is what its bytes stand for
+pub said_of : (names clusters : List (List ℕ)) (b : BytePacket) (bytes : List ℕ) (f : Frame) → clusters ≡ names → bytes ≡ b.bytes → Reads clusters bytes f → IsSaid names (Some b)
+said_of names clusters b bytes f named same reads =
+    let here : Reads names b.bytes f = subst (λ (ns : List (List ℕ)). Reads ns b.bytes f) named (subst (λ (bs : List ℕ). Reads clusters bs f) same reads) in
+    record { said = Some (record { session = b.session; stamp = 0; frame = f }); stands = record { session = refl; frame = reads_stand names b.bytes f here } }
+
+pub said_none : (names : List (List ℕ)) (o : Option BytePacket) → o ≡ None → IsSaid names o
+said_none names o is = rw is (record { said = None; stands = tt })

@@ -18,7 +18,7 @@ use Rattle.frame_values.proofs.Entries.{no_rest}
 use Rattle.frame_values.proofs.Fitting.{fits}
 use Rattle.frame_values.specs.Coded.{IsWritable}
 use Rattle.frame_values.specs.Fitting.{IsShort, IsSmallCarried}
-use Rattle.client.specs.declared.packet.Outgoing.{Outgoing}
+use Rattle.geo_base.specs.declared.packet.WireOut.{WireOut}
 use Rattle.client.specs.Packets.{AreWritten, IsWrittenOut}
 use Rattle.client.specs.Sent.{IsSent}
 
@@ -74,7 +74,7 @@ writable names frame.Unreadable h = absurd h
 
 -- ---- one by one
 
-written_one : (names : List (List ℕ)) (os : List Outgoing) (ms : List Out) (o : Outgoing) (m : Out) → AreWritten names os ms → IsWrittenOut names o m
+written_one : (names : List (List ℕ)) (os : List WireOut) (ms : List Out) (o : WireOut) (m : Out) → AreWritten names os ms → IsWrittenOut names o m
     → AreWritten names (os ++ o ∷ []) (ms ++ m ∷ [])
 written_one names [] [] o m h k = (k, tt)
 written_one names [] (n ∷ ns) o m h k = absurd h
@@ -82,6 +82,6 @@ written_one names (p ∷ ps) [] o m h k = absurd h
 written_one names (p ∷ ps) (n ∷ ns) o m h k = (h.0, written_one names ps ns o m h.1 k)
 
 -- the packet at a place is the next one
-pub written_more : (names : List (List ℕ)) (ws os : List Outgoing) (ms : List Out) (o : Outgoing) (i : ℕ) (d : Out) → i < length ms → AreWritten names os (take i ms)
+pub written_more : (names : List (List ℕ)) (ws os : List WireOut) (ms : List Out) (o : WireOut) (i : ℕ) (d : Out) → i < length ms → AreWritten names os (take i ms)
     → IsWrittenOut names o (get_or ms i d) → ws ≡ os ++ o ∷ [] → AreWritten names ws (take (i + 1) ms)
 written_more names ws os ms o i d within h k is = rw (is, take_more ms i d within) (written_one names os (take i ms) o (get_or ms i d) h k)

@@ -7,7 +7,7 @@ use Rattle.pulsar_frames.specs.declared.frame.Frame.{Frame}
 use Rattle.pulsar_frames.specs.Frames.{IsFrameText}
 use Rattle.frame_values.specs.Coded.{IsWritten}
 use Rattle.frame_values.specs.Standing.{StandFor}
-use Rattle.client.specs.declared.packet.Outgoing.{Outgoing}
+use Rattle.geo_base.specs.declared.packet.WireOut.{WireOut}
 
 -- the next packet of a link: the session that it was sent in, and the bytes of its frame
 pub record BytePacket : Type 0 where
@@ -25,19 +25,24 @@ StandsForNext names None None = Unit {0}
 StandsForNext names (Some b) (Some p) = StandsFor names b p
 StandsForNext names b p = ⊥
 
+-- and there is a packet that it stands for: its bytes have a value
+pub record IsSaid (names : List (List ℕ)) (b : Option BytePacket) : Type 0 where
+  pub said : Option Packet
+  pub stands : StandsForNext names b said
+
 -- It was sent on another connection than the client has now, or its bytes are a text of no frame.
 pub data IsDiscarded (k : Client) (b : BytePacket) : Type 0 where
   of_another : (b.session ≡ k.connection → ⊥) → IsDiscarded k b
   unread : ((f : Frame) → IsFrameText b.bytes f → ⊥) → IsDiscarded k b
 
 -- the packet of the machine, its frame as its canonical text
-pub record IsWrittenOut (names : List (List ℕ)) (o : Outgoing) (m : Out) : Type 0 where
+pub record IsWrittenOut (names : List (List ℕ)) (o : WireOut) (m : Out) : Type 0 where
   pub to : o.to ≡ m.to
   pub session : o.session ≡ m.session
   pub frame : IsWritten names m.frame o.frame
 
 -- one by one
-abbrev pub AreWritten : List (List ℕ) → List Outgoing → List Out → Type 0
+abbrev pub AreWritten : List (List ℕ) → List WireOut → List Out → Type 0
 AreWritten names [] [] = Unit {0}
 AreWritten names (o ∷ os) (m ∷ ms) = IsWrittenOut names o m × AreWritten names os ms
 AreWritten names os ms = ⊥

@@ -2,13 +2,13 @@
 use Rattle.std.specs.Prelude.{◌≡◌, ℕ, not, List, Option, is_some}
 use Rattle.geo_base.specs.Client.{Acted, Client}
 use Rattle.client.specs.declared.client.change.ClientChange.{ClientChange}
-use Rattle.client.specs.declared.packet.Outgoing.{Outgoing}
+use Rattle.geo_base.specs.declared.packet.WireOut.{WireOut}
 use Rattle.client.specs.Changing.{client_after}
 use Rattle.client.specs.Packets.{AreWritten}
 
 pub record PreparedClient : Type 0 where
   pub change : Option ClientChange
-  pub sent : List Outgoing
+  pub sent : List WireOut
 
 -- What is prepared for a client is what the machine's event does: it is idle where that is, the client will be the same, and
 -- the packets are the machine's, one by one, each frame as its canonical text; names are those of the clusters.

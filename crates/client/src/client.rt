@@ -2,10 +2,10 @@
 //! changes nothing, and then committed, which cannot fail. `get` sends nothing, so that it is done at once.
 //!
 //! What is prepared is a change of the client and no copy of it: what it holds and got grows with the run.
-ghost use Rattle.std.specs.Prelude.{◌≡◌, ◌<◌, ◌+◌, ◌^◌, [], true, IfOk, None};
+ghost use Rattle.std.specs.Prelude.{◌≡◌, ◌<◌, ◌+◌, ◌^◌, ◌↔◌, [], IfOk, IsTrue, None};
 ghost use Rattle.geo_base.specs.Client.{connected_to, new_client, unconnected};
 ghost use Rattle.geo_base.specs.Going.{past};
-ghost use Rattle.client.specs.Counted.{CanCount};
+ghost use Rattle.client.specs.Counted.{CanConnect, CanCount};
 ghost use Rattle.client.specs.Changing.{ChangeFits, ClientFits, changed, client_after};
 
 mod acknowledging;
@@ -101,14 +101,18 @@ impl Client {
         })
     }
 
-    /// Whether the numbers that only count are below 2 ^ 63, so that each can still rise.
-    pub fn can_count(&self) -> bool
-        ensures { result ≡ true → CanCount self.now }
+    /// Whether the connection's number is below 2 ^ 63, so that `go` and `reconnect` can still raise it.
+    pub fn can_connect(&self) -> bool
+        ensures { IsTrue result ↔ CanConnect self.now }
     {
         self.connection < COUNTS
-            && self.receipts < COUNTS
-            && self.duplicates < COUNTS
-            && self.errors < COUNTS
+    }
+
+    /// Whether the numbers of receipts, duplicates and errors are below 2 ^ 63, so that `get` can still raise each.
+    pub fn can_count(&self) -> bool
+        ensures { IsTrue result ↔ CanCount self.now }
+    {
+        self.receipts < COUNTS && self.duplicates < COUNTS && self.errors < COUNTS
     }
 
     /// Does what was prepared; takes no memory.

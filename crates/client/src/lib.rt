@@ -10,5 +10,5 @@ mod site;
 pub use client::{Client, ClientState, ClientView, Prepared};
 pub use held::HeldTable;
 pub use laws::{law_known_names, law_short_lines};
-pub use packet::{Incoming, Outgoing};
+pub use packet::Incoming;
 pub use site::ClientSite;

@@ -1,7 +1,6 @@
 //! Packets of bytes.
 ghost use Rattle.std.specs.Prelude.{◌≡◌};
 
-use geo_base::{Blob, Peer};
 use std::marker::Model;
 
 /// The next packet of the link that a client takes from: the session that it was sent in, and the bytes of its frame.
@@ -40,12 +39,4 @@ impl<'a> Incoming<'a> {
     {
         self.bytes
     }
-}
-
-/// A packet that a client sends: the broker that it goes to, the connection that it is sent on, and the bytes of its frame.
-#[derive(Debug, Drop)]
-pub struct Outgoing {
-    pub to: Peer,
-    pub session: u64,
-    pub frame: Blob,
 }

@@ -4,7 +4,7 @@ ghost use Rattle.std.specs.List.{list_all};
 ghost use Rattle.geo_base.specs.Name.{is_name};
 ghost use Rattle.geo_base.specs.Scripted.{is_optional_name};
 ghost use Rattle.client.specs.Changing.{ClientFits};
-ghost use Rattle.client.specs.Counted.{CanCount};
+ghost use Rattle.client.specs.Counted.{CanConnect, CanCount};
 ghost use Rattle.client.specs.Site.{is_short_line};
 
 use crate::story::{Act, ROWS, Row, lines};
@@ -64,7 +64,8 @@ fn done(alloc: Global, client: &mut Client, mut prepared: Prepared) -> usize
 
 /// What the client does or gets, and how many packets it sends.
 fn happens(alloc: Global, site: &ClientSite, client: &mut Client, act: Act) -> Result<usize, Memory>
-    requires { CanCount client.old }
+    requires connection { CanConnect client.old }
+    requires counts { CanCount client.old }
 {
     match act {
         Act::Go => {
@@ -98,7 +99,7 @@ fn row_of(client: &Client, act: Act, sent: usize) -> Row {
 /// Whether the client is at each row what the row says.
 fn follows(alloc: Global, site: &ClientSite, client: &mut Client) -> Result<bool, Memory> {
     for row in ROWS.iter() {
-        if !client.can_count() {
+        if !client.can_connect() || !client.can_count() {
             return Ok(false);
         }
         let sent = happens(alloc, site, client, row.0)?;

@@ -1,5 +1,5 @@
 //! With ample memory nothing is refused: what is sent comes out on its own link, in order, and a stop loses it.
-use geo_base::{Blob, Memory, Peer, Stamp};
+use geo_base::{Blob, Memory, Peer, Stamp, WireOut};
 use links::*;
 use std::alloc::Global;
 use std::test::Fail;

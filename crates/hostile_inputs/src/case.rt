@@ -3,8 +3,7 @@
 use crate::hostile::{kept, node, stop, take};
 use anyhow::Result;
 use broker::TopicNode;
-use broker_state::Outgoing;
-use geo_base::{Content, EntryStore};
+use geo_base::{Content, EntryStore, WireOut};
 use std::alloc::Global;
 use std::fmt;
 
@@ -50,7 +49,7 @@ impl fmt::Display for Stored {
 pub enum Told {
     BadLine,
     Done {
-        answers: Vec<Outgoing>,
+        answers: Vec<WireOut>,
         stored: Stored,
         then: usize,
         kept: usize,
@@ -74,7 +73,7 @@ impl fmt::Display for Told {
     }
 }
 
-fn write_answers<W: fmt::Write>(f: &mut fmt::Formatter<W>, answers: &[Outgoing]) -> fmt::Result {
+fn write_answers<W: fmt::Write>(f: &mut fmt::Formatter<W>, answers: &[WireOut]) -> fmt::Result {
     write!(f, "answers")?;
     if answers.is_empty() {
         return write!(f, " -");

@@ -4,9 +4,8 @@ ghost use Rattle.hostile_inputs.specs.Setting.{setting};
 
 use anyhow::{Result, bail};
 use broker::{LinkPacket, TopicNode};
-use broker_plans::Site;
-use broker_state::Outgoing;
-use geo_base::{ClusterName, EntryStore, Event, Fate, Stamp, TopicName};
+use broker_state::Site;
+use geo_base::{ClusterName, EntryStore, Event, Fate, Stamp, TopicName, WireOut};
 use std::alloc::Global;
 
 /// Cluster b takes the next packet of the link from cluster a.
@@ -43,12 +42,7 @@ pub fn node(alloc: Global) -> Result<TopicNode>
 }
 
 /// The packets that answer a packet of a session.
-pub fn take(
-    alloc: Global,
-    node: &mut TopicNode,
-    session: u64,
-    frame: &[u8],
-) -> Result<Vec<Outgoing>>
+pub fn take(alloc: Global, node: &mut TopicNode, session: u64, frame: &[u8]) -> Result<Vec<WireOut>>
     ensures { node.new.site ≡ node.old.site }
 {
     if !node.accepts(&TAKE) {

@@ -3,7 +3,7 @@ use Rattle.std.proofs.Common.{◌≡◌, ℕ, zero, suc, ◌+◌, ◌≤◌, ◌
 use Rattle.std.specs.Prelude.{drop, slice_get, slice_set, slice_index_or, map, replicate}
 use Rattle.std.proofs.lemmas.List.{at_drop_more, drop_all, set_past}
 use Rattle.std.proofs.Math.Nat.{mul-le-mul_left}
-use Rattle.links.specs.declared.packet.WireOut.{WireOut}
+use Rattle.geo_base.specs.declared.packet.WireOut.{WireOut}
 use Rattle.links.specs.Each.{Each, none, more, Both, neither, both}
 use Rattle.links.specs.Queues.{bytes_of}
 

@@ -17,7 +17,7 @@ use Rattle.links.specs.declared.name.LinkName.{LinkName}
 use Rattle.links.specs.declared.name.LinkName.TheVariants as name
 use Rattle.links.specs.declared.name.Node.{Node}
 use Rattle.links.specs.declared.name.Node.TheVariants as node
-use Rattle.links.specs.declared.packet.WireOut.{WireOut}
+use Rattle.geo_base.specs.declared.packet.WireOut.{WireOut}
 use Rattle.wire_ends.specs.declared.packet.WirePacket.{WirePacket}
 use Rattle.links.specs.Each.{Each, none, more, Both, neither, both}
 use Rattle.links.specs.Names.{named, sends_on, taken_name}

@@ -3,7 +3,7 @@ use Rattle.std.specs.Prelude.{ℕ, ◌+◌, ◌-◌, ◌*◌, List, [], ◌∷�
 use Rattle.links.specs.declared.name.LinkName.{LinkName}
 use Rattle.links.specs.declared.name.LinkName.TheVariants as name
 use Rattle.links.specs.declared.name.Node.{Node}
-use Rattle.links.specs.declared.packet.WireOut.{WireOut}
+use Rattle.geo_base.specs.declared.packet.WireOut.{WireOut}
 use Rattle.wire_ends.specs.declared.packet.WirePacket.{WirePacket}
 use Rattle.links.specs.Names.{sends_on}
 

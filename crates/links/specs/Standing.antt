@@ -8,7 +8,7 @@ use Rattle.geo_base.specs.Link.{Link}
 use Rattle.geo_base.specs.World.{Links}
 use Rattle.frame_values.specs.Coded.{IsWritten}
 use Rattle.frame_values.specs.Texts.{is_readable}
-use Rattle.links.specs.declared.packet.WireOut.{WireOut}
+use Rattle.geo_base.specs.declared.packet.WireOut.{WireOut}
 use Rattle.wire_ends.specs.declared.packet.WirePacket.{WirePacket}
 use Rattle.links.specs.Each.{Each}
 use Rattle.links.specs.Queues.{Queue, WireLinks}

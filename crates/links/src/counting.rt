@@ -2,8 +2,7 @@
 ghost use Rattle.std.specs.Prelude.{◌≡◌, ◌≤◌, ◌^◌, IfOk, OnErr};
 ghost use Rattle.links.specs.Queues.{bytes_of};
 
-use crate::packet::WireOut;
-use geo_base::Memory;
+use geo_base::{Memory, WireOut};
 
 /// How many bytes the frames have that are sent in an event. So many that 64 bits can't count them are in no memory.
 #[tactic(auto, using(crate::proofs::Pairs::rest_bytes, crate::proofs::Pairs::last_bytes, crate::proofs::Pairs::many_bytes))]

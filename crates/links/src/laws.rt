@@ -10,7 +10,7 @@ ghost use Rattle.geo_base.specs.World.{Links, ToClient, delivered as machine_del
 ghost use Rattle.links.specs.declared.name.LinkName.{LinkName};
 ghost use Rattle.links.specs.declared.name.LinkName.TheVariants as name;
 ghost use Rattle.links.specs.declared.name.Node.TheVariants as node;
-ghost use Rattle.links.specs.declared.packet.WireOut.{WireOut};
+ghost use Rattle.geo_base.specs.declared.packet.WireOut.{WireOut};
 ghost use Rattle.links.specs.Each.{Both};
 ghost use Rattle.links.specs.Names.{taken_name};
 ghost use Rattle.links.specs.Queues.{WireLinks, all_discarded, bytes_of, delivered, empty_links, packet_on, stamp_of, taken_from};

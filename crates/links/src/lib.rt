@@ -11,7 +11,6 @@ mod laws;
 mod link;
 mod links;
 mod name;
-mod packet;
 mod table;
 
 pub use counting::frame_bytes;
@@ -20,5 +19,4 @@ pub use laws::{
 };
 pub use links::Links;
 pub use name::{LinkName, Node};
-pub use packet::WireOut;
 pub use wire_ends::WirePacket;

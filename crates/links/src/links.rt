@@ -8,10 +8,9 @@ ghost use Rattle.std.specs.Vec.Iter.{into_iter_items};
 ghost use Rattle.links.specs.Queues.{all_discarded, delivered, empty_links, next_at, packet_on, sent_on, stamp_of, stamped, taken_at, taken_from, unsent_on};
 
 use crate::name::{LinkName, Node, link_to};
-use crate::packet::WireOut;
 use crate::table::LinkTable;
 use geo_base::limits::CLUSTERS;
-use geo_base::{Memory, Stamp};
+use geo_base::{Memory, Stamp, WireOut};
 use std::alloc::Global;
 use std::marker::Model;
 use std::vec::IntoIter;

@@ -5,11 +5,10 @@ use Rattle.std.specs.List.{list_all}
 use Rattle.client.proofs.KnownNames.{goes_known, reconnects_known}
 use Rattle.client.proofs.Short.{declared_short}
 use Rattle.client.specs.Changing.{client_after}
-use Rattle.client.specs.Counted.{CanCount}
+use Rattle.client.specs.Counted.{CanConnect, CanCount}
 use Rattle.client.specs.Packets.{AreWritten}
 use Rattle.client.specs.Prepared.{IsPrepared, PreparedClient}
 use Rattle.client.specs.Site.{is_short_line, known_setup}
-use Rattle.client.specs.declared.packet.Outgoing.{Outgoing}
 use Rattle.geo_base.specs.declared.event.Event.TheVariants as event
 use Rattle.geo_base.specs.declared.client.Line.{Line}
 use Rattle.geo_base.specs.declared.packet.Out.{Out}
@@ -25,7 +24,7 @@ use Rattle.links.proofs.Simulated.{stamp_is}
 use Rattle.links.specs.declared.name.LinkName.{LinkName}
 use Rattle.links.specs.Names.{taken_name}
 use Rattle.links.specs.declared.name.Node.TheVariants as wire_node
-use Rattle.links.specs.declared.packet.WireOut.{WireOut}
+use Rattle.geo_base.specs.declared.packet.WireOut.{WireOut}
 use Rattle.links.specs.Each.{more, none}
 use Rattle.links.specs.Queues.{bytes_of, packet_on, stamp_of}
 use Rattle.links.specs.Standing.{OutsStand}
@@ -38,7 +37,7 @@ use Rattle.world_kept.proofs.Reaching.{ground}
 use Rattle.world_kept.specs.Reached.{Reached}
 use Rattle.world_laws.specs.Starts.{most_at_start}
 use Rattle.world_laws.specs.Within.{ClientWithin}
-use Rattle.world.specs.ClientSteps.{IsSent, client_in, client_outs, no_client}
+use Rattle.world.specs.ClientSteps.{IsSent, client_in, no_client}
 use Rattle.world.specs.declared.fault.RunFault.TheVariants as fault
 use Rattle.world.specs.Steps.{Leads}
 use Rattle.world.specs.World.{AreNodes, IsAt, WorldBook, kept_of}
@@ -79,11 +78,15 @@ client_is s b w c h lt stands =
 
 counts_of : (n : ℕ) (k : Client) → n ≤ most_number → ClientWithin n k → CanCount k
 counts_of n k most h = record {
-  connection = omega (arith, most, h.connection);
   receipts = omega (arith, most, h.receipts);
   duplicates = omega (arith, most, h.duplicates);
   errors = omega (arith, most, h.errors);
 }
+
+pub can_connect : (s : Setup) (b : WorldBook) (c : ℕ) → IsAt s b → c < length s.clients → CanConnect (client_in b.clients c)
+can_connect s b c h lt =
+    let most = few s b h in
+    subst CanConnect (sym (client_is s b h.world c h lt h.stands)) (omega (arith, most, ((ground_of s b h).numbers.clients c).connection))
 
 pub can_count : (s : Setup) (b : WorldBook) (c : ℕ) → IsAt s b → c < length s.clients → CanCount (client_in b.clients c)
 can_count s b c h lt =
@@ -103,7 +106,7 @@ stamp_fits s b c h = stamp_within s b c None h
 
 -- ---- what was prepared
 
-outs_stand : (names : List (List ℕ)) (os : List Outgoing) (vs : List Out) → AreWritten names os vs → OutsStand names (client_outs os) vs
+outs_stand : (names : List (List ℕ)) (os : List WireOut) (vs : List Out) → AreWritten names os vs → OutsStand names os vs
 outs_stand names [] [] h = none
 outs_stand names (o ∷ os) (v ∷ vs) h = more (record { to = h.0.to; session = h.0.session; frame = h.0.frame }) (outs_stand names os vs h.1)
 outs_stand names (o ∷ os) [] h = absurd h
@@ -113,11 +116,11 @@ outs_stand names [] (v ∷ vs) h = absurd h
 sends : (s : Setup) (old new : WorldBook) (next : World) (c : ℕ) (p : PreparedClient) (a : Acted) (r : Answer)
     → ((os : List WireOut) → a.idle ≡ false → OutsStand s.clusters os a.sent → Stands s (client_acted (kept_of old) c (wire_node.Client c) None a.client os) next)
     → IsPrepared s.clusters (client_in old.clients c) p a → not (is_some p.change) ≡ false → OnOk r (IsSent c p old new)
-    → OnOk r (limit_of (old.events + 1) old.idle (old.frame_bytes + bytes_of (client_outs p.sent)) ≡ None)
-    → ((i : ℕ) → r ≡ Err (fault.TooLarge i) → limit_of (old.events + 1) old.idle (old.frame_bytes + bytes_of (client_outs p.sent)) ≡ Some i)
+    → OnOk r (limit_of (old.events + 1) old.idle (old.frame_bytes + bytes_of p.sent) ≡ None)
+    → ((i : ℕ) → r ≡ Err (fault.TooLarge i) → limit_of (old.events + 1) old.idle (old.frame_bytes + bytes_of p.sent) ≡ Some i)
     → Leads s old new next r
 sends s old new next c p a r stands prepared busy ok within large =
-    let os = client_outs p.sent in
+    let os = p.sent in
     let there : Stands s (client_acted (kept_of old) c (wire_node.Client c) None (client_after p.change (client_in old.clients c)) os) next =
     subst (λ (m : Client). Stands s (client_acted (kept_of old) c (wire_node.Client c) None m os) next) (sym prepared.client)
     (stands os (sym prepared.idle ∙ busy) (outs_stand s.clusters p.sent a.sent prepared.sent)) in
@@ -153,8 +156,8 @@ has s c lt = below c (length s.clients) lt
 
 pub leads_go : (s : Setup) (old new : WorldBook) (w : World) (c : ℕ) (p : PreparedClient) (r : Answer) → IsAt s old → c < length s.clients → Reached s w → Stands s (kept_of old) w
     → IsPrepared s.clusters (client_in old.clients c) p (go (known_setup s.clusters s.topics) (declared_at s c) (client_in old.clients c)) → not (is_some p.change) ≡ false
-    → OnOk r (IsSent c p old new) → OnOk r (limit_of (old.events + 1) old.idle (old.frame_bytes + bytes_of (client_outs p.sent)) ≡ None)
-    → ((i : ℕ) → r ≡ Err (fault.TooLarge i) → limit_of (old.events + 1) old.idle (old.frame_bytes + bytes_of (client_outs p.sent)) ≡ Some i)
+    → OnOk r (IsSent c p old new) → OnOk r (limit_of (old.events + 1) old.idle (old.frame_bytes + bytes_of p.sent) ≡ None)
+    → ((i : ℕ) → r ≡ Err (fault.TooLarge i) → limit_of (old.events + 1) old.idle (old.frame_bytes + bytes_of p.sent) ≡ Some i)
     → Leads s old new (happens s w (event.Go c)) r
 leads_go s old new w c p r h lt reached stands prepared busy ok within large =
     sends s old new (happens s w (event.Go c)) c p (go s (declared_at s c) (client_at s w c)) r
@@ -171,8 +174,8 @@ rests_go s old new w c p r h lt stands prepared idle ok within large =
 
 pub leads_reconnect : (s : Setup) (old new : WorldBook) (w : World) (c : ℕ) (p : PreparedClient) (r : Answer) → IsAt s old → c < length s.clients → Reached s w → Stands s (kept_of old) w
     → IsPrepared s.clusters (client_in old.clients c) p (reconnect (known_setup s.clusters s.topics) (declared_at s c) (client_in old.clients c)) → not (is_some p.change) ≡ false
-    → OnOk r (IsSent c p old new) → OnOk r (limit_of (old.events + 1) old.idle (old.frame_bytes + bytes_of (client_outs p.sent)) ≡ None)
-    → ((i : ℕ) → r ≡ Err (fault.TooLarge i) → limit_of (old.events + 1) old.idle (old.frame_bytes + bytes_of (client_outs p.sent)) ≡ Some i)
+    → OnOk r (IsSent c p old new) → OnOk r (limit_of (old.events + 1) old.idle (old.frame_bytes + bytes_of p.sent) ≡ None)
+    → ((i : ℕ) → r ≡ Err (fault.TooLarge i) → limit_of (old.events + 1) old.idle (old.frame_bytes + bytes_of p.sent) ≡ Some i)
     → Leads s old new (happens s w (event.Reconnect c)) r
 leads_reconnect s old new w c p r h lt reached stands prepared busy ok within large =
     sends s old new (happens s w (event.Reconnect c)) c p (reconnect s (declared_at s c) (client_at s w c)) r

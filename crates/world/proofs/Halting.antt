@@ -27,7 +27,8 @@ use Rattle.world.specs.declared.fault.RunFault.{RunFault}
 use Rattle.world.specs.declared.fault.RunFault.TheVariants as fault
 use Rattle.world.specs.declared.place.Place.{Place}
 use Rattle.world.specs.Steps.{IsHalted, IsStopped, Leads, halted_at, place_at}
-use Rattle.world.specs.World.{AreNodes, IsAt, SameWorld, WorldBook, brokers_of, kept_of, node_at}
+use Rattle.world.specs.World.{IsAt, SameWorld, WorldBook, brokers_of, kept_of, node_at}
+use Rattle.world.proofs.After.{after_halt}
 use Rattle.world.proofs.Leading.{failed, plan_is, takes_stands}
 use Rattle.world.proofs.Nodes.{are_set, next_is, same_world, sent_of}
 use Rattle.world.proofs.Places.{broker_is, in_range_is, node_below, node_is}
@@ -121,11 +122,11 @@ leads_large s old new w e k f brokers here stands large = record {
   large = λ i past. counts s _ (halts_planned s w k (planned s w e)) (broker_halted s (kept_of old) w k e brokers (in_range_is s e here) stands) ∙ large i past;
 }
 
-pub nodes_halted : (s : Setup) (old new : WorldBook) (n : ℕ) (takes : Option LinkName) (e : Event) (k : ℕ) → IsAt s old → IsStopped n takes e k old new → AreNodes s new.nodes
-nodes_halted s old new n takes e k h stop = stop.same s h.nodes
-
-pub nodes_same : (s : Setup) (old new : WorldBook) → IsAt s old → SameWorld old new → AreNodes s new.nodes
-nodes_same s old new h same = same.nodes s h.nodes
+-- and the next event can begin
+pub at_halted : (s : Setup) (old new : WorldBook) (e : Event) (place : Place) (n k : ℕ) → IsAt s old → IsBrokers e → IsEvent s e → place ≡ place_at s e → n ≡ node_of s e
+    → IsStopped n place.takes e k old new → limit_of (old.events + 1) old.idle old.frame_bytes ≡ None → IsAt s new
+at_halted s old new e place n k h brokers here is number stop low =
+    after_halt s old new k e (Ok tt) h (λ w reached stands. leads_halted s old new w e place n k tt h brokers here is number reached stands stop low) (stop.same s h.nodes) tt
 
 pub same_still : (b : WorldBook) → SameWorld b b
 same_still b = record { kept = refl; nodes = λ s h. h }

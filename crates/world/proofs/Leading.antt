@@ -1,5 +1,5 @@
 -- An event of a broker leads to the machine's world after it.
-use Rattle.std.proofs.Common.{◌≡◌, ℕ, ◌+◌, true, false, List, [], ◌∷◌, sym, ◌∙◌, ap, subst}
+use Rattle.std.proofs.Common.{◌≡◌, ℕ, true, false, List, [], ◌∷◌, sym, ◌∙◌, ap, subst}
 use Rattle.std.specs.Prelude.{Some, None, Result, Ok, Err, OnErr, OnOk, slice_index_or}
 use Rattle.geo_base.specs.declared.event.Event.{Event}
 use Rattle.geo_base.specs.declared.packet.Out.{Out}
@@ -10,14 +10,14 @@ use Rattle.geo_base.specs.Planned.{broker_plan}
 use Rattle.geo_base.specs.Setup.{Setup}
 use Rattle.geo_base.specs.World.{World}
 use Rattle.broker_state.specs.Prepared.{PreparedBook}
-use Rattle.broker_state.specs.declared.prepared.Outgoing.{Outgoing}
+use Rattle.geo_base.specs.declared.packet.WireOut.{WireOut}
 use Rattle.broker_plans.specs.Prepared.{ArePackets, IsPrepared}
 use Rattle.script_text.specs.Scenario.{IsEvent}
 use Rattle.broker.proofs.Planned.{node_plan}
 use Rattle.broker.proofs.Ready.{done_is, idle_is}
 use Rattle.broker.specs.Events.{plan_at_node}
 use Rattle.links.specs.Each.{Both, more, none}
-use Rattle.links.specs.Queues.{bytes_of, packet_on}
+use Rattle.links.specs.Queues.{packet_on}
 use Rattle.links.specs.Standing.{OutsStand}
 use Rattle.world_kept.proofs.Keeping.{broker_done, broker_idle, counts, input}
 use Rattle.world_kept.specs.Events.{IsBrokers, cluster_of, node_of, plan_in, sender_of, taken_in, takes_of, topic_of}
@@ -27,9 +27,8 @@ use Rattle.world_kept.proofs.Reaching.{ground, told_frames}
 use Rattle.world_kept.specs.Reached.{Reached}
 use Rattle.world.specs.declared.fault.RunFault.{RunFault}
 use Rattle.world.specs.declared.fault.RunFault.TheVariants as fault
-use Rattle.world.specs.declared.place.Place.{Place}
-use Rattle.world.specs.Steps.{IsFinished, Leads, PreparesAt, done_at, place_at, wire_outs}
-use Rattle.world.specs.World.{AreNodes, IsAt, SameWorld, WorldBook, kept_of, node_at}
+use Rattle.world.specs.Steps.{Leads, PreparesAt, done_at}
+use Rattle.world.specs.World.{IsAt, SameWorld, WorldBook, kept_of, node_at}
 use Rattle.world.proofs.Places.{at_same, broker_is, in_range_is, node_below, node_is, of_node, of_topic, stands_at}
 
 abbrev pub Answer : Type 0
@@ -53,7 +52,7 @@ wants s old new next = record { done = tt; large = λ n is. absurd (subst IsWant
 
 -- ---- what was prepared
 
-outs_stand : (names : List (List ℕ)) (vs : List Out) (os : List Outgoing) → ArePackets names vs os → OutsStand names (wire_outs os) vs
+outs_stand : (names : List (List ℕ)) (vs : List Out) (os : List WireOut) → ArePackets names vs os → OutsStand names os vs
 outs_stand names [] [] h = none
 outs_stand names (v ∷ vs) (o ∷ os) h = more (record { to = h.0.to; session = h.0.session; frame = h.0.frame }) (outs_stand names vs os h.1)
 outs_stand names [] (o ∷ os) h = absurd h
@@ -109,17 +108,17 @@ stands_same s old mid w same stands = subst (λ (k : Kept). Stands s k w) (sym s
 
 pub acted_stands : (s : Setup) (old mid : WorldBook) (w : World) (e : Event) (p : PreparedBook) → IsAt s old → SameWorld old mid → IsBrokers e → IsEvent s e
     → Reached s w → Stands s (kept_of old) w → PreparesAt old (node_of s e) (takes_of e) e p → p.idle ≡ false
-    → Stands s (broker_acted (kept_of mid) (node_of s e) (sender_of s e) (takes_of e) (done_at (node_at mid.nodes (node_of s e)) p) (wire_outs p.sent)) (happens s w e)
+    → Stands s (broker_acted (kept_of mid) (node_of s e) (sender_of s e) (takes_of e) (done_at (node_at mid.nodes (node_of s e)) p) p.sent) (happens s w e)
 acted_stands s old mid w e p h same brokers here reached stands prepares busy =
     let n : ℕ = node_of s e in let plan = plan_in s w e in let k = at_same s old mid h same in
     let prepared = prepared_same s old mid e plan p h same brokers here (prepared_plan s old w e p h brokers here reached stands prepares) in
     let v = node_at mid.nodes n in
     let is : p.idle ≡ plan.idle = idle_is v.site v.broker plan p prepared in
-    let sent : OutsStand s.clusters (wire_outs p.sent) plan.sent =
+    let sent : OutsStand s.clusters p.sent plan.sent =
     outs_stand s.clusters plan.sent p.sent (subst (λ (g : Site). ArePackets g.clusters plan.sent p.sent) (node_is s mid e k brokers here).site prepared.sent) in
-    subst (λ (c : Broker). Stands s (broker_acted (kept_of mid) n (sender_of s e) (takes_of e) c (wire_outs p.sent)) (happens s w e))
+    subst (λ (c : Broker). Stands s (broker_acted (kept_of mid) n (sender_of s e) (takes_of e) c p.sent) (happens s w e))
     (sym (becomes s mid e plan p k brokers here prepared))
-    (broker_done s (kept_of mid) w e (wire_outs p.sent) brokers (in_range_is s e here) (ground s h.setup w reached) (stands_same s old mid w same stands) (sym is ∙ busy) sent)
+    (broker_done s (kept_of mid) w e p.sent brokers (in_range_is s e here) (ground s h.setup w reached) (stands_same s old mid w same stands) (sym is ∙ busy) sent)
 
 pub idle_stands : (s : Setup) (old mid : WorldBook) (w : World) (e : Event) (p : PreparedBook) → IsAt s old → SameWorld old mid → IsBrokers e → IsEvent s e
     → Reached s w → Stands s (kept_of old) w → PreparesAt old (node_of s e) (takes_of e) e p → p.idle ≡ true
@@ -142,45 +141,11 @@ pub on_ok : {X Y : Type 0} (r : Answer) → (X → Y) → OnOk r X → OnOk r Y
 on_ok (Ok u) f x = f x
 on_ok (Err e) f x = tt
 
-pub leads_idle : (s : Setup) (old mid new : WorldBook) (w : World) (e : Event) (place : Place) (n : ℕ) (p : PreparedBook) (r : Answer)
-    → IsAt s old → SameWorld old mid → IsBrokers e → IsEvent s e → place ≡ place_at s e → n ≡ node_of s e → Reached s w → Stands s (kept_of old) w
-    → PreparesAt old n place.takes e p → p.idle ≡ true
-    → OnOk r (new ≡ record mid { idle = mid.idle + 1 }) → OnOk r (limit_of mid.events (mid.idle + 1) mid.frame_bytes ≡ None)
-    → ((i : ℕ) → r ≡ Err (fault.TooLarge i) → limit_of mid.events (mid.idle + 1) mid.frame_bytes ≡ Some i)
-    → Leads s old new (happens s w e) r
-leads_idle s old mid new w e place n p r h same brokers here is number reached stands prepares idle ok within large =
-    let prepared : PreparesAt old (node_of s e) (takes_of e) e p =
-    subst (λ (m : ℕ). PreparesAt old m (takes_of e) e p) number (subst (λ (a : Place). PreparesAt old n a.takes e p) is prepares) in
-    leads_by s old new (idled (kept_of mid)) (happens s w e) r (idle_stands s old mid w e p h same brokers here reached stands prepared idle)
-    (on_ok r (λ all. ap kept_of all) ok) within large
-
-pub leads_done : (s : Setup) (old mid new : WorldBook) (w : World) (e : Event) (place : Place) (n : ℕ) (p : PreparedBook) (r : Answer)
-    → IsAt s old → SameWorld old mid → IsBrokers e → IsEvent s e → place ≡ place_at s e → n ≡ node_of s e → Reached s w → Stands s (kept_of old) w
-    → PreparesAt old n place.takes e p → p.idle ≡ false
-    → OnOk r (IsFinished place n p mid new) → OnOk r (limit_of (mid.events + 1) mid.idle (mid.frame_bytes + bytes_of (wire_outs p.sent)) ≡ None)
-    → ((i : ℕ) → r ≡ Err (fault.TooLarge i) → limit_of (mid.events + 1) mid.idle (mid.frame_bytes + bytes_of (wire_outs p.sent)) ≡ Some i)
-    → Leads s old new (happens s w e) r
-leads_done s old mid new w e place n p r h same brokers here is number reached stands prepares busy ok within large =
-    let prepared : PreparesAt old (node_of s e) (takes_of e) e p =
-    subst (λ (m : ℕ). PreparesAt old m (takes_of e) e p) number (subst (λ (a : Place). PreparesAt old n a.takes e p) is prepares) in
-    let finished : OnOk r (IsFinished (place_at s e) (node_of s e) p mid new) =
-    subst (λ (m : ℕ). OnOk r (IsFinished (place_at s e) m p mid new)) number (subst (λ (a : Place). OnOk r (IsFinished a n p mid new)) is ok) in
-    leads_by s old new (broker_acted (kept_of mid) (node_of s e) (sender_of s e) (takes_of e) (done_at (node_at mid.nodes (node_of s e)) p) (wire_outs p.sent)) (happens s w e) r
-    (acted_stands s old mid w e p h same brokers here reached stands prepared busy)
-    (on_ok r (λ all. all.kept) finished) within large
-
--- ---- nodes, and a world that has not changed
-
-pub nodes_idle : (s : Setup) (old mid new : WorldBook) (r : Answer) → AreNodes s old.nodes → SameWorld old mid → OnOk r (new ≡ record mid { idle = mid.idle + 1 }) → OnErr r (new ≡ mid)
-    → AreNodes s new.nodes
-nodes_idle s old mid new (Ok u) h same ok err = subst (λ (b : WorldBook). AreNodes s b.nodes) (sym ok) (same.nodes s h)
-nodes_idle s old mid new (Err e) h same ok err = subst (λ (b : WorldBook). AreNodes s b.nodes) (sym err) (same.nodes s h)
-
-pub nodes_done : (s : Setup) (old mid new : WorldBook) (place : Place) (n : ℕ) (p : PreparedBook) (r : Answer) → AreNodes s old.nodes → SameWorld old mid
-    → OnOk r (IsFinished place n p mid new) → OnErr r (new ≡ mid) → AreNodes s new.nodes
-nodes_done s old mid new place n p (Ok u) h same ok err = ok.same s (same.nodes s h)
-nodes_done s old mid new place n p (Err e) h same ok err = subst (λ (b : WorldBook). AreNodes s b.nodes) (sym err) (same.nodes s h)
+-- ---- a world that has not changed
 
 pub same_err : (old mid new : WorldBook) (r : Answer) → SameWorld old mid → OnErr r (new ≡ mid) → OnErr r (SameWorld old new)
 same_err old mid new (Ok u) same err = tt
 same_err old mid new (Err e) same err = subst (SameWorld old) (sym err) same
+
+pub still_same : (old mid new : WorldBook) → SameWorld old mid → new ≡ mid → SameWorld old new
+still_same old mid new same is = subst (SameWorld old) (sym is) same

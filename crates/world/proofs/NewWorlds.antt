@@ -11,6 +11,7 @@ use Rattle.geo_base.specs.Setup.{Declared, Setup, declared_at, nobody, sub_names
 use Rattle.geo_base.specs.World.{node, opening_world}
 use Rattle.broker.specs.Events.{IsNodeOf}
 use Rattle.broker.specs.Node.{NodeBook}
+use Rattle.links.specs.Queues.{empty_links}
 use Rattle.world_kept.proofs.Keeping.{opening}
 use Rattle.world_kept.specs.Kept.{Kept, opening_kept}
 use Rattle.world_kept.specs.Standing.{Stands}
@@ -97,6 +98,11 @@ one_client_more s c ms m lt is client =
 
 new_nodes : (s : Setup) (vs : List NodeBook) → AreNew s (length s.topics * length s.clusters) vs → AreNodes s vs
 new_nodes s vs h = record { count = new_size s (length s.topics * length s.clusters) vs h; each = λ t x topic cluster. h.each t x cluster (node_lt s t x (topic, cluster)) }
+
+pub new_kept : (s : Setup) (b : WorldBook) → AreNew s (length s.topics * length s.clusters) b.nodes → b.clients ≡ map new_client s.clients
+    → b.links ≡ empty_links (length s.topics) (length s.clusters) (length s.clients) → b.broker_clocks ≡ replicate (length s.topics * length s.clusters) 0
+    → b.client_clocks ≡ replicate (length s.clients) 0 → b.events ≡ 0 → b.idle ≡ 0 → b.rounds ≡ 0 → b.frame_bytes ≡ 0 → kept_of b ≡ opening_kept s
+new_kept s b nodes clients links broker_clocks client_clocks events idle rounds frame_bytes = let brokers = nodes.brokers in cc
 
 pub new_at : (s : Setup) (b : WorldBook) → IsScripted s → AreNew s (length s.topics * length s.clusters) b.nodes → kept_of b ≡ opening_kept s → IsAt s b
 new_at s b scripted nodes kept =

@@ -2,7 +2,7 @@
 use Rattle.std.proofs.Common.{◌≡◌, ℕ, ◌<◌, List, length, sym, ◌∙◌, ap, subst}
 use Rattle.std.proofs.lemmas.List.{get_or-set_same, length-set, map-set}
 use Rattle.std.proofs.Math.Seq.{map-set_same}
-use Rattle.std.specs.Prelude.{Option, Some, None, Result, Ok, Err, IfOk, slice_set}
+use Rattle.std.specs.Prelude.{Option, Some, None, Result, Ok, Err, OnOk, slice_set}
 use Rattle.geo_base.specs.declared.event.Event.{Event}
 use Rattle.geo_base.specs.declared.memory.Memory.{Memory}
 use Rattle.geo_base.specs.declared.packet.Packet.{Packet}
@@ -51,10 +51,9 @@ same_world old new n v same broker is = rw is (record {
 
 -- ---- what an event takes
 
-flips : (A : Option Packet → Type 0) (r : Result PreparedBook Memory) (P : Option Packet → PreparedBook → Type 0) → ((v : Option Packet) → A v → IfOk r (P v))
-    → IfOk r (λ p. (v : Option Packet) → A v → P v p)
-flips A (Ok p) P f = λ v a. f v a
-flips A (Err m) P f = tt
+flips : (A P : Option Packet → Type 0) (r : Result (Unit {0}) Memory) → ((v : Option Packet) → A v → OnOk r (P v)) → OnOk r ((v : Option Packet) → A v → P v)
+flips A P (Ok u) f = λ v a. f v a
+flips A P (Err m) f = tt
 
 abbrev pub sent_packet : WirePacket → BytePacket
 sent_packet p = record { session = p.session; stamp = p.stamp; frame = p.frame }
@@ -67,33 +66,33 @@ pub next_is : (names : List (List ℕ)) (o : Option WirePacket) (v : Option Pack
 next_is names _ _ neither = tt
 next_is names (Some w) (Some p) (both r) = r
 
-prepares : (old : WorldBook) (n : ℕ) (takes : Option LinkName) (e : Event) (r : Result PreparedBook Memory) (i : Option BytePacket) → i ≡ sent_of (packet_on old.links takes)
+prepares : (old : WorldBook) (n : ℕ) (takes : Option LinkName) (e : Event) (p : PreparedBook) (r : Result (Unit {0}) Memory) (i : Option BytePacket) → i ≡ sent_of (packet_on old.links takes)
     → ((v : Option Packet) → StandsForInput (node_at old.nodes n).site.clusters i v
-    → IfOk r (IsPrepared (node_at old.nodes n).site (node_at old.nodes n).broker (plan_at_node (node_at old.nodes n) e v)))
-    → IfOk r (PreparesAt old n takes e)
-prepares old n takes e r i is f =
+    → OnOk r (IsPrepared (node_at old.nodes n).site (node_at old.nodes n).broker (plan_at_node (node_at old.nodes n) e v) p))
+    → OnOk r (PreparesAt old n takes e p)
+prepares old n takes e p r i is f =
     let u = node_at old.nodes n in
-    flips (λ (v : Option Packet). Both (IsInput u.site.clusters) (packet_on old.links takes) v) r (λ v p. IsPrepared u.site u.broker (plan_at_node u e v) p)
+    flips (λ (v : Option Packet). Both (IsInput u.site.clusters) (packet_on old.links takes) v) (λ v. IsPrepared u.site u.broker (plan_at_node u e v) p) r
     (λ v both. f v (subst (λ (j : Option BytePacket). StandsForInput u.site.clusters j v) (sym is) (next_is u.site.clusters (packet_on old.links takes) v both)))
 
-pub prepares_none : (old : WorldBook) (n : ℕ) (takes : Option LinkName) (e : Event) (r : Result PreparedBook Memory) → packet_on old.links takes ≡ None
+pub prepares_none : (old : WorldBook) (n : ℕ) (takes : Option LinkName) (e : Event) (p : PreparedBook) (r : Result (Unit {0}) Memory) → packet_on old.links takes ≡ None
     → ((v : Option Packet) → StandsForInput (node_at old.nodes n).site.clusters None v
-    → IfOk r (IsPrepared (node_at old.nodes n).site (node_at old.nodes n).broker (plan_at_node (node_at old.nodes n) e v)))
-    → IfOk r (PreparesAt old n takes e)
-prepares_none old n takes e r is f = prepares old n takes e r None (ap sent_of (sym is)) f
+    → OnOk r (IsPrepared (node_at old.nodes n).site (node_at old.nodes n).broker (plan_at_node (node_at old.nodes n) e v) p))
+    → OnOk r (PreparesAt old n takes e p)
+prepares_none old n takes e p r is f = prepares old n takes e p r None (ap sent_of (sym is)) f
 
-pub prepares_some : (old : WorldBook) (n : ℕ) (takes : Option LinkName) (e : Event) (r : Result PreparedBook Memory) (w : WirePacket) (i : BytePacket) (f : List ℕ)
+pub prepares_some : (old : WorldBook) (n : ℕ) (takes : Option LinkName) (e : Event) (p : PreparedBook) (r : Result (Unit {0}) Memory) (w : WirePacket) (i : BytePacket) (f : List ℕ)
     → Some w ≡ packet_on old.links takes → i ≡ record { session = w.session; stamp = w.stamp; frame = f } → f ≡ w.frame
     → ((v : Option Packet) → StandsForInput (node_at old.nodes n).site.clusters (Some i) v
-    → IfOk r (IsPrepared (node_at old.nodes n).site (node_at old.nodes n).broker (plan_at_node (node_at old.nodes n) e v)))
-    → IfOk r (PreparesAt old n takes e)
-prepares_some old n takes e r w i f is same bytes stands =
-    prepares old n takes e r (Some i)
+    → OnOk r (IsPrepared (node_at old.nodes n).site (node_at old.nodes n).broker (plan_at_node (node_at old.nodes n) e v) p))
+    → OnOk r (PreparesAt old n takes e p)
+prepares_some old n takes e p r w i f is same bytes stands =
+    prepares old n takes e p r (Some i)
     (ap (λ (j : BytePacket). Some j) (same ∙ ap (λ (b : List ℕ). record { session = w.session; stamp = w.stamp; frame = b }) bytes) ∙ ap sent_of is) stands
 
 ready_at : (vs : List NodeBook) (n : ℕ) (v : NodeBook) (p : PreparedBook) → n < length vs → IsReady v p → IsReady (node_at (slice_set vs n v) n) p
 ready_at vs n v p lt ready = rw (get_or-set_same vs n v no_node lt) ready
 
-pub ready_there : (vs us : List NodeBook) (n : ℕ) (v : NodeBook) (r : Result PreparedBook Memory) → n < length vs → us ≡ slice_set vs n v → IfOk r (IsReady v) → IfOk r (IsReady (node_at us n))
-ready_there vs us n v (Ok p) lt is ready = rw is (ready_at vs n v p lt ready)
-ready_there vs us n v (Err m) lt is ready = tt
+pub ready_there : (vs us : List NodeBook) (n : ℕ) (v : NodeBook) (p : PreparedBook) (r : Result (Unit {0}) Memory) → n < length vs → us ≡ slice_set vs n v → OnOk r (IsReady v p) → OnOk r (IsReady (node_at us n) p)
+ready_there vs us n v p (Ok u) lt is ready = rw is (ready_at vs n v p lt ready)
+ready_there vs us n v p (Err m) lt is ready = tt

@@ -16,7 +16,7 @@ use Rattle.geo_base.specs.Subscription.{Subscription}
 use Rattle.geo_base.specs.Topic.{next_marker}
 use Rattle.geo_base.specs.World.{World, broker_at}
 use Rattle.script_text.specs.Scenario.{IsEvent}
-use Rattle.broker.specs.Events.{IsClients, IsHere, IsLink, IsNodeOf, IsOfNode, IsOfTopic, NumbersRise, SeekRises, SessionRises, name_at}
+use Rattle.broker.specs.Events.{HasNextMarker, IsClients, IsHere, IsLink, IsNodeOf, IsOfNode, IsOfTopic, MarkerRises, NumbersRise, SeekRises, SessionRises, name_at}
 use Rattle.broker.specs.Node.{NodeBook}
 use Rattle.links.proofs.Simulated.{stamp_is}
 use Rattle.links.specs.declared.name.LinkName.{LinkName}
@@ -219,14 +219,29 @@ seeks_rise n names b (event.Go c) most h = tt
 seeks_rise n names b (event.Get c) most h = tt
 seeks_rise n names b (event.Reconnect c) most h = tt
 
-rises : (s : Setup) (n : ℕ) (v : NodeBook) (c : Broker) (t x : ℕ) (e : Event) → IsNodeOf s t x v → v.broker ≡ c → n ≤ most_number → BrokerWithin n c → next_marker x c.entries < 2 ^ 64
+marker_rises : (h : Site) (b : Broker) (e : Event) → HasNextMarker h b → MarkerRises h b e
+marker_rises h b (event.Serve x c) fits = fits
+marker_rises h b (event.Drop x c) fits = tt
+marker_rises h b (event.Reset t x y) fits = tt
+marker_rises h b (event.Read t x y) fits = fits
+marker_rises h b (event.Take t x y f) fits = tt
+marker_rises h b (event.Receipt t x y f) fits = tt
+marker_rises h b (event.Snap t x) fits = fits
+marker_rises h b (event.Offer t x k) fits = fits
+marker_rises h b (event.Seek t x k to) fits = fits
+marker_rises h b (event.Restart t x) fits = tt
+marker_rises h b (event.Go c) fits = tt
+marker_rises h b (event.Get c) fits = tt
+marker_rises h b (event.Reconnect c) fits = tt
+
+rises : (s : Setup) (n : ℕ) (v : NodeBook) (c : Broker) (t x : ℕ) (e : Event) → IsNodeOf s t x v → v.broker ≡ c → n ≤ most_number → BrokerWithin n c → next_marker x c.entries + 1 < 2 ^ 64
     → NumbersRise v e
 rises s n v c t x e is same most h marker = record {
   session = subst (λ (b : Broker). SessionRises b e) (sym same) (sessions_rise n c e most h);
   seeks = subst (λ (b : Broker). SeekRises v.names b e) (sym same) (seeks_rise n v.names c e most h);
-  marker =
-      subst (λ (b : Broker). next_marker v.site.own b.entries < 2 ^ 64) (sym same)
-      (subst (λ (i : ℕ). next_marker i c.entries < 2 ^ 64) (sym (ap (λ (h : Site). h.own) is.site)) marker);
+  marker = marker_rises v.site v.broker e
+      (subst (λ (b : Broker). next_marker v.site.own b.entries + 1 < 2 ^ 64) (sym same)
+      (subst (λ (i : ℕ). next_marker i c.entries + 1 < 2 ^ 64) (sym (ap (λ (h : Site). h.own) is.site)) marker));
 }
 
 pub numbers_rise : (s : Setup) (b : WorldBook) (e : Event) → IsAt s b → IsBrokers e → IsEvent s e → NumbersRise (node_at b.nodes (node_of s e)) e

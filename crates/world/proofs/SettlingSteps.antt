@@ -10,13 +10,14 @@ use Rattle.geo_base.specs.Setup.{Setup}
 use Rattle.geo_base.specs.World.{World}
 use Rattle.world_kept.specs.Kept.{Kept}
 use Rattle.world_kept.specs.Standing.{Stands}
+use Rattle.world_laws.specs.Starts.{most_at_start}
 use Rattle.world_kept.proofs.Reaching.{event_reached, idle_reached, round_reached}
 use Rattle.world_kept.specs.Reached.{Reached}
 use Rattle.world.specs.declared.fault.RunFault.{RunFault}
 use Rattle.world.specs.declared.fault.RunFault.TheVariants as fault
 use Rattle.world.specs.Runs.{Comes, at_world}
-use Rattle.world.specs.Settling.{EndsWithin, IsLater, IsRounding, IsSettling, Rounds, Settles, settled_by}
-use Rattle.world.specs.Steps.{Leads}
+use Rattle.world.specs.Settling.{EndsWithin, IsRounding, IsSettling, Rounds, Settles, settled_by}
+use Rattle.world.specs.Steps.{IsLater, Leads}
 use Rattle.world.specs.World.{IsAt, SameWorld, WorldBook, kept_of}
 use Rattle.world.proofs.SettlingRuns.{counted, ended_at, ends_here, ends_in_time, ends_later, ends_next, goes_on, resets_done, resets_ended, round_ended, round_last, round_more}
 
@@ -68,13 +69,6 @@ same_answer : (b c : Bool) → answering b ≡ answering c → b ≡ c
 unfolding bool_of
 same_answer b c is = ap bool_of is
 
-pub wants_rounds : (s : Setup) (new : WorldBook) (r : Ran) → Rounds s new r (Err fault.Memory)
-wants_rounds s new r = record {
-  more = λ yes. absurd (succeeds true fault.Memory yes);
-  done = λ no. absurd (succeeds false fault.Memory no);
-  large = λ n past. absurd (subst (λ (b : Result Bool RunFault). IsMemory b) past tt);
-}
-
 -- ---- events
 
 abbrev LeadsBy : Setup → (old new : WorldBook) → Event → Answer → Type 0
@@ -111,10 +105,10 @@ each_done s now es i r u past h = record {
 }
 
 pub each_first : (b : WorldBook) → IsLater b b
-each_first b = record { events = omega arith; rounds = refl }
+each_first b = record { events = omega arith; idle = refl; rounds = refl }
 
 pub later_on : (first now new : WorldBook) → IsLater first now → IsLater now new → IsLater first new
-later_on first now new h k = record { events = omega (arith, h.events, k.events); rounds = k.rounds ∙ h.rounds }
+later_on first now new h k = record { events = omega (arith, h.events, k.events); idle = k.idle ∙ h.idle; rounds = k.rounds ∙ h.rounds }
 
 -- ---- a round
 
@@ -164,8 +158,11 @@ counted_at s mid new h is =
     } in
     subst (IsAt s) (sym is) at
 
-pub memory_at : (s : Setup) (mid new : WorldBook) → IsAt s mid → new ≡ mid → IsAt s new
-memory_at s mid new h is = subst (IsAt s) (sym is) h
+-- it did an event, so it may be counted
+pub counted_few : (old mid : WorldBook) → old.rounds ≤ most_at_start + old.events → IsLater old mid → (mid.events ≡ old.events → ⊥) → mid.rounds < most_at_start + mid.events
+counted_few old mid few later busy =
+    let more : old.events < mid.events = grind (arith, later.events, busy) in
+    omega (arith, few, later.rounds, more)
 
 -- a round that did something
 pub round_counted : (s : Setup) (old mid new : WorldBook) (es : List Event) (r : Ran) (a : Answer) (u : Unit {0}) → es ≡ round_of (pairs s) → a ≡ Ok u → SettlesAll s old mid es a

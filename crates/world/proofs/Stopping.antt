@@ -3,8 +3,7 @@ use Rattle.std.proofs.Common.{◌≡◌, ℕ, zero, suc, ◌+◌, ◌*◌, ◌/�
 use Rattle.std.proofs.lemmas.List.{get_or_default}
 use Rattle.std.proofs.lemmas.Nat.{div-add-mod'}
 use Rattle.std.proofs.Math.Nat.{div-lt_iff_lt-mul, mod-lt}
-use Rattle.std.specs.Prelude.{All, Some, None, Result, Ok, Err, IfOk, OnErr, slice_index_or}
-use Rattle.geo_base.specs.declared.event.Event.TheVariants as event
+use Rattle.std.specs.Prelude.{All, Some, None, Result, Ok, Err, OnOk, slice_index_or}
 use Rattle.geo_base.specs.declared.memory.Memory.{Memory}
 use Rattle.geo_base.specs.Broker.{Broker, Site}
 use Rattle.geo_base.specs.Client.{unconnected}
@@ -27,15 +26,13 @@ use Rattle.world_kept.specs.Kept.{Kept, all_stopped}
 use Rattle.world_kept.specs.Standing.{Stands, limit_of}
 use Rattle.world_laws.proofs.Sizes.{node_lt}
 use Rattle.world_kept.proofs.Reaching.{stop_reached}
-use Rattle.world_kept.specs.Reached.{Reached}
 use Rattle.world.specs.declared.fault.RunFault.{RunFault}
 use Rattle.world.specs.declared.fault.RunFault.TheVariants as fault
-use Rattle.world.specs.Restarts.{CanRestart, IsRestarted, IsSame}
+use Rattle.world.specs.Restarts.{IsRestarted, IsSame}
 use Rattle.world.specs.Steps.{Leads}
 use Rattle.world.specs.World.{AreNodes, IsAt, SameWorld, WorldBook, brokers_of, kept_of, no_node, node_at}
 use Rattle.world.proofs.After.{after}
 use Rattle.world.proofs.Leading.{Answer, failed, leads_by}
-use Rattle.world.proofs.Places.{numbers_rise}
 
 -- ---- one after another
 
@@ -56,12 +53,6 @@ each_map R S (x ∷ xs) (y ∷ ys) f (more r rs) = more (f x y r) (each_map R S 
 pub none_left : {R : NodeBook → NodeBook → Type 0} (vs : List NodeBook) → length vs ≡ 0 → Each R vs vs
 none_left [] size = none
 none_left (v ∷ vs) size = absurd (omega (arith, size))
-
-pub first_can : (vs ws : List NodeBook) (v : NodeBook) → vs ≡ v ∷ ws → All CanRestart vs → CanRestart v
-first_can vs ws v is can = (subst (λ (us : List NodeBook). All CanRestart us) is can) 0 v (omega arith)
-
-pub rest_can : (vs ws : List NodeBook) (v : NodeBook) → vs ≡ v ∷ ws → All CanRestart vs → All CanRestart ws
-rest_can vs ws v is can = λ k d lt. (subst (λ (us : List NodeBook). All CanRestart us) is can) (suc k) d (omega (arith, lt))
 
 same_self : (v : NodeBook) → IsSame v v
 same_self v = record { node = record { topic = refl; site = refl; names = refl; senders = refl; sessions = refl }; broker = refl }
@@ -99,10 +90,10 @@ pub more_restarted : (vs ws us : List NodeBook) (v u w : NodeBook) (p : Prepared
     → w.broker ≡ done u.site.per_ledger u.broker (plan_in u.broker p) → SameNode u w → Each IsRestarted ws us → Each IsRestarted vs (w ∷ us)
 more_restarted vs ws us v u w p is same restarts broker node rest = rw is (more (started v u w p same restarts broker node) rest)
 
-pub restart_done : (v : NodeBook) (r : Result PreparedBook Memory) → IfOk r (IsPrepared v.site v.broker restart)
-    → IfOk r (λ p. done v.site.per_ledger v.broker (plan_in v.broker p) ≡ done v.site.per_ledger v.broker restart)
-restart_done v (Ok p) is = done_is v.site v.broker restart p is
-restart_done v (Err m) is = tt
+pub restart_done : (v : NodeBook) (p : PreparedBook) (r : Result (Unit {0}) Memory) → OnOk r (IsPrepared v.site v.broker restart p)
+    → OnOk r (done v.site.per_ledger v.broker (plan_in v.broker p) ≡ done v.site.per_ledger v.broker restart)
+restart_done v p (Ok u) is = done_is v.site v.broker restart p is
+restart_done v p (Err m) is = tt
 
 -- ---- all brokers of a setup
 
@@ -114,9 +105,6 @@ all_of s P vs scripted h each k d lt =
     let topic : k / c < length s.topics = (div-lt_iff_lt-mul {k = c} {x = k} {y = length s.topics} some).1 (subst (λ (m : ℕ). k < m) size lt) in
     let there : node s (k / c) (k % c) ≡ k = div-add-mod' k c in
     subst P (ap (λ (m : ℕ). node_at vs m) there ∙ get_or_default vs k no_node d lt) (each (k / c) (k % c) topic (mod-lt k some))
-
-pub all_can : (s : Setup) (b : WorldBook) → IsAt s b → All CanRestart b.nodes
-all_can s b h = all_of s CanRestart b.nodes h.setup h.nodes (λ t x topic cluster. (numbers_rise s b (event.Restart t x) h tt (topic, cluster)).marker)
 
 per_ledger_is : (s : Setup) (vs : List NodeBook) → IsScripted s → AreNodes s vs → All (λ (v : NodeBook). v.site.per_ledger ≡ s.per_ledger) vs
 per_ledger_is s vs scripted h =
@@ -148,9 +136,6 @@ same_nodes s vs us same h = record {
 
 -- ---- the world
 
-pub stopped_nodes : (s : Setup) (old : WorldBook) (us : List NodeBook) → IsAt s old → Each IsRestarted old.nodes us → AreNodes s us
-stopped_nodes s old us h all = same_nodes s old.nodes us (each_map IsRestarted SameNode old.nodes us (λ v u r. r.node) all) h.nodes
-
 -- the brokers behind their vector
 pub behind : {R : NodeBook → NodeBook → Type 0} (vs us rest : List NodeBook) (n : ℕ) → length vs ≡ n → Each R vs us → take n (us ++ rest) ≡ us
 behind {R = R} vs us rest n size all = left_whole n us rest (sym (each_length R vs us all) ∙ size)
@@ -161,9 +146,6 @@ same_room old new us all is = rw is (record {
   kept = ap (λ (bs : List Broker). record (kept_of old) { brokers = bs }) (same_brokers old.nodes us all);
   nodes = λ s h. same_nodes s old.nodes us (each_map IsSame SameNode old.nodes us (λ v u r. r.node) all) h;
 })
-
-pub room_nodes : (s : Setup) (old : WorldBook) (us : List NodeBook) → IsAt s old → Each IsSame old.nodes us → AreNodes s us
-room_nodes s old us h all = same_nodes s old.nodes us (each_map IsSame SameNode old.nodes us (λ v u r. r.node) all) h.nodes
 
 abbrev stopped : Setup → WorldBook → Kept
 stopped s b = all_stopped (kept_of b) (map (λ (c : Broker). done s.per_ledger c restart) (brokers_of b.nodes)) (map unconnected b.clients)
@@ -193,6 +175,11 @@ pub leads_past : (s : Setup) (old new : WorldBook) (w : World) (f : RunFault) �
     → ((n : ℕ) → failed f ≡ failed (fault.TooLarge n) → limit_of (old.events + 1) old.idle old.frame_bytes ≡ Some n) → Leads s old new (stops s w) (Err f)
 leads_past s old new w f stands large = leads_by s old new (stopped s old) (stops s w) (Err f) (stop s (kept_of old) w stands) tt tt large
 
-pub after_stop : (s : Setup) (old new : WorldBook) (r : Answer) → IsAt s old → ((w : World) → Reached s w → Stands s (kept_of old) w → Leads s old new (stops s w) r)
-    → AreNodes s new.nodes → OnErr r (SameWorld old new) → IsAt s new
-after_stop s old new r h leads nodes same = after s old new (λ w. stops s w) r h leads (λ w reached. stop_reached s w reached) nodes same
+-- and the next event can begin
+pub at_stopped : (s : Setup) (old new : WorldBook) (us : List NodeBook) → IsAt s old → Each IsRestarted old.nodes us
+    → new ≡ record old { nodes = us; clients = map unconnected old.clients; links = all_discarded old.links; events = old.events + 1 }
+    → limit_of (old.events + 1) old.idle old.frame_bytes ≡ None → IsAt s new
+at_stopped s old new us h all is low =
+    let nodes : AreNodes s us = same_nodes s old.nodes us (each_map IsRestarted SameNode old.nodes us (λ v u r. r.node) all) h.nodes in
+    after s old new (λ w. stops s w) (Ok tt) h (λ w reached stands. leads_stopped s old new us w tt h stands all is low) (λ w reached. stop_reached s w reached)
+    (subst (λ (b : WorldBook). AreNodes s b.nodes) (sym is) nodes) tt

@@ -2,7 +2,6 @@
 use Rattle.std.specs.Prelude.{◌≡◌, ℕ, ◌+◌, Bool, true, false, not, List, map, Option, Some, None, slice_index_or, slice_set}
 use Rattle.client.specs.Changing.{client_after}
 use Rattle.client.specs.Prepared.{PreparedClient}
-use Rattle.client.specs.declared.packet.Outgoing.{Outgoing}
 use Rattle.geo_base.specs.Client.{Client, new_client}
 use Rattle.geo_base.specs.declared.packet.Packet.{Packet}
 use Rattle.geo_base.specs.Getting.{get}
@@ -10,7 +9,6 @@ use Rattle.geo_base.specs.Setup.{Declared, nobody}
 use Rattle.world.specs.World.{WorldBook, kept_of}
 use Rattle.links.specs.declared.name.LinkName.{LinkName}
 use Rattle.links.specs.declared.name.Node.TheVariants as wire_node
-use Rattle.links.specs.declared.packet.WireOut.{WireOut}
 use Rattle.links.specs.Each.{Both}
 use Rattle.links.specs.Queues.{packet_on, taken_from}
 use Rattle.world_kept.specs.Kept.{client_acted, stamp_at}
@@ -22,16 +20,9 @@ no_client = new_client nobody
 abbrev pub client_in : List Client → ℕ → Client
 client_in ms c = slice_index_or ms c no_client
 
--- what a client sends, as a link takes it
-abbrev pub client_out : Outgoing → WireOut
-client_out o = record { to = o.to; session = o.session; frame = o.frame }
-
-abbrev pub client_outs : List Outgoing → List WireOut
-client_outs os = map client_out os
-
 -- what was prepared at client c is done, and its packets are on their links
 pub record IsSent (c : ℕ) (p : PreparedClient) (old new : WorldBook) : Type 0 where
-  pub kept : kept_of new ≡ client_acted (kept_of old) c (wire_node.Client c) None (client_after p.change (client_in old.clients c)) (client_outs p.sent)
+  pub kept : kept_of new ≡ client_acted (kept_of old) c (wire_node.Client c) None (client_after p.change (client_in old.clients c)) p.sent
   pub nodes : new.nodes ≡ old.nodes
 
 -- client c did what the next packet of a link says, which still is there; whatever the packet stands for, it is the machine's get.

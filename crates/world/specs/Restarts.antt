@@ -2,12 +2,7 @@
 use Rattle.std.specs.Prelude.{◌≡◌}
 use Rattle.geo_base.specs.Plan.{done}
 use Rattle.geo_base.specs.Seeking.{restart}
-use Rattle.broker_plans.specs.Prepared.{MarkerFits}
 use Rattle.broker.specs.Node.{NodeBook, SameNode}
-
--- the number of the next own marker has room, as before each event of a broker
-abbrev pub CanRestart : NodeBook → Type 0
-CanRestart v = MarkerFits v.site v.broker
 
 -- a broker that may have other room
 pub record IsSame (old new : NodeBook) : Type 0 where

@@ -1,5 +1,5 @@
 -- How settling leaves the world, event by event and round by round.
-use Rattle.std.specs.Prelude.{◌≡◌, ℕ, ◌+◌, ◌<◌, ◌≤◌, Bool, true, false, List, [], ◌++◌, Some, None, Ok, Err, OnOk, Result}
+use Rattle.std.specs.Prelude.{◌≡◌, ℕ, ◌+◌, ◌<◌, Bool, true, false, List, [], ◌++◌, Some, None, Ok, Err, OnOk, Result}
 use Rattle.geo_base.specs.declared.event.Event.{Event}
 use Rattle.geo_base.specs.Happening.{happens}
 use Rattle.geo_base.specs.Run.{Pair, Ran, all_limits, all_settle, no_limits, resets_of, round_of, rounds_of}
@@ -22,11 +22,6 @@ settled_by s w e = record (happens s w e) { idle = w.idle }
 -- what settling may do: events of brokers, with their numbers in range
 abbrev pub IsSettlingEvent : Setup → Event → Type 0
 IsSettlingEvent s e = IsBrokers e × IsEvent s e
-
--- no event was undone, and no round was counted
-pub record IsLater (old new : WorldBook) : Type 0 where
-  pub events : old.events ≤ new.events
-  pub rounds : new.rounds ≡ old.rounds
 
 -- the machine has come to a world for which this one stands, and doing these events of settling from there it comes to r
 pub record IsSettling (s : Setup) (b : WorldBook) (es : List Event) (r : Ran) : Type 0 where

@@ -1,5 +1,5 @@
 -- How a step leaves the world.
-use Rattle.std.specs.Prelude.{◌≡◌, ℕ, ◌+◌, List, map, Option, Some, None, Err, OnOk, Result, slice_set}
+use Rattle.std.specs.Prelude.{◌≡◌, ℕ, ◌+◌, ◌≤◌, Bool, true, false, List, map, Option, Some, None, Ok, Err, OnOk, Result, slice_set, ⊤}
 use Rattle.geo_base.specs.declared.event.Event.{Event}
 use Rattle.geo_base.specs.declared.packet.Packet.{Packet}
 use Rattle.geo_base.specs.Broker.{Broker}
@@ -8,7 +8,6 @@ use Rattle.geo_base.specs.Run.{all_limits}
 use Rattle.geo_base.specs.Setup.{Setup}
 use Rattle.geo_base.specs.World.{World}
 use Rattle.broker_state.specs.Prepared.{PreparedBook, plan_in}
-use Rattle.broker_state.specs.declared.prepared.Outgoing.{Outgoing}
 use Rattle.broker_plans.specs.Prepared.{IsPrepared}
 use Rattle.world.specs.declared.place.Place.{Place}
 use Rattle.world.specs.World.{AreNodes, WorldBook, brokers_of, kept_of, node_at}
@@ -18,19 +17,11 @@ use Rattle.world.specs.declared.fault.RunFault.{RunFault}
 use Rattle.world.specs.declared.fault.RunFault.TheVariants as fault
 use Rattle.links.specs.declared.name.LinkName.{LinkName}
 use Rattle.links.specs.declared.name.Node.TheVariants as wire_node
-use Rattle.links.specs.declared.packet.WireOut.{WireOut}
 use Rattle.links.specs.Each.{Both}
 use Rattle.links.specs.Queues.{packet_on, taken_from}
 use Rattle.world_kept.specs.Events.{cluster_of, takes_of, topic_of}
-use Rattle.world_kept.specs.Kept.{broker_acted, broker_stopped}
+use Rattle.world_kept.specs.Kept.{broker_acted, broker_stopped, idled}
 use Rattle.world_kept.specs.Standing.{IsInput, Stands}
-
--- what a broker sends, as a link takes it
-abbrev pub wire_out : Outgoing → WireOut
-wire_out o = record { to = o.to; session = o.session; frame = o.frame }
-
-abbrev pub wire_outs : List Outgoing → List WireOut
-wire_outs os = map wire_out os
 
 -- the broker of an event, and the link that it takes from
 abbrev pub place_at : Setup → Event → Place
@@ -46,6 +37,20 @@ PreparesAt b n takes e p = (v : Option Packet) → Both (IsInput (node_at b.node
 pub record Leads (s : Setup) (old new : WorldBook) (next : World) (result : Result (Unit {0}) RunFault) : Type 0 where
   pub done : OnOk result (Stands s (kept_of new) next × (all_limits next ≡ None))
   pub large : (n : ℕ) → result ≡ Err (fault.TooLarge n) → all_limits next ≡ Some n
+
+-- An event that is done where it is enabled, and the answer says whether it was; next is the machine's world after it, which counts
+-- one that was not. The others are as in Leads; an event that would pass a limit is no idle one.
+abbrev pub Acts : Setup → (old new : WorldBook) → World → Result Bool RunFault → Type 0
+Acts s old new next (Ok true) = Stands s (kept_of new) next × (all_limits next ≡ None)
+Acts s old new next (Ok false) = Stands s (idled (kept_of new)) next
+Acts s old new next (Err (fault.TooLarge n)) = (next.idle ≡ old.idle) × (all_limits next ≡ Some n)
+Acts s old new next (Err fault.Memory) = ⊤
+
+-- no event was undone, and neither an idle one nor a round was counted
+pub record IsLater (old new : WorldBook) : Type 0 where
+  pub events : old.events ≤ new.events
+  pub idle : new.idle ≡ old.idle
+  pub rounds : new.rounds ≡ old.rounds
 
 -- a broker after an event that was prepared there
 abbrev pub done_at : NodeBook → PreparedBook → Broker
@@ -73,7 +78,7 @@ pub record IsCommitted (place : Place) (n stamp : ℕ) (old new : WorldBook) : T
 
 -- what was prepared at broker n is done, and its packets are on their links
 pub record IsFinished (place : Place) (n : ℕ) (p : PreparedBook) (old new : WorldBook) : Type 0 where
-  pub kept : kept_of new ≡ broker_acted (kept_of old) n (wire_node.Broker place.topic place.cluster) place.takes (done_at (node_at old.nodes n) p) (wire_outs p.sent)
+  pub kept : kept_of new ≡ broker_acted (kept_of old) n (wire_node.Broker place.topic place.cluster) place.takes (done_at (node_at old.nodes n) p) p.sent
   pub same : (s : Setup) → AreNodes s old.nodes → AreNodes s new.nodes
 
 -- a stop behind the first k durable writes of an event: broker n is halted in the machine's plan of it, whatever the packet that it

@@ -6,12 +6,14 @@ use Rattle.geo_base.specs.Run.{most_events, most_sent_bytes}
 use Rattle.geo_base.specs.Scripted.{IsScripted}
 use Rattle.geo_base.specs.Setup.{Setup}
 use Rattle.geo_base.specs.World.{World, node}
+use Rattle.broker_state.specs.Prepared.{IsEmptyPlan, PreparedBook}
 use Rattle.broker.specs.Events.{IsNodeOf}
 use Rattle.broker.specs.Node.{NodeBook}
 use Rattle.links.specs.Queues.{WireLinks}
 use Rattle.world_kept.specs.Kept.{Kept}
 use Rattle.world_kept.specs.Standing.{Stands}
 use Rattle.world_kept.specs.Reached.{Reached}
+use Rattle.world_laws.specs.Starts.{most_at_start}
 
 -- brokers by topic and then by cluster, clients by number; a clock is a node's last stamp
 pub record WorldBook : Type 0 where
@@ -24,6 +26,12 @@ pub record WorldBook : Type 0 where
   pub idle : ℕ
   pub rounds : ℕ
   pub frame_bytes : ℕ
+
+-- what always holds between events, of a plan, n rounds and m events: no event is prepared; and each round that was counted did an
+-- event, but for those of a file
+pub record WorldHolds (q : PreparedBook) (n m : ℕ) : Type 0 where
+  pub plan : IsEmptyPlan q
+  pub rounds : n ≤ most_at_start + m
 
 abbrev pub no_node : NodeBook
 no_node = record { topic = 0; site = record { own = 0; clusters = []; topic = []; per_ledger = 0 }; names = []; broker = no_broker; room = record { entries = 0; streams = 0; places = 0; subs = []; senders = 0 } }

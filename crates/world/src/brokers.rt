@@ -1,9 +1,10 @@
 //! An event of a broker: prepared there, its packets delivered, committed.
-ghost use Rattle.std.specs.Prelude.{◌≡◌, ℕ, ◌<◌, ◌+◌, ◌^◌, length, IfOk, OnErr, OnOk, None, Some, Err};
+ghost use Rattle.std.specs.Prelude.{◌≡◌, ℕ, ◌<◌, ◌+◌, ◌^◌, false, length, IfOk, OnErr, OnOk, None, Some, Ok, Err};
+ghost use Rattle.broker_state.specs.Prepared.{IsEmptyPlan};
 ghost use Rattle.geo_base.specs.Happening.{happens};
 ghost use Rattle.geo_base.specs.World.{World as Machine};
 ghost use Rattle.world.specs.declared.fault.RunFault.TheVariants as fault;
-ghost use Rattle.world.specs.Steps.{IsCommitted, IsFinished, IsSetNode, Leads, PreparesAt, done_at, wire_outs};
+ghost use Rattle.world.specs.Steps.{Acts, IsCommitted, IsFinished, IsLater, IsSetNode, Leads, PreparesAt, done_at};
 ghost use Rattle.world.specs.World.{AreNodes, IsAt, IsWithin, SameWorld, kept_of, node_at};
 ghost use Rattle.script_text.specs.Scenario.{IsEvent};
 ghost use Rattle.broker.specs.Events.{IsOfNode, NumbersRise};
@@ -18,10 +19,10 @@ use crate::fault::RunFault;
 use crate::place::{Place, place_of};
 use crate::world::{World, node_number};
 use broker::LinkPacket;
-use broker_state::{Outgoing, Prepared};
+use broker_state::Prepared;
 use geo_base::limits::{EVENTS, SENT_BYTES};
-use geo_base::{Event, Memory, Stamp};
-use links::{LinkName, WireOut, frame_bytes};
+use geo_base::{Event, Memory, Stamp, WireOut};
+use links::{LinkName, frame_bytes};
 use script_text::Scenario;
 use std::alloc::Global;
 
@@ -32,8 +33,8 @@ pub(crate) const EVENT_LIMIT: u64 = 2;
 pub(crate) const BYTE_LIMIT: u64 = 3;
 
 impl World {
-    /// An event of a broker.
-    #[tactic(auto, using(crate::proofs::Places::topic_below, crate::proofs::Places::cluster_below, crate::proofs::Places::number_of, crate::proofs::Places::number_below, crate::proofs::Places::number_rises, crate::proofs::Places::mid_below, crate::proofs::Places::mid_clock, crate::proofs::Places::mid_within, crate::proofs::Places::mid_stamp, crate::proofs::Leading::wants, crate::proofs::Leading::leads_idle, crate::proofs::Leading::leads_done, crate::proofs::Leading::nodes_idle, crate::proofs::Leading::nodes_done, crate::proofs::Leading::same_err))]
+    /// An event of a broker, which is counted where it is idle.
+    #[tactic(auto, using(crate::proofs::Acting::leads_acted, crate::proofs::Acting::leads_idled, crate::proofs::ClientEvents::nodes_idle, crate::proofs::Leading::same_err))]
     pub(crate) fn broker_event(
         &mut self,
         alloc: Global,
@@ -48,13 +49,79 @@ impl World {
         ensures nodes { AreNodes scenario.now.setup self.new.nodes }
         ensures err { OnErr result (SameWorld self.old self.new) }
     {
+        if self.acts(alloc, scenario, event)? {
+            return Ok(());
+        }
+        self.idles()
+    }
+
+    /// An event of a broker, which is done where it is enabled; whether it was. Nothing counts one that was not.
+    pub(crate) fn acts(
+        &mut self,
+        alloc: Global,
+        scenario: &Scenario,
+        event: &Event,
+    ) -> Result<bool, RunFault>
+        requires at { IsAt scenario.now.setup self.old }
+        requires broker { IsBrokers event.now }
+        requires scripted { IsEvent scenario.now.setup event.now }
+        ensures acts { (w : Machine) → Reached scenario.now.setup w → Stands scenario.now.setup (kept_of self.old) w
+            → Acts scenario.now.setup self.old self.new (happens scenario.now.setup w event.now) result }
+        ensures at { IsAt scenario.now.setup self.new }
+        ensures later { IsLater self.old self.new }
+        ensures idle { result ≡ Ok false → SameWorld self.old self.new }
+        ensures err { OnErr result (SameWorld self.old self.new) }
+    {
+        let mut plan = self.take_plan(alloc);
+        let acted = self.acts_in(alloc, scenario, event, &mut plan);
+        plan.clear();
+        self.keep_plan(plan);
+        acted
+    }
+
+    /// The world's plan, taken out to be filled.
+    fn take_plan(&mut self, alloc: Global) -> Prepared
+        ensures empty { IsEmptyPlan result }
+        ensures same { self.new ≡ self.old }
+    {
+        std::mem::replace(&mut self.plan, Prepared::new(alloc))
+    }
+
+    /// Keeps the plan, which is empty, for the next event.
+    fn keep_plan(&mut self, plan: Prepared)
+        requires { IsEmptyPlan plan }
+        ensures { self.new ≡ self.old }
+    {
+        self.plan = plan;
+    }
+
+    /// The same in a plan that is empty. What is left in it then has no meaning.
+    fn acts_in(
+        &mut self,
+        alloc: Global,
+        scenario: &Scenario,
+        event: &Event,
+        plan: &mut Prepared,
+    ) -> Result<bool, RunFault>
+        requires at { IsAt scenario.now.setup self.old }
+        requires broker { IsBrokers event.now }
+        requires scripted { IsEvent scenario.now.setup event.now }
+        requires empty { IsEmptyPlan plan.old }
+        ensures acts { (w : Machine) → Reached scenario.now.setup w → Stands scenario.now.setup (kept_of self.old) w
+            → Acts scenario.now.setup self.old self.new (happens scenario.now.setup w event.now) result }
+        ensures at { IsAt scenario.now.setup self.new }
+        ensures later { IsLater self.old self.new }
+        ensures idle { result ≡ Ok false → SameWorld self.old self.new }
+        ensures err { OnErr result (SameWorld self.old self.new) }
+    {
         let place = place_of(scenario, event);
         let number = node_number(scenario, place.topic, place.cluster);
-        let prepared = self.prepare_at(alloc, number, event, place.takes)?;
-        if prepared.is_idle() {
-            return self.idles();
+        self.prepare_at(alloc, number, event, place.takes, plan)?;
+        if plan.is_idle() {
+            return Ok(false);
         }
-        self.finish_at(alloc, place, number, prepared)
+        self.finish_at(alloc, place, number, plan)?;
+        Ok(true)
     }
 
     /// What an event will do at a broker, with the packet that it takes.
@@ -65,19 +132,21 @@ impl World {
         number: usize,
         event: &Event,
         takes: Option<LinkName>,
-    ) -> Result<Prepared, Memory>
+        plan: &mut Prepared,
+    ) -> Result<(), Memory>
         requires node { number < length self.old.nodes }
         requires of { IsOfNode (node_at self.old.nodes number) event.now }
         requires numbers { NumbersRise (node_at self.old.nodes number) event.now }
-        ensures prepared { IfOk result (PreparesAt self.old number takes event.now) }
-        ensures ready { IfOk result (IsReady (node_at self.new.nodes number)) }
+        requires empty { IsEmptyPlan plan.old }
+        ensures prepared { OnOk result (PreparesAt self.old number takes event.now plan.new) }
+        ensures ready { OnOk result (IsReady (node_at self.new.nodes number) plan.new) }
         ensures same { SameWorld self.old self.new }
     {
         match self.links.next(takes) {
-            None => self.nodes[number].prepare(alloc, event, None),
+            None => self.nodes[number].prepare(alloc, event, None, plan),
             Some(packet) => {
                 let input = LinkPacket::new(packet.session, packet.stamp, packet.frame.as_slice());
-                self.nodes[number].prepare(alloc, event, Some(&input))
+                self.nodes[number].prepare(alloc, event, Some(&input), plan)
             }
         }
     }
@@ -105,40 +174,39 @@ impl World {
         alloc: Global,
         place: Place,
         number: usize,
-        prepared: Prepared,
+        plan: &mut Prepared,
     ) -> Result<(), RunFault>
         requires node { number < length self.old.nodes }
         requires clock { number < length self.old.broker_clocks }
-        requires ready { IsReady (node_at self.old.nodes number) prepared }
+        requires ready { IsReady (node_at self.old.nodes number) plan.old }
         requires within { IsWithin self.old }
         requires stamp { stamp_at self.old.broker_clocks number self.old.links place.takes < 2 ^ 64 }
-        ensures ok { OnOk result (IsFinished place number prepared self.old self.new) }
-        ensures within { OnOk result (limit_of (self.old.events + 1) self.old.idle (self.old.frame_bytes + bytes_of (wire_outs prepared.sent)) ≡ None) }
-        ensures large { (n : ℕ) → result ≡ Err (fault.TooLarge n) → limit_of (self.old.events + 1) self.old.idle (self.old.frame_bytes + bytes_of (wire_outs prepared.sent)) ≡ Some n }
+        ensures ok { OnOk result (IsFinished place number plan.old self.old self.new) }
+        ensures within { OnOk result (limit_of (self.old.events + 1) self.old.idle (self.old.frame_bytes + bytes_of plan.old.sent) ≡ None) }
+        ensures large { (n : ℕ) → result ≡ Err (fault.TooLarge n) → limit_of (self.old.events + 1) self.old.idle (self.old.frame_bytes + bytes_of plan.old.sent) ≡ Some n }
         ensures err { OnErr result (self.new ≡ self.old) }
     {
-        let mut prepared = prepared;
-        let sent = wire_outs(alloc, prepared.take_sent(alloc))?;
+        let sent = plan.take_sent(alloc);
         let bytes = self.bytes_after(sent.as_slice())?;
         let stamp = self.stamp_at(number, place.takes);
         self.links.deliver(place.sender(), Stamp::new(stamp), sent)?;
-        self.commit_at(place, number, prepared, stamp);
+        self.commit_at(place, number, plan, stamp);
         self.counts.frame_bytes = bytes;
         Ok(())
     }
 
     /// Takes the packet of an event whose packets were delivered, and does what was prepared.
     #[tactic(auto, using(crate::proofs::Nodes::set_node))]
-    fn commit_at(&mut self, place: Place, number: usize, prepared: Prepared, stamp: u64)
+    fn commit_at(&mut self, place: Place, number: usize, plan: &mut Prepared, stamp: u64)
         requires node { number < length self.old.nodes }
         requires clock { number < length self.old.broker_clocks }
-        requires ready { IsReady (node_at self.old.nodes number) prepared }
+        requires ready { IsReady (node_at self.old.nodes number) plan.old }
         requires count { self.old.events + 1 < 2 ^ 64 }
-        ensures nodes { IsSetNode self.old.nodes self.new.nodes number (done_at (node_at self.old.nodes number) prepared) }
+        ensures nodes { IsSetNode self.old.nodes self.new.nodes number (done_at (node_at self.old.nodes number) plan.old) }
         ensures rest { IsCommitted place number stamp self.old self.new }
     {
         let _taken = self.links.take(place.takes);
-        self.nodes[number].commit(prepared);
+        self.nodes[number].commit(plan);
         self.broker_clocks[number] = stamp;
         self.counts.events += 1;
     }
@@ -169,16 +237,4 @@ impl World {
     {
         1 + self.broker_clocks[number].max(self.links.stamp(takes))
     }
-}
-
-/// The packets of an event as links take them.
-pub(crate) fn wire_outs(alloc: Global, sent: Vec<Outgoing>) -> Result<Vec<WireOut>, Memory>
-    ensures { IfOk result (λ os. os.items ≡ wire_outs sent.items) }
-{
-    let mut outs = Vec::new(alloc);
-    for out in sent {
-        let Outgoing { to, session, frame } = out;
-        outs.push(WireOut { to, session, frame })?;
-    }
-    Ok(outs)
 }

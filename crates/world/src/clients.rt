@@ -7,7 +7,7 @@ ghost use Rattle.geo_base.specs.declared.event.Event.TheVariants as event;
 ghost use Rattle.geo_base.specs.Happening.{happens};
 ghost use Rattle.geo_base.specs.Setup.{declared_at};
 ghost use Rattle.geo_base.specs.World.{World as Machine};
-ghost use Rattle.world.specs.ClientSteps.{IsSent, client_in, client_outs};
+ghost use Rattle.world.specs.ClientSteps.{IsSent, client_in};
 ghost use Rattle.world.specs.declared.fault.RunFault.TheVariants as fault;
 ghost use Rattle.world.specs.Steps.{Leads};
 ghost use Rattle.world.specs.World.{AreNodes, IsAt, IsWithin, kept_of};
@@ -18,15 +18,15 @@ ghost use Rattle.world_kept.specs.Reached.{Reached};
 
 use crate::fault::RunFault;
 use crate::world::World;
-use client::{ClientSite, Outgoing, Prepared};
-use geo_base::{Memory, Stamp};
-use links::{LinkName, Node, WireOut};
+use client::{ClientSite, Prepared};
+use geo_base::Stamp;
+use links::{LinkName, Node};
 use script_text::{ClientDecl, Scenario};
 use std::alloc::Global;
 
 impl World {
     /// A client does what its next line says, or can't yet.
-    #[tactic(auto, using(crate::proofs::ClientEvents::client_below, crate::proofs::ClientEvents::clock_below, crate::proofs::ClientEvents::can_count, crate::proofs::ClientEvents::stamp_fits, crate::proofs::Places::at_within, crate::proofs::Leading::wants, crate::proofs::ClientEvents::leads_go, crate::proofs::ClientEvents::rests_go, crate::proofs::ClientEvents::nodes_sent, crate::proofs::ClientEvents::nodes_idle))]
+    #[tactic(auto, using(crate::proofs::ClientEvents::client_below, crate::proofs::ClientEvents::clock_below, crate::proofs::ClientEvents::can_connect, crate::proofs::ClientEvents::stamp_fits, crate::proofs::Places::at_within, crate::proofs::Leading::wants, crate::proofs::ClientEvents::leads_go, crate::proofs::ClientEvents::rests_go, crate::proofs::ClientEvents::nodes_sent, crate::proofs::ClientEvents::nodes_idle))]
     pub(crate) fn client_goes(
         &mut self,
         alloc: Global,
@@ -49,7 +49,7 @@ impl World {
     }
 
     /// A client connects again where its connection was lost.
-    #[tactic(auto, using(crate::proofs::ClientEvents::client_below, crate::proofs::ClientEvents::clock_below, crate::proofs::ClientEvents::can_count, crate::proofs::ClientEvents::stamp_fits, crate::proofs::Places::at_within, crate::proofs::Leading::wants, crate::proofs::ClientEvents::leads_reconnect, crate::proofs::ClientEvents::rests_reconnect, crate::proofs::ClientEvents::nodes_sent, crate::proofs::ClientEvents::nodes_idle))]
+    #[tactic(auto, using(crate::proofs::ClientEvents::client_below, crate::proofs::ClientEvents::clock_below, crate::proofs::ClientEvents::can_connect, crate::proofs::ClientEvents::stamp_fits, crate::proofs::Places::at_within, crate::proofs::Leading::wants, crate::proofs::ClientEvents::leads_reconnect, crate::proofs::ClientEvents::rests_reconnect, crate::proofs::ClientEvents::nodes_sent, crate::proofs::ClientEvents::nodes_idle))]
     pub(crate) fn client_reconnects(
         &mut self,
         alloc: Global,
@@ -84,12 +84,12 @@ impl World {
         requires within { IsWithin self.old }
         requires stamp { stamp_at self.old.client_clocks client self.old.links None < 2 ^ 64 }
         ensures ok { OnOk result (IsSent client prepared self.old self.new) }
-        ensures within { OnOk result (limit_of (self.old.events + 1) self.old.idle (self.old.frame_bytes + bytes_of (client_outs prepared.sent)) ≡ None) }
-        ensures large { (n : ℕ) → result ≡ Err (fault.TooLarge n) → limit_of (self.old.events + 1) self.old.idle (self.old.frame_bytes + bytes_of (client_outs prepared.sent)) ≡ Some n }
+        ensures within { OnOk result (limit_of (self.old.events + 1) self.old.idle (self.old.frame_bytes + bytes_of prepared.sent) ≡ None) }
+        ensures large { (n : ℕ) → result ≡ Err (fault.TooLarge n) → limit_of (self.old.events + 1) self.old.idle (self.old.frame_bytes + bytes_of prepared.sent) ≡ Some n }
         ensures err { OnErr result (self.new ≡ self.old) }
     {
         let mut prepared = prepared;
-        let sent = client_outs(alloc, prepared.take_sent(alloc))?;
+        let sent = prepared.take_sent(alloc);
         let bytes = self.bytes_after(sent.as_slice())?;
         let stamp = self.client_stamp(client, None);
         self.links
@@ -152,16 +152,4 @@ fn declared_of(scenario: &Scenario, client: u32) -> &ClientDecl
     ensures lines { list_all is_short_line (declared_at scenario.now.setup client).lines ≡ true }
 {
     &scenario.clients()[client as usize]
-}
-
-/// The packets of an event of a client as links take them.
-fn client_outs(alloc: Global, sent: Vec<Outgoing>) -> Result<Vec<WireOut>, Memory>
-    ensures { IfOk result (λ os. os.items ≡ client_outs sent.items) }
-{
-    let mut outs = Vec::new(alloc);
-    for out in sent {
-        let Outgoing { to, session, frame } = out;
-        outs.push(WireOut { to, session, frame })?;
-    }
-    Ok(outs)
 }

@@ -5,7 +5,7 @@ ghost use Rattle.geo_base.specs.Planned.{planned};
 ghost use Rattle.geo_base.specs.World.{World as Machine};
 ghost use Rattle.world.specs.declared.fault.RunFault.TheVariants as fault;
 ghost use Rattle.world.specs.Steps.{IsHalted, IsStopped, Leads};
-ghost use Rattle.world.specs.World.{AreNodes, IsAt, IsWithin, SameWorld, kept_of, node_at};
+ghost use Rattle.world.specs.World.{IsAt, IsWithin, SameWorld, kept_of, node_at};
 ghost use Rattle.script_text.specs.Scenario.{IsEvent};
 ghost use Rattle.broker.specs.Events.{IsOfNode, NumbersRise};
 ghost use Rattle.world_kept.specs.Events.{IsBrokers};
@@ -24,9 +24,11 @@ use script_text::Scenario;
 use std::alloc::Global;
 
 impl World {
-    /// A stop of a broker behind the first `writes` durable writes of an event.
-    #[tactic(auto, using(crate::proofs::Places::topic_below, crate::proofs::Places::cluster_below, crate::proofs::Places::number_of, crate::proofs::Places::number_below, crate::proofs::Places::number_rises, crate::proofs::Places::at_within, crate::proofs::Halting::leads_large, crate::proofs::Halting::leads_halted, crate::proofs::Halting::nodes_halted, crate::proofs::Halting::nodes_same, crate::proofs::Halting::same_still, crate::proofs::Leading::wants))]
-    pub(crate) fn broker_halt(
+    /// Stops a broker behind the first `writes` durable writes of an event of it: what they wrote stays, what is in memory is lost,
+    /// nothing is sent, and the packet that the event takes is gone. An `Err` changes nothing of the world: a limit of the run that
+    /// the stop would pass, or want of memory.
+    #[tactic(auto, using(crate::proofs::Places::topic_below, crate::proofs::Places::cluster_below, crate::proofs::Places::number_of, crate::proofs::Places::number_below, crate::proofs::Places::number_rises, crate::proofs::Places::at_within, crate::proofs::Places::at_same, crate::proofs::Halting::leads_large, crate::proofs::Halting::leads_halted, crate::proofs::Halting::same_still, crate::proofs::Leading::wants))]
+    pub fn halt(
         &mut self,
         alloc: Global,
         scenario: &Scenario,
@@ -38,7 +40,7 @@ impl World {
         requires scripted { IsEvent scenario.now.setup event.now }
         ensures leads { (w : Machine) → Reached scenario.now.setup w → Stands scenario.now.setup (kept_of self.old) w
             → Leads scenario.now.setup self.old self.new (halts_planned scenario.now.setup w writes (planned scenario.now.setup w event.now)) result }
-        ensures nodes { AreNodes scenario.now.setup self.new.nodes }
+        ensures at { IsAt scenario.now.setup self.new }
         ensures err { OnErr result (SameWorld self.old self.new) }
     {
         let place = place_of(scenario, event);

@@ -12,7 +12,7 @@ ghost use Rattle.world_kept.specs.Kept.{opening_kept};
 use crate::clients::site_of;
 use crate::world::{Counts, World};
 use broker::TopicNode;
-use broker_plans::Site;
+use broker_state::{Prepared, Site};
 use client::Client;
 use geo_base::limits::SUBSCRIPTIONS;
 use geo_base::{ClusterName, Memory, Name, SubName};
@@ -41,6 +41,7 @@ impl World {
                 rounds: 0,
                 frame_bytes: 0,
             },
+            plan: Prepared::new(alloc),
         })
     }
 }

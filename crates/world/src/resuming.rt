@@ -15,6 +15,7 @@ ghost use Rattle.world_kept.specs.Standing.{Stands};
 use crate::opening::{new_site, sub_names};
 use crate::world::{Counts, World};
 use broker::TopicNode;
+use broker_state::Prepared;
 use client::{Client, ClientState};
 use geo_base::Memory;
 use links::Links;
@@ -59,6 +60,7 @@ impl World {
                 rounds: counts.rounds,
                 frame_bytes: counts.frame_bytes,
             },
+            plan: Prepared::new(alloc),
         };
         Ok((scenario, world))
     }

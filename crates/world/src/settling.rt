@@ -1,19 +1,19 @@
 //! Settling: every link is reset, and then rounds of take, receipt and read, until one does nothing.
-ghost use Rattle.std.specs.Prelude.{◌≡◌, ℕ, ◌+◌, ◌<◌, ◌≤◌, true, All, IfOk, OnErr, OnOk, None, Ok};
+ghost use Rattle.std.specs.Prelude.{◌≡◌, ◌+◌, ◌<◌, ◌≤◌, true, All, IfOk, OnErr, OnOk, Ok};
 ghost use Rattle.geo_base.specs.Run.{Ran, all_limits, pairs, round_of, settled_world};
 ghost use Rattle.geo_base.specs.World.{World as Machine};
 ghost use Rattle.world.specs.Runs.{Comes, at_world};
-ghost use Rattle.world.specs.Settling.{IsLater, IsRounding, IsSettling, IsSettlingEvent, Rounds, Settles, settled_by};
-ghost use Rattle.world.specs.Steps.{Leads};
-ghost use Rattle.world.specs.World.{IsAt, SameWorld, kept_of};
+ghost use Rattle.world.specs.Settling.{IsRounding, IsSettling, IsSettlingEvent, Rounds, Settles, settled_by};
+ghost use Rattle.world.specs.Steps.{IsLater, Leads};
+ghost use Rattle.world.specs.World.{IsAt, IsWithin, SameWorld, kept_of};
 ghost use Rattle.world_kept.specs.Standing.{Stands};
 ghost use Rattle.world_kept.specs.Reached.{Reached};
+ghost use Rattle.world_laws.specs.Starts.{most_at_start};
 
 use crate::fault::RunFault;
-use crate::place::place_of;
 use crate::settling_events::SettlingEvents;
-use crate::world::{World, node_number};
-use geo_base::{Event, Memory};
+use crate::world::World;
+use geo_base::Event;
 use script_text::Scenario;
 use std::alloc::Global;
 
@@ -69,20 +69,17 @@ impl World {
         if self.counts.events == before {
             return Ok(false);
         }
-        self.counts_round()?;
+        self.counts_round();
         Ok(true)
     }
 
-    /// Counts a round. So many that 64 bits can't count them are in no memory: each did an event.
-    fn counts_round(&mut self) -> Result<(), Memory>
-        ensures ok { OnOk result (self.new ≡ record self.old { rounds = self.old.rounds + 1 }) }
-        ensures err { OnErr result (self.new ≡ self.old) }
+    /// Counts a round.
+    fn counts_round(&mut self)
+        requires within { IsWithin self.old }
+        requires few { self.old.rounds < most_at_start + self.old.events }
+        ensures { self.new ≡ record self.old { rounds = self.old.rounds + 1 } }
     {
-        self.counts.rounds = match self.counts.rounds.checked_add(1) {
-            Some(rounds) => rounds,
-            None => return Err(Memory),
-        };
-        Ok(())
+        self.counts.rounds += 1;
     }
 
     /// Events of settling, one after another, up to the first that would pass a limit of the run.
@@ -119,12 +116,7 @@ impl World {
         ensures later { IsLater self.old self.new }
         ensures err { OnErr result (SameWorld self.old self.new) }
     {
-        let place = place_of(scenario, event);
-        let number = node_number(scenario, place.topic, place.cluster);
-        let prepared = self.prepare_at(alloc, number, event, place.takes)?;
-        if prepared.is_idle() {
-            return Ok(());
-        }
-        self.finish_at(alloc, place, number, prepared)
+        let _enabled = self.acts(alloc, scenario, event)?;
+        Ok(())
     }
 }

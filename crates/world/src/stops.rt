@@ -2,16 +2,16 @@
 //!
 //! The brokers start again in a recursion: on the way in each takes the memory that it needs, and on the way back, which cannot
 //! fail any more, each does it. So all of them start again or none.
-ghost use Rattle.std.specs.Prelude.{◌≡◌, All, IfOk, OnErr, OnOk, map};
-ghost use Rattle.broker_state.specs.Prepared.{plan_in};
+ghost use Rattle.std.specs.Prelude.{◌≡◌, OnErr, OnOk, map};
+ghost use Rattle.broker_state.specs.Prepared.{IsEmptyPlan, plan_in};
 ghost use Rattle.geo_base.specs.Client.{unconnected};
 ghost use Rattle.geo_base.specs.Happening.{stops};
 ghost use Rattle.geo_base.specs.Plan.{done};
 ghost use Rattle.geo_base.specs.Seeking.{restart};
 ghost use Rattle.geo_base.specs.World.{World as Machine};
-ghost use Rattle.world.specs.Restarts.{CanRestart, IsRestarted, IsSame};
+ghost use Rattle.world.specs.Restarts.{IsRestarted, IsSame};
 ghost use Rattle.world.specs.Steps.{Leads};
-ghost use Rattle.world.specs.World.{AreNodes, IsAt, SameWorld, kept_of};
+ghost use Rattle.world.specs.World.{IsAt, SameWorld, kept_of};
 ghost use Rattle.broker.specs.Node.{IsReady};
 ghost use Rattle.links.specs.Each.{Each};
 ghost use Rattle.world_kept.specs.Standing.{Stands};
@@ -29,22 +29,11 @@ use std::alloc::Global;
 impl World {
     /// Stops everything: every broker starts again, every packet that is not taken is lost, and every client loses its connection.
     /// It is one event. An `Err` changes nothing of the world: a limit of the run that it would pass, or want of memory.
-    #[tactic(auto, using(crate::proofs::Stopping::after_stop))]
     pub fn stop(&mut self, alloc: Global, scenario: &Scenario) -> Result<(), RunFault>
         requires at { IsAt scenario.now.setup self.old }
         ensures leads { (w : Machine) → Reached scenario.now.setup w → Stands scenario.now.setup (kept_of self.old) w
             → Leads scenario.now.setup self.old self.new (stops scenario.now.setup w) result }
         ensures at { IsAt scenario.now.setup self.new }
-        ensures err { OnErr result (SameWorld self.old self.new) }
-    {
-        self.all_stop(alloc, scenario)
-    }
-
-    fn all_stop(&mut self, alloc: Global, scenario: &Scenario) -> Result<(), RunFault>
-        requires at { IsAt scenario.now.setup self.old }
-        ensures leads { (w : Machine) → Reached scenario.now.setup w → Stands scenario.now.setup (kept_of self.old) w
-            → Leads scenario.now.setup self.old self.new (stops scenario.now.setup w) result }
-        ensures nodes { AreNodes scenario.now.setup self.new.nodes }
         ensures err { OnErr result (SameWorld self.old self.new) }
     {
         let _known = scenario.topics();
@@ -59,31 +48,31 @@ impl World {
 
 /// Starts brokers again: all of them, or none where memory is wanting.
 fn restart_all(alloc: Global, nodes: &mut [TopicNode]) -> Result<(), Memory>
-    requires { All CanRestart nodes.old }
     ensures ok { OnOk result (Each IsRestarted nodes.old nodes.new) }
     ensures err { OnErr result (Each IsSame nodes.old nodes.new) }
 {
     let Some((first, rest)) = nodes.split_first_mut() else {
         return Ok(());
     };
-    let restart = prepare_restart(alloc, first)?;
+    let mut plan = Prepared::new(alloc);
+    prepare_restart(alloc, first, &mut plan)?;
     restart_all(alloc, rest)?;
-    first.commit(restart);
+    first.commit(&mut plan);
     Ok(())
 }
 
 /// What a broker will do to start again; it takes all the memory.
-fn prepare_restart(alloc: Global, node: &mut TopicNode) -> Result<Prepared, Memory>
-    requires { CanRestart node.old }
-    ensures ready { IfOk result (IsReady node.new) }
-    ensures restarts { IfOk result (λ p. done node.old.site.per_ledger node.old.broker (plan_in node.old.broker p) ≡ done node.old.site.per_ledger node.old.broker restart) }
+fn prepare_restart(alloc: Global, node: &mut TopicNode, plan: &mut Prepared) -> Result<(), Memory>
+    requires { IsEmptyPlan plan.old }
+    ensures ready { OnOk result (IsReady node.new plan.new) }
+    ensures restarts { OnOk result (done node.old.site.per_ledger node.old.broker (plan_in node.old.broker plan.new) ≡ done node.old.site.per_ledger node.old.broker restart) }
     ensures same { IsSame node.old node.new }
 {
     let restart = Event::Restart {
         topic: node.topic(),
         cluster: node.cluster(),
     };
-    node.prepare(alloc, &restart, None)
+    node.prepare(alloc, &restart, None, plan)
 }
 
 /// Every client loses its connection.

@@ -6,6 +6,7 @@ ghost use Rattle.world.specs.World.{AreNodes, IsAt, kept_of, node_at};
 ghost use Rattle.world_kept.specs.Kept.{opening_kept};
 
 use broker::TopicNode;
+use broker_state::Prepared;
 use client::Client;
 use geo_base::Memory;
 use links::Links;
@@ -13,7 +14,8 @@ use script_text::Scenario;
 use std::alloc::Global;
 use std::marker::Model;
 
-/// Brokers are numbered by topic and then by cluster, clients in the script's order. A clock is a node's last stamp.
+/// Brokers are numbered by topic and then by cluster, clients in the script's order. A clock is a node's last stamp. The brokers'
+/// events are prepared in one plan, whose queues keep their memory; between events it is empty.
 #[derive(Drop)]
 pub struct World {
     pub(crate) nodes: Vec<TopicNode>,
@@ -22,6 +24,7 @@ pub struct World {
     pub(crate) broker_clocks: Vec<u64>,
     pub(crate) client_clocks: Vec<u64>,
     pub(crate) counts: Counts,
+    pub(crate) plan: Prepared,
 }
 
 /// Events that were done, idle ones, rounds of settling, and the bytes of all frames that were sent.
@@ -34,7 +37,7 @@ pub struct Counts {
 }
 
 impl Model for World {
-    ghost use Rattle.world.specs.World.{WorldBook};
+    ghost use Rattle.world.specs.World.{WorldBook, WorldHolds};
 
     ghost Value = { WorldBook };
 
@@ -49,6 +52,8 @@ impl Model for World {
       rounds = w.counts.rounds;
       frame_bytes = w.counts.frame_bytes;
     } };
+
+    ghost invariant = { λ w. WorldHolds w.plan w.counts.rounds w.counts.events };
 }
 
 impl World {

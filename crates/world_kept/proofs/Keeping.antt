@@ -29,7 +29,7 @@ use Rattle.links.proofs.Simulated.{broker_stands, bytes_stand, client_stands, go
 use Rattle.links.specs.declared.name.LinkName.{LinkName}
 use Rattle.links.specs.declared.name.LinkName.TheVariants as name
 use Rattle.links.specs.declared.name.Node.TheVariants as wire_node
-use Rattle.links.specs.declared.packet.WireOut.{WireOut}
+use Rattle.geo_base.specs.declared.packet.WireOut.{WireOut}
 use Rattle.wire_ends.specs.declared.packet.WirePacket.{WirePacket}
 use Rattle.links.specs.Each.{Both, both, neither, none as none_sent}
 use Rattle.links.specs.Names.{taken_name}

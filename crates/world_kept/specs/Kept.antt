@@ -5,7 +5,7 @@ use Rattle.geo_base.specs.Client.{Client, new_client}
 use Rattle.geo_base.specs.Setup.{Setup}
 use Rattle.links.specs.declared.name.LinkName.{LinkName}
 use Rattle.links.specs.declared.name.Node.{Node}
-use Rattle.links.specs.declared.packet.WireOut.{WireOut}
+use Rattle.geo_base.specs.declared.packet.WireOut.{WireOut}
 use Rattle.links.specs.Queues.{WireLinks, all_discarded, bytes_of, delivered, empty_links, packet_on, stamp_of, taken_from}
 
 -- brokers by topic and then by cluster; a clock is a node's last stamp; events are those that were not idle

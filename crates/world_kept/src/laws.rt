@@ -18,7 +18,7 @@ ghost use Rattle.frame_laws.specs.BytePackets.{StandsForPacket};
 ghost use Rattle.links.specs.declared.name.LinkName.{LinkName};
 ghost use Rattle.links.specs.declared.name.LinkName.TheVariants as name;
 ghost use Rattle.links.specs.declared.name.Node.TheVariants as wire_node;
-ghost use Rattle.links.specs.declared.packet.WireOut.{WireOut};
+ghost use Rattle.geo_base.specs.declared.packet.WireOut.{WireOut};
 ghost use Rattle.wire_ends.specs.declared.packet.WirePacket.{WirePacket};
 ghost use Rattle.links.specs.Each.{Both};
 ghost use Rattle.links.specs.Names.{taken_name};

@@ -62,9 +62,9 @@ pub record NumbersWithin (s : Setup) (n : ℕ) (w : World) : Type 0 where
 abbrev pub LawNumbers : Type 0
 LawNumbers = (s : Setup) → BetweenEvents s (λ w. NumbersWithin s w.events w)
 
--- markers: the number of a cluster's next own marker has 64 bits
+-- markers: the number of a cluster's next own marker has 64 bits, and so has the one behind it
 abbrev pub MarkersRise : Setup → World → Type 0
-MarkersRise s w = (t x : ℕ) → t < length s.topics → x < length s.clusters → next_marker x (topic_at s w t x).entries < 2 ^ 64
+MarkersRise s w = (t x : ℕ) → t < length s.topics → x < length s.clusters → next_marker x (topic_at s w t x).entries + 1 < 2 ^ 64
 
 abbrev pub LawMarkers : Type 0
 LawMarkers = (s : Setup) → IsScripted s → BetweenEvents s (λ w. IsShort w → MarkersRise s w)

@@ -3,7 +3,7 @@ ghost use Rattle.std.specs.Prelude.{◌≡◌, ◌<◌, ◌^◌, ◌++◌, Some,
 ghost use Rattle.geo_base.specs.Client.{command_at, commands_at, connected_to, connects, reconnect};
 ghost use Rattle.geo_base.specs.Going.{past};
 ghost use Rattle.client.specs.Changing.{ClientFits, acted, as_connected};
-ghost use Rattle.client.specs.Counted.{CanCount};
+ghost use Rattle.client.specs.Counted.{CanConnect};
 ghost use Rattle.client.specs.Prepared.{IsPrepared};
 
 use crate::client::Client;
@@ -20,7 +20,7 @@ impl Client {
     /// `produce`, `sub` and `flow`, then each publish without receipt in order. Nothing changes; an `Err` is want of memory.
     #[tactic(auto, using(crate::proofs::Preparing::prepared_is, crate::proofs::Preparing::prepared_fits))]
     pub fn prepare_reconnect(&self, alloc: Global, site: &ClientSite) -> Result<Prepared, Memory>
-        requires { CanCount self.now }
+        requires { CanConnect self.now }
         ensures prepared { IfOk result (λ p. IsPrepared site.now.setup.clusters self.now p (reconnect site.now.setup site.now.declared self.now)) }
         ensures fits { IfOk result (λ p. ClientFits p.change self.now) }
     {
@@ -31,7 +31,7 @@ impl Client {
 
     #[tactic(auto, unfolding(geo_base::specs::Client::reconnect))]
     fn plan_reconnect(&self, alloc: Global, site: &ClientSite) -> Result<Plan, Memory>
-        requires { CanCount self.now }
+        requires { CanConnect self.now }
         ensures acted { IfOk result (λ p. acted p self.now ≡ reconnect site.now.setup site.now.declared self.now) }
         ensures fits { IfOk result (λ p. ClientFits p.change self.now) }
     {
@@ -47,7 +47,7 @@ impl Client {
         cluster: u32,
     ) -> Result<Plan, Memory>
         requires more { self.now.done < 2 ^ 63 }
-        requires count { CanCount self.now }
+        requires connection { CanConnect self.now }
         ensures acted { IfOk result (λ p. acted p self.now ≡ connects site.now.setup site.now.declared (connected_to cluster (past self.now))) }
         ensures fits { IfOk result (λ p. ClientFits p.change self.now) }
     {
@@ -62,7 +62,7 @@ impl Client {
         cluster: u32,
         change: ClientChange,
     ) -> Result<Plan, Memory>
-        requires { CanCount self.now }
+        requires { CanConnect self.now }
         ensures { IfOk result (λ p. p ≡ record { change = Some change; sent = (connects site.now.setup site.now.declared (connected_to cluster self.now)).sent }) }
     {
         let connection = Connection {

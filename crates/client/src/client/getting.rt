@@ -5,7 +5,7 @@ ghost use Rattle.std.specs.Option.{option_copied};
 ghost use Rattle.geo_base.specs.Getting.{answered, get, got_frame, got_message, is_duplicate, is_number, publishes, received, with_error, with_receipt, without_seq};
 ghost use Rattle.geo_base.specs.declared.packet.Packet.{Packet};
 ghost use Rattle.client.specs.Counted.{CanCount};
-ghost use Rattle.client.specs.Packets.{IsDiscarded, StandsFor, StandsForNext};
+ghost use Rattle.client.specs.Packets.{IsDiscarded, IsSaid, StandsFor, StandsForNext};
 
 use crate::client::Client;
 use crate::packet::Incoming;
@@ -17,6 +17,7 @@ use std::alloc::Global;
 impl Client {
     /// A client takes a packet, or finds none, which is idle; the answer is whether it took one. What was sent on another
     /// connection, and bytes that can't be read, are discarded. An `Err` is want of memory, and changes nothing.
+    #[tactic(auto, using(crate::proofs::Wire::said_none))]
     pub fn get(
         &mut self,
         alloc: Global,
@@ -28,6 +29,7 @@ impl Client {
         ensures client { (v : Option Packet) → StandsForNext site.now.setup.clusters (option_copied input.entry) v → OnOk result (self.new ≡ (get site.now.declared self.old v).client) }
         ensures took { (v : Option Packet) → StandsForNext site.now.setup.clusters (option_copied input.entry) v → IfOk result (λ took. not took ≡ (get site.now.declared self.old v).idle) }
         ensures discarded { IfSome (option_copied input.entry) (λ i. IsDiscarded self.old i → OnOk result (self.new ≡ self.old)) }
+        ensures said { OnOk result (IsSaid site.now.setup.clusters (option_copied input.entry)) }
         ensures err { OnErr result (self.new ≡ self.old) }
     {
         match input {
@@ -39,17 +41,18 @@ impl Client {
         }
     }
 
-    /// A packet came.
+    /// A packet came. Also one of another connection is read, so that it is known to have a value.
     fn take(&mut self, alloc: Global, site: &ClientSite, packet: &Incoming) -> Result<(), Memory>
         requires { CanCount self.old }
         ensures client { (p : Packet) → StandsFor site.now.setup.clusters packet.now p → OnOk result (self.new ≡ (get site.now.declared self.old (Some p)).client) }
         ensures discarded { IsDiscarded self.old packet.now → OnOk result (self.new ≡ self.old) }
+        ensures said { OnOk result (IsSaid site.now.setup.clusters (Some packet.now)) }
         ensures err { OnErr result (self.new ≡ self.old) }
     {
+        let frame = read_value(alloc, site.clusters(), packet.bytes())?;
         if packet.session() != self.connection {
             return Ok(());
         }
-        let frame = read_value(alloc, site.clusters(), packet.bytes())?;
         self.get_frame(alloc, site, &frame)?;
         Ok(())
     }

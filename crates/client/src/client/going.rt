@@ -4,7 +4,7 @@ ghost use Rattle.geo_base.specs.Client.{command};
 ghost use Rattle.geo_base.specs.Going.{go, go_line, most_unanswered};
 ghost use Rattle.client.specs.Site.{is_short_line};
 ghost use Rattle.client.specs.Changing.{ClientFits, acted, as_connected};
-ghost use Rattle.client.specs.Counted.{CanCount};
+ghost use Rattle.client.specs.Counted.{CanConnect};
 ghost use Rattle.client.specs.Prepared.{IsPrepared};
 
 use crate::client::Client;
@@ -23,7 +23,7 @@ impl Client {
     /// acknowledges what it does not hold. Nothing changes; an `Err` is want of memory.
     #[tactic(auto, using(crate::proofs::Preparing::prepared_is, crate::proofs::Preparing::prepared_fits))]
     pub fn prepare_go(&self, alloc: Global, site: &ClientSite) -> Result<Prepared, Memory>
-        requires { CanCount self.now }
+        requires { CanConnect self.now }
         ensures prepared { IfOk result (λ p. IsPrepared site.now.setup.clusters self.now p (go site.now.setup site.now.declared self.now)) }
         ensures fits { IfOk result (λ p. ClientFits p.change self.now) }
     {
@@ -35,7 +35,7 @@ impl Client {
     /// What the client's next line does.
     #[tactic(auto, unfolding(geo_base::specs::Going::go))]
     fn plan_go(&self, alloc: Global, site: &ClientSite) -> Result<Plan, Memory>
-        requires { CanCount self.now }
+        requires { CanConnect self.now }
         ensures acted { IfOk result (λ p. acted p self.now ≡ go site.now.setup site.now.declared self.now) }
         ensures fits { IfOk result (λ p. ClientFits p.change self.now) }
     {
@@ -52,7 +52,7 @@ impl Client {
     fn goes(&self, alloc: Global, site: &ClientSite, line: &Line) -> Result<Plan, Memory>
         requires short { is_short_line line.now ≡ true }
         requires more { self.now.done < 2 ^ 63 }
-        requires count { CanCount self.now }
+        requires connection { CanConnect self.now }
         ensures acted { IfOk result (λ p. acted p self.now ≡ go_line site.now.setup site.now.declared self.now (Some line.now)) }
         ensures fits { IfOk result (λ p. ClientFits p.change self.now) }
     {

@@ -3,9 +3,8 @@ ghost use Rattle.std.specs.Prelude.{◌≡◌, ◌∷◌, [], ◌++◌, OnOk, On
 ghost use Rattle.client.specs.Packets.{AreWritten, IsWrittenOut};
 ghost use Rattle.client.specs.Sent.{IsSent};
 
-use crate::packet::Outgoing;
 use frame_values::write_value;
-use geo_base::{ClusterName, Frame, Memory, Out, Peer};
+use geo_base::{ClusterName, Frame, Memory, Out, Peer, WireOut};
 use std::alloc::Global;
 use std::marker::Model;
 
@@ -29,10 +28,10 @@ impl Model for ClientOut {
 impl ClientOut {
     /// The packet, written; `names` are those of the clusters.
     #[tactic(auto, using(crate::proofs::Writable::writable))]
-    pub(super) fn write(&self, alloc: Global, names: &[ClusterName]) -> Result<Outgoing, Memory>
+    pub(super) fn write(&self, alloc: Global, names: &[ClusterName]) -> Result<WireOut, Memory>
         ensures { IfOk result (λ w. IsWrittenOut names.now w self.now) }
     {
-        Ok(Outgoing {
+        Ok(WireOut {
             to: self.out.to,
             session: self.out.session,
             frame: write_value(alloc, names, &self.out.frame)?,
@@ -78,7 +77,7 @@ pub(super) fn write_all(
     alloc: Global,
     names: &[ClusterName],
     sent: &[ClientOut],
-) -> Result<Vec<Outgoing>, Memory>
+) -> Result<Vec<WireOut>, Memory>
     ensures { IfOk result (λ ws. AreWritten names.now ws.items sent.now) }
 {
     let mut written = Vec::new(alloc);
@@ -89,7 +88,7 @@ pub(super) fn write_all(
 }
 
 /// One more written packet.
-fn add_written(written: &mut Vec<Outgoing>, out: Outgoing) -> Result<(), Memory>
+fn add_written(written: &mut Vec<WireOut>, out: WireOut) -> Result<(), Memory>
     ensures { OnOk result (written.new.items ≡ written.old.items ++ out ∷ []) }
 {
     written.push(out)?;

@@ -5,8 +5,7 @@ ghost use Rattle.client.specs.Packets.{AreWritten};
 use crate::client::change::ClientChange;
 use crate::client::outgoing::write_all;
 use crate::client::plan::Plan;
-use crate::packet::Outgoing;
-use geo_base::{ClusterName, Memory};
+use geo_base::{ClusterName, Memory, WireOut};
 use std::alloc::Global;
 use std::marker::Model;
 
@@ -14,7 +13,7 @@ use std::marker::Model;
 #[derive(Debug, Drop)]
 pub struct Prepared {
     change: Option<ClientChange>,
-    sent: Vec<Outgoing>,
+    sent: Vec<WireOut>,
 }
 
 impl Model for Prepared {
@@ -48,7 +47,7 @@ impl Prepared {
     }
 
     /// What is sent, which is taken out.
-    pub fn take_sent(&mut self, alloc: Global) -> Vec<Outgoing>
+    pub fn take_sent(&mut self, alloc: Global) -> Vec<WireOut>
         ensures sent { result.items ≡ self.old.sent }
         ensures rest { self.new ≡ record self.old { sent = [] } }
     {

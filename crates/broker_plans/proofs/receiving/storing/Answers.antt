@@ -9,7 +9,7 @@ returns-then-not-accepts-clause-prepared c =
     let e = c.args.entry in
     let told = stream_tells b.entries e.ident c.in_ok-stream.stream c.accepts.result c.in_ok-stream.ensures c.accepts.ensures in
     let old : accepts b.entries e.ident ≡ false = cc in
-    old_stored c.args.site.now b e c.quiet-prepared.result old c.quiet-prepared.ensures
+    old_stored c.args.book.now.site b e c.begin.new.self old c.begin.ensures
 
 pub returns-clause-prepared : goal.returns-clause-prepared
 returns-clause-prepared c =
@@ -17,5 +17,5 @@ returns-clause-prepared c =
     let e = c.args.entry in
     let told = stream_tells b.entries e.ident c.in_ok-stream.stream c.accepts.result c.in_ok-stream.ensures c.accepts.ensures in
     let new : accepts b.entries e.ident ≡ true = cc in
-    let is = stores_is e c.in_ok-stream.stream c.quiet-prepared.result c.write.new.self c.in_ok-stream.ensures c.quiet-prepared.ensures c.in_ok-write.ensures in
-    new_stored c.args.site.now b e c.write.new.self new c.requires.storable is
+    let is = stores_is e c.in_ok-stream.stream c.begin.new.self c.write.new.self c.in_ok-stream.ensures c.begin.ensures c.in_ok-write.ensures in
+    new_stored c.args.book.now.site b e c.write.new.self new c.requires.storable is

@@ -12,7 +12,7 @@ use Rattle.broker_serving.proofs.producing.attach_producer.Goals as goal
 
 pub returns-clause-prepared : goal.returns-clause-prepared
 returns-clause-prepared c =
-    let h = c.args.site.now in
+    let h = c.args.book.now.site in
     let b = c.args.book.now.broker in
     let x = c.args.client in
     let s = open_at b x in
@@ -21,8 +21,8 @@ returns-clause-prepared c =
     let ps = without_producer a.id s.producers ++ one ∷ [] in
     let kept = c.in_ok-kept.ensures ∙ ap (λ (xs : List AttachedProducer). without_producer a.id xs) c.open_producers.ensures in
     let same : c.in_ok-producers.producers ≡ ps = c.in_ok-producers.ensures ∙ ap (λ (xs : List AttachedProducer). xs ++ one ∷ []) kept in
-    subst (λ (n : List ℕ). IsPrepared h b (plan_of [] (with_producers x s ps ∷ []) (answer x s (frame.ProducerSuccess a.request n))) c.in_ok-prepared.prepared) c.in_ok-copy.ensures
-    (having_more h b x (frame.ProducerSuccess a.request c.in_ok-copy.field-0) c.in_ok-producers.producers ps c.in_ok-plan.plan c.in_ok-prepared.prepared same c.in_ok-plan.ensures.prepared c.in_ok-prepared.ensures)
+    subst (λ (n : List ℕ). IsPrepared h b (plan_of [] (with_producers x s ps ∷ []) (answer x s (frame.ProducerSuccess a.request n))) c.also_answer.new.plan) c.in_ok-copy.ensures
+    (having_more h b x (frame.ProducerSuccess a.request c.in_ok-copy.field-0) c.in_ok-producers.producers ps c.set_producers.new.plan c.also_answer.new.plan same c.in_ok-set_producers.ensures.prepared c.in_ok-also_answer.ensures)
 
 pub returns-clause-room : goal.returns-clause-room
-returns-clause-room c = λ room. room_more _ room _ _ _ (c.in_ok-plan.ensures.room room) c.in_ok-prepared.ensures
+returns-clause-room c = λ room. room_more _ room _ _ _ (c.in_ok-set_producers.ensures.room room) c.in_ok-also_answer.ensures

@@ -12,7 +12,7 @@ returns-clause-prepared c =
     let b = c.args.book.now.broker in
     let ps = without_producer c.args.id (open_at b c.args.client).producers in
     let same : c.in_ok-kept.kept ≡ ps = c.in_ok-kept.ensures ∙ ap (λ (xs : List AttachedProducer). without_producer c.args.id xs) c.open_producers.ensures in
-    having_more c.args.site.now b c.args.client (frame.Success c.args.request) c.in_ok-kept.kept ps c.in_ok-plan.plan c.in_ok-prepared.prepared same c.in_ok-plan.ensures.prepared c.in_ok-prepared.ensures
+    having_more c.args.book.now.site b c.args.client (frame.Success c.args.request) c.in_ok-kept.kept ps c.set_producers.new.plan c.also_answer.new.plan same c.in_ok-set_producers.ensures.prepared c.in_ok-also_answer.ensures
 
 pub returns-clause-room : goal.returns-clause-room
-returns-clause-room c = λ room. room_more _ room _ _ _ (c.in_ok-plan.ensures.room room) c.in_ok-prepared.ensures
+returns-clause-room c = λ room. room_more _ room _ _ _ (c.in_ok-set_producers.ensures.room room) c.in_ok-also_answer.ensures

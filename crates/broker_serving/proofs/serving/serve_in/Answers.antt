@@ -10,15 +10,15 @@ serve_command-requires-clause-open c = opened c.args.book.now.broker c.args.clie
 
 pub returns-then-is_open-clause-prepared : goal.returns-then-is_open-clause-prepared
 returns-then-is_open-clause-prepared c =
-    let h = c.args.site.now in
+    let h = c.args.book.now.site in
     let b = c.args.book.now.broker in
-    same_plan h b _ _ c.serve_command.result (sym (served_in h b c.args.client c.args.session c.args.frame (sym c.is_open.ensures ∙ c.if-is_open.true))) c.serve_command.ensures.prepared
+    same_plan h b _ _ c.serve_command.new.plan c.serve_command.result (sym (served_in h b c.args.client c.args.session c.args.frame (sym c.is_open.ensures ∙ c.if-is_open.true))) c.serve_command.ensures.prepared
 
 pub returns-else-is_open-clause-prepared : goal.returns-else-is_open-clause-prepared
 returns-else-is_open-clause-prepared c =
-    let h = c.args.site.now in
+    let h = c.args.book.now.site in
     let b = c.args.book.now.broker in
-    subst (λ (z : Plan). IsPrepared h b z c.ignoring.result) (sym (not_in h b c.args.client c.args.session c.args.frame (sym c.is_open.ensures ∙ c.if-is_open.false))) c.ignoring.ensures.prepared
+    subst (λ (z : Plan). IsPrepared h b z c.ignore.new.plan) (sym (not_in h b c.args.client c.args.session c.args.frame (sym c.is_open.ensures ∙ c.if-is_open.false))) c.ignore.ensures.prepared
 
 pub returns-else-is_open-clause-room : goal.returns-else-is_open-clause-room
-returns-else-is_open-clause-room c = c.ignoring.ensures.room c.args.book.now.room
+returns-else-is_open-clause-room c = c.ignore.ensures.room c.args.book.now.room

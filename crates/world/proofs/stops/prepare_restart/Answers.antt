@@ -3,4 +3,4 @@ use Rattle.world.proofs.Stopping.{restart_done}
 use Rattle.world.proofs.stops.prepare_restart.Goals as goal
 
 pub returns-clause-restarts : goal.returns-clause-restarts
-returns-clause-restarts c = restart_done c.args.node.now c.prepare.result (c.prepare.ensures.prepared None tt)
+returns-clause-restarts c = restart_done c.args.node.now c.prepare.new.plan c.prepare.result (c.prepare.ensures.prepared None tt)

@@ -4,4 +4,4 @@ use Rattle.broker.proofs.node.TopicNode.from_durable.Goals as goal
 pub invariant_of-result : goal.invariant_of-result
 invariant_of-result c =
     restored_holds c.args.site c.args.durable c.as_slice-parts.result.now c.args.clients c.in_ok-book.book c.requires.clusters c.requires.durable c.as_slice-parts.ensures
-    c.in_ok-book.ensures.broker c.in_ok-book.ensures.own c.in_ok-book.ensures.per_ledger
+    c.in_ok-book.ensures.broker c.in_ok-book.ensures.site

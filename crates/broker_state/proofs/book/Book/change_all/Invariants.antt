@@ -12,14 +12,13 @@ abbrev pub invariant-loop-change : goal.invariant-loop-change
 invariant-loop-change l =
     let n = (sub_at l.fn.self.broker.subs l.place).name in
     record {
-      named : ChangesNamed n l.place (names_of l.self.broker.subs) l.left.items;
-      fits : AllChangesFit n l.place l.self.broker l.left.items;
-      room : ChangesHaveRoom l.self.room l.place l.left.items;
-      rest : all_changed l.self.broker (map (machine_change n) l.left.items) ≡ all_changed l.fn.self.broker (map (machine_change n) l.fn.changes.items);
-      own : l.self.own ≡ l.fn.self.own;
-      per_ledger : l.self.per_ledger ≡ l.fn.self.per_ledger;
+      named : ChangesNamed n l.place (names_of l.self.broker.subs) l.changes.items;
+      fits : AllChangesFit n l.place l.self.broker l.changes.items;
+      room : ChangesHaveRoom l.self.room l.place l.changes.items;
+      rest : all_changed l.self.broker (map (machine_change n) l.changes.items) ≡ all_changed l.fn.self.broker (map (machine_change n) l.fn.changes.items);
+      site : l.self.site ≡ l.fn.self.site;
       shape : SameShape l.fn.self.broker l.self.broker;
     }
 
 abbrev pub decreases-loop-change : goal.decreases-loop-change
-decreases-loop-change l = deque_len l.left
+decreases-loop-change l = deque_len l.changes

@@ -1,6 +1,6 @@
-use Rattle.std.proofs.Common.{◌≡◌, ℕ, ◌∷◌, List, map, ap, sym, ◌∙◌, arith}
+use Rattle.std.proofs.Common.{◌≡◌, ◌∷◌, List, map, ap, sym, ◌∙◌, arith}
 use Rattle.geo_base.specs.declared.write.Write.{Write}
-use Rattle.geo_base.specs.Broker.{written}
+use Rattle.geo_base.specs.Broker.{Site, written}
 use Rattle.geo_base.specs.Plan.{all_written}
 use Rattle.broker_subs.specs.Table.{names_of, sub_at}
 use Rattle.broker_state.specs.Fits.{all_names_after}
@@ -13,21 +13,21 @@ use Rattle.broker_state.proofs.book.Book.write_all.Goals as goal
 pub loop-write-preserved : goal.loop-write-preserved
 loop-write-preserved c =
     let k = c.args.place in
-    let per = c.args.self.now.per_ledger in
-    let n = name_of c.args.self.now.broker.subs k c.args.writes.items in
+    let per = c.args.self.now.site.per_ledger in
+    let n = name_of c.args.self.now.broker.subs k c.args.writes.now.items in
     let es = c.args.self.now.broker.entries in
     let b = c.loop-write.self.broker in
     let inv = c.loop-write.invariant in
     let w = c.in-Some.write in
     let ws = c.pop_front.new.self.items in
-    let items : c.loop-write.left.items ≡ w ∷ ws = c.in-Some.ensures.items in
+    let items : c.loop-write.writes.items ≡ w ∷ ws = c.in-Some.ensures.items in
     let named = rw items at inv.named in
     let fits = rw items at inv.fits in
     let room = rw items at inv.room in
     let given = rw items at inv.given in
     let senders = rw items at inv.senders in
     let next : c.write.new.self.broker ≡ written per b (machine_write n es w) =
-    c.write.ensures.broker ∙ ap (λ (p : ℕ). written p b (machine_write (sub_at b.subs k).name b.entries w)) inv.per_ledger ∙ ap (λ (x : Write). written per b x) (same_write n es k b w named.0 fits.0) in
+    c.write.ensures.broker ∙ ap (λ (h : Site). written h.per_ledger b (machine_write (sub_at b.subs k).name b.entries w)) inv.site ∙ ap (λ (x : Write). written per b x) (same_write n es k b w named.0 fits.0) in
     record {
       named = rw c.write.ensures.names named.1;
       fits = rw next fits.1;
@@ -36,8 +36,7 @@ loop-write-preserved c =
       names = rw c.write.ensures.names (ap (λ (xs : List BookWrite). all_names_after k (names_of b.subs) xs) (sym items) ∙ inv.names);
       given = omega (arith, given, given_next k w ws c.loop-write.self.room c.write.new.self.room c.write.ensures.room);
       senders = omega (arith, senders, c.write.ensures.room.senders);
-      own = c.write.ensures.own ∙ inv.own;
-      per_ledger = c.write.ensures.per_ledger ∙ inv.per_ledger;
+      site = c.write.ensures.site ∙ inv.site;
       shape = record {
         senders = c.write.ensures.shape.senders ∙ inv.shape.senders;
         receivers = c.write.ensures.shape.receivers ∙ inv.shape.receivers;

@@ -2,7 +2,7 @@ use Rattle.std.proofs.Common.{rules, arith, ◌≡◌, ℕ, ◌+◌, ◌<◌, Li
 use Rattle.std.specs.Prelude.{Some, None, Err, OnOk, is_some, not}
 use Rattle.std.proofs.lemmas.List.{get_or_default}
 use Rattle.client.specs.Changing.{ClientFits}
-use Rattle.client.specs.Counted.{CanCount}
+use Rattle.client.specs.Counted.{CanConnect}
 use Rattle.client.specs.Prepared.{IsPrepared}
 use Rattle.client.specs.Site.{known_setup}
 use Rattle.geo_base.specs.Client.{Client, reconnect}
@@ -11,7 +11,7 @@ use Rattle.world_kept.specs.Standing.{limit_of}
 use Rattle.world.specs.ClientSteps.{client_in, no_client}
 use Rattle.world.specs.declared.fault.RunFault.TheVariants as fault
 use Rattle.world.specs.World.{WorldBook}
-use Rattle.world.proofs.ClientEvents.{can_count, client_below, clock_below, leads_reconnect, rests_reconnect, stamp_fits}
+use Rattle.world.proofs.ClientEvents.{can_connect, client_below, clock_below, leads_reconnect, rests_reconnect, stamp_fits}
 use Rattle.world.proofs.world.World.client_reconnects.Goals as goal
 
 pub index-requires : goal.index-requires
@@ -30,7 +30,7 @@ prepare_reconnect-requires c =
     let within : n < length c.self.inside.clients.items = subst (λ (ms : List Client). n < length ms) (sym clients) lt in
     let here : c.index.result.now ≡ client_in old.clients n =
     c.index.ensures ∙ get_or_default c.self.inside.clients.items n _ no_client within ∙ ap (λ (ms : List Client). client_in ms n) clients in
-    subst CanCount (sym here) (can_count c.args.scenario.now.setup old n c.requires.at c.requires.client)
+    subst CanConnect (sym here) (can_connect c.args.scenario.now.setup old n c.requires.at c.requires.client)
 
 pub returns-then-is_idle-clause-leads : goal.returns-then-is_idle-clause-leads
 returns-then-is_idle-clause-leads c w reached stands =

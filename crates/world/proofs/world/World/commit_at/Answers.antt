@@ -14,5 +14,5 @@ returns-clause-nodes c =
     let within : n < length c.self.inside.nodes.items = subst (λ (vs : List NodeBook). n < length vs) (sym nodes) c.requires.node in
     let here : c.index_mut.result.now ≡ node_at old.nodes n =
     c.index_mut.ensures.value ∙ get_or_default c.self.inside.nodes.items n _ no_node within ∙ ap (λ (vs : List NodeBook). node_at vs n) nodes in
-    set_node old.nodes _ n v (done_at (node_at old.nodes n) c.args.prepared) (subst (λ (u : NodeBook). SameNode u v) here c.commit.ensures.node)
-    (c.commit.ensures.broker ∙ ap (λ (u : NodeBook). done_at u c.args.prepared) here) (ap (λ (vs : List NodeBook). slice_set vs n v) nodes)
+    set_node old.nodes _ n v (done_at (node_at old.nodes n) c.args.plan.now) (subst (λ (u : NodeBook). SameNode u v) here c.commit.ensures.node)
+    (c.commit.ensures.broker ∙ ap (λ (u : NodeBook). done_at u c.args.plan.now) here) (ap (λ (vs : List NodeBook). slice_set vs n v) nodes)

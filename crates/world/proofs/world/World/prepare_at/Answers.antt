@@ -1,5 +1,5 @@
 use Rattle.std.proofs.Common.{rules, ◌≡◌, ℕ, ◌<◌, List, length, ap, ◌∙◌, subst, sym}
-use Rattle.std.specs.Prelude.{Option, Some, IfOk, slice_set}
+use Rattle.std.specs.Prelude.{Option, Some, OnOk, slice_set}
 use Rattle.std.proofs.lemmas.List.{get_or_default}
 use Rattle.broker_plans.specs.Prepared.{IsPrepared}
 use Rattle.geo_base.specs.declared.packet.Packet.{Packet}
@@ -42,7 +42,7 @@ returns-in-Some-clause-prepared c =
     let found : Some c.in-Some.packet.now ≡ packet_on c.self.inside.links c.args.takes = first_of (assumption (c.in-Some.ensures), search rules) in
     let input : c.new-input.result ≡ record { session = c.in-Some.packet.now.session; stamp = c.in-Some.packet.now.stamp; frame = c.as_slice.result.now } = first_of (assumption (c.new-input.ensures), search rules) in
     let frame : c.as_slice.result.now ≡ c.in-Some.packet.now.frame = first_of (assumption (c.as_slice.ensures), search rules) in
-    prepares_some old n c.args.takes c.args.event.now r c.in-Some.packet.now c.new-input.result c.as_slice.result.now
+    prepares_some old n c.args.takes c.args.event.now c.prepare-in-Some.new.plan r c.in-Some.packet.now c.new-input.result c.as_slice.result.now
     (found ∙ ap (λ (l : WireLinks). packet_on l c.args.takes) links) input frame
-    (subst (λ (u : NodeBook). (v : Option Packet) → StandsForInput u.site.clusters (Some c.new-input.result) v → IfOk r (IsPrepared u.site u.broker (plan_at_node u c.args.event.now v)))
+    (subst (λ (u : NodeBook). (v : Option Packet) → StandsForInput u.site.clusters (Some c.new-input.result) v → OnOk r (IsPrepared u.site u.broker (plan_at_node u c.args.event.now v) c.prepare-in-Some.new.plan))
     here c.prepare-in-Some.ensures.prepared)

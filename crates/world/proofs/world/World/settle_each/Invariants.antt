@@ -1,6 +1,7 @@
 use Rattle.std.proofs.Common.{drop}
 use Rattle.geo_base.specs.Run.{Ran}
-use Rattle.world.specs.Settling.{IsLater, IsSettling}
+use Rattle.world.specs.Settling.{IsSettling}
+use Rattle.world.specs.Steps.{IsLater}
 use Rattle.world.specs.World.{IsAt}
 use Rattle.world.proofs.world.World.settle_each.Given as goal
 

@@ -1,8 +1,0 @@
-use Rattle.std.proofs.Common.{drop}
-use Rattle.std.specs.List.{AllByRecursion}
-use Rattle.broker_plans.specs.Prepared.{IsNameLong}
-use Rattle.broker_plans.proofs.site.see_names.Given as goal
-
--- all are short where those are that are left
-abbrev pub invariant-loop-name : goal.invariant-loop-name
-invariant-loop-name l = AllByRecursion IsNameLong (drop l.name-index l.names) → AllByRecursion IsNameLong l.names
