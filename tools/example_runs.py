@@ -4,7 +4,8 @@
 The input has each script NAME.geo of examples/, drills/, runs/, edges/ and states/ behind a line `== DIRECTORY/NAME`, the output has that
 line and the report NAME.report that lies beside the script. Behind them stand each case of refused/cases.txt as `== refused/LINE`, by its line in that
 file, with the line that refuses it; each script with a `stop` line as `== stop DIRECTORY/NAME`, which the program saves there and resumes,
-with its report once more; and the state files of tools/state_files.py. The program's own output is never read.
+with its report once more; the state files of tools/state_files.py; and each script whose messages have keys as `== compact HORIZON
+DIRECTORY/NAME`, at two horizons, with the views that tools/compacted_view.py makes of its report. The program's own output is never read.
 
 usage: example_runs.py write     writes crates/geo_examples/stdin and crates/geo_examples/stdout
        example_runs.py check     says whether they are what `write` would write
@@ -13,6 +14,7 @@ usage: example_runs.py write     writes crates/geo_examples/stdin and crates/geo
 import os
 import sys
 
+import compacted_view
 import state_files
 
 ROOT = os.path.dirname(os.path.dirname(os.path.abspath(__file__)))
@@ -60,6 +62,15 @@ def refusals():
                 yield 'refused/%d' % number, text, ('bad script line %s rule %s\n' % tuple(said.split())).encode()
 
 
+def compactions():
+    """The scripts with keys, compacted at a third of their longest topic and as a whole."""
+    for name in names():
+        report = content(name, '.report').decode()
+        if compacted_view.has_keys(report):
+            for horizon in (compacted_view.longest(report) // 3, compacted_view.MOST_HORIZON):
+                yield 'compact %d %s' % (horizon, name), content(name, '.geo'), compacted_view.compacted(report, horizon).encode()
+
+
 def sections():
     """All that the program is given, in order: a name, a script, and what is to be answered."""
     for name in names():
@@ -69,6 +80,7 @@ def sections():
         if b'\nstop\n' in content(name, '.geo'):
             yield 'stop ' + name, content(name, '.geo'), content(name, '.report')
     yield from state_files.sections(lambda name: content(name, '.report'))
+    yield from compactions()
 
 
 def joined(part):

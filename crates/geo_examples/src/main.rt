@@ -1,7 +1,7 @@
 //! Does many runs in one. The input has each script behind a line `== NAME`; the output has that line again, and behind it what the
 //! program writes for the script: its report, or the line that refuses it. Lines before the first `== NAME` are left out.
 //!
-//! Behind `== save NAME` the script's run is saved, and the state file shown in hexadecimal; behind `== resume NAME` an input of
+//! Behind `== compact HORIZON NAME` the compacted views of the script's run are shown; behind `== save NAME` the script's run is saved, and the state file shown in hexadecimal; behind `== resume NAME` an input of
 //! `resume` stands in hexadecimal, of which the report or the refusal is shown, and behind `== cuts NAME` one of which each beginning is
 //! answered; behind `== stop NAME` a script is saved where its first `stop` line stands, and the run goes on from that file with the
 //! lines behind it.
@@ -47,7 +47,7 @@ impl Sections {
             let mut text = self.answer(alloc)?;
             text.extend_from_slice(line)?;
             text.push(b'\n')?;
-            self.current = Some(Section::new(alloc, line));
+            self.current = Some(Section::new(alloc, line)?);
             return Ok(text);
         }
         if let Some(section) = &mut self.current {

@@ -18,6 +18,8 @@ const DIGITS: usize = 64;
 enum Task {
     /// A script is run.
     Run,
+    /// The compacted views of a script's run are shown.
+    Compact,
     /// A script's run is saved.
     Save,
     /// A run goes on from bytes in hexadecimal.
@@ -31,7 +33,9 @@ enum Task {
 impl Task {
     /// The task of a line that names a section.
     fn of(heading: &[u8]) -> Task {
-        if heading.starts_with(b"== save ") {
+        if heading.starts_with(b"== compact ") {
+            Task::Compact
+        } else if heading.starts_with(b"== save ") {
             Task::Save
         } else if heading.starts_with(b"== resume ") {
             Task::Resume
@@ -45,22 +49,25 @@ impl Task {
     }
 }
 
-/// A task with its lines so far; those behind the first `stop` line of a script that is saved there stand apart.
+/// A task with the line that names it and its lines so far; those behind the first `stop` line of a script that is saved there stand
+/// apart.
 #[derive(Drop)]
 pub struct Section {
     task: Task,
+    heading: Vec<u8>,
     first: Vec<u8>,
     behind: Option<Vec<u8>>,
 }
 
 impl Section {
     /// The section that a line names.
-    pub fn new(alloc: Global, heading: &[u8]) -> Section {
-        Section {
+    pub fn new(alloc: Global, heading: &[u8]) -> Result<Section> {
+        Ok(Section {
             task: Task::of(heading),
+            heading: heading.to_vec(alloc)?,
             first: Vec::new(alloc),
             behind: None,
-        }
+        })
     }
 
     /// Adds a line.
@@ -81,20 +88,28 @@ impl Section {
     /// What is written for it.
     pub fn answer(&self, alloc: Global) -> Result<Vec<u8>> {
         match self.task {
-            Task::Run => Ok(answer(alloc, "run", self.first.as_slice())?.bytes),
+            Task::Run => Ok(answer(alloc, &["run"], self.first.as_slice())?.bytes),
+            Task::Compact => self.compacted(alloc),
             Task::Save => self.saved(alloc),
             Task::Resume => {
                 let bytes = hex::decode(alloc, self.first.as_slice())?;
-                Ok(answer(alloc, "resume", bytes.as_slice())?.bytes)
+                Ok(answer(alloc, &["resume"], bytes.as_slice())?.bytes)
             }
             Task::Stop => self.resumed(alloc),
             Task::Cuts => self.cuts(alloc),
         }
     }
 
+    /// The compacted views at the horizon that the section's line has behind `== compact `.
+    fn compacted(&self, alloc: Global) -> Result<Vec<u8>> {
+        let heading = str::from_utf8(self.heading.as_slice())?;
+        let horizon = heading.split_whitespace().nth(2).unwrap_or("");
+        Ok(answer(alloc, &["compact", horizon], self.first.as_slice())?.bytes)
+    }
+
     /// The state file in hexadecimal, or the line that refuses the script.
     fn saved(&self, alloc: Global) -> Result<Vec<u8>> {
-        let written = answer(alloc, "save", self.first.as_slice())?;
+        let written = answer(alloc, &["save"], self.first.as_slice())?;
         if written.status == Status::Ok {
             in_hex(alloc, written.bytes.as_slice())
         } else {
@@ -104,11 +119,11 @@ impl Section {
 
     /// The report of the run that goes on from the state file.
     fn resumed(&self, alloc: Global) -> Result<Vec<u8>> {
-        let mut input = answer(alloc, "save", self.first.as_slice())?.bytes;
+        let mut input = answer(alloc, &["save"], self.first.as_slice())?.bytes;
         if let Some(behind) = &self.behind {
             input.extend_from_slice(behind.as_slice())?;
         }
-        Ok(answer(alloc, "resume", input.as_slice())?.bytes)
+        Ok(answer(alloc, &["resume"], input.as_slice())?.bytes)
     }
 
     /// What is answered to the bytes before each of them.
@@ -116,7 +131,7 @@ impl Section {
         let bytes = hex::decode(alloc, self.first.as_slice())?;
         let mut text = Vec::new(alloc);
         for cut in 0..bytes.len() {
-            let written = answer(alloc, "resume", &bytes[..cut])?;
+            let written = answer(alloc, &["resume"], &bytes[..cut])?;
             text.extend_from_slice(written.bytes.as_slice())?;
         }
         Ok(text)
@@ -131,8 +146,11 @@ struct Written {
 }
 
 /// What a command writes for an input.
-fn answer(alloc: Global, word: &str, input: &[u8]) -> Result<Written> {
-    let words = vec![in alloc; Word::from_str(alloc, word)?]?;
+fn answer(alloc: Global, command: &[&str], input: &[u8]) -> Result<Written> {
+    let mut words = Vec::new(alloc);
+    for word in command {
+        words.push(Word::from_str(alloc, word)?)?;
+    }
     let mut source = MemSource::new(alloc, input, PIECE, &[])?;
     let mut sink = MemSink::new(alloc, PIECE, &[])?;
     match geo_alone(alloc, words.as_slice(), &mut source, &mut sink) {

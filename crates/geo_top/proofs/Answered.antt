@@ -37,6 +37,7 @@ not_long n small = grind (arith, nat_tests, small)
 pub answered : (c : Option Command) (input : List ℕ) (a : Answer) (f : FaultCounts) → IsFounded c input a → IsAnswered c input a.bytes f a.status
 answered c input a f founded = record {
   report = λ ok run. of_script c input a founded (λ v m. (a.bytes ≡ output_of v m) × (passed_limit m ≡ None)) (λ v m k is none. (is, none)) shown.Report ok run;
+  compacted = λ horizon ok is. of_script c input a founded (λ v m. (a.bytes ≡ output_of v m) × (passed_limit m ≡ None)) (λ v m k is none. (is, none)) (shown.Compacted horizon) ok is;
   shows = of_script c input a founded (λ v m. (a.bytes ≡ output_of v m) × (passed_limit m ≡ None)) (λ v m k is none. (is, none));
   once = of_script c input a founded (λ v m. IsAlwaysOnce m) (λ v m k is none. always_once m);
   safe = of_script c input a founded (λ v m. IsAlwaysSafe m) (λ v m k is none. always_safe m k.setup none);
@@ -126,6 +127,7 @@ failed : (c : Option Command) (input output : List ℕ) (f : FaultCounts) (s : S
     → ((a : Answer) → IsAnswerFor c input a → WentOut c a f s output) → WritesLine s output → IsAnswered c input output f s
 failed c input output f s fault read write memory out line = record {
   report = λ is run. absurd (other status.Ok is);
+  compacted = λ horizon is compact. absurd (other status.Ok is);
   shows = λ v is run. absurd (other status.Ok is);
   once = λ v is run. absurd (other status.Ok is);
   safe = λ v is run. absurd (other status.Ok is);
@@ -211,6 +213,7 @@ made_sent (status.StateVersion number) made = tt
 counted_again : (c : Option Command) (input output : List ℕ) (f g : FaultCounts) (s : Status) → IsMade s → IsAnswered c input output g s → IsAnswered c input output f s
 counted_again c input output f g s made h = record {
   report = h.report;
+  compacted = h.compacted;
   shows = h.shows;
   once = h.once;
   safe = h.safe;

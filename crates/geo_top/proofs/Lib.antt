@@ -2,6 +2,7 @@ pub mod Limits
 pub mod FewClients
 pub mod Lines
 pub mod Shown
+pub mod Views
 pub mod Finishing
 pub mod Quiet
 pub mod FewSent

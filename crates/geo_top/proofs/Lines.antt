@@ -20,7 +20,7 @@ use Rattle.geo_top.specs.Summary.{big_line, stored_line, stored_lines, summary, 
 use Rattle.geo_top.proofs.FewClients.{few_clients}
 
 -- the items from one that was read on
-here : {X : Type 0} (xs : List X) (i : ℕ) (x : X) → i < length xs → x ≡ get_or xs i x → drop i xs ≡ x ∷ drop (i + 1) xs
+pub here : {X : Type 0} (xs : List X) (i : ℕ) (x : X) → i < length xs → x ≡ get_or xs i x → drop i xs ≡ x ∷ drop (i + 1) xs
 here xs i x within read = drop_more xs i x within ∙ ap (λ (z : _). z ∷ drop (i + 1) xs) (sym read)
 
 -- ---- the broker of a topic at a cluster

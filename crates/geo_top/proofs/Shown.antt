@@ -1,6 +1,6 @@
 -- A report and a summary do not show the links, and so they are those of the machine's world.
 use Rattle.std.proofs.Common.{◌≡◌, ℕ, ◌+◌, List, [], ◌∷◌, ◌++◌, refl, ap, ◌∙◌}
-use Rattle.std.specs.Prelude.{◌==◌, if◌then◌else◌, map, codes, IfOk, Result, Ok, Err}
+use Rattle.std.specs.Prelude.{◌==◌, if◌then◌else◌, map, codes}
 use Rattle.geo_base.specs.declared.event.Step.{Step}
 use Rattle.geo_base.specs.Report.{broker_lines, client_line, client_lines, cluster_lines, got_line, head_line, report, report_lines, topic_lines, with_line_feeds, words}
 use Rattle.geo_base.specs.Run.{run}
@@ -11,18 +11,16 @@ use Rattle.schedule_gen.specs.Generated.{generated_run}
 use Rattle.script_text.specs.Script.{Script}
 use Rattle.world_kept.specs.Standing.{Stands}
 use Rattle.state_file.specs.State.{SavedState}
-use Rattle.geo_top.specs.declared.top.command.Shown.{Shown}
-use Rattle.geo_top.specs.declared.top.command.Shown.TheVariants as shown
 use Rattle.geo_top.specs.Finished.{IsFinished, IsResumed}
-use Rattle.geo_top.specs.Outputs.{output_of, report_of, resumed_report, summary_of}
+use Rattle.geo_top.specs.Outputs.{report_of, resumed_report, summary_of}
 use Rattle.geo_top.specs.States.{resumed}
 use Rattle.geo_top.specs.Shown.{no_links, shown_world}
 use Rattle.geo_top.specs.Summary.{big_line, stored_line, stored_lines, summary, summary_lines}
 
-abbrev unlinked : World → World
+abbrev pub unlinked : World → World
 unlinked w = record w { links = no_links }
 
-shown_is : (s : Setup) (b : WorldBook) (w : World) → Stands s (kept_of b) w → shown_world b ≡ unlinked w
+pub shown_is : (s : Setup) (b : WorldBook) (w : World) → Stands s (kept_of b) w → shown_world b ≡ unlinked w
 shown_is s b w h = cc (h.brokers, h.clients, h.broker_clocks, h.client_clocks, h.events, h.idle, h.rounds, h.frame_bytes)
 
 same_clusters : (s : Setup) (w : World) (t : ℕ) (topic : List ℕ) (x : ℕ) (ns : List (List ℕ)) → cluster_lines s (unlinked w) t topic x ns ≡ cluster_lines s w t topic x ns
@@ -61,14 +59,6 @@ same_summary number s w =
 pub shown_report : (n : Script) (b : WorldBook) (bytes : List ℕ) → IsFinished n b → bytes ≡ report n.setup (shown_world b) → bytes ≡ report_of n
 shown_report n b bytes f is =
     let w = run n.setup n.steps in is ∙ (ap (report n.setup) (shown_is n.setup b w f.stands) ∙ same_report n.setup w)
-
-pub shown_output : (v : Shown) (n : Script) (b : WorldBook) (bytes : List ℕ) → IsFinished n b → bytes ≡ report n.setup (shown_world b) → bytes ≡ output_of v n
-shown_output shown.Report n b bytes f is = shown_report n b bytes f is
-
-pub output_made : {E : Type 0} (v : Shown) (n : Script) (b : WorldBook) (r : Result (List ℕ) E) → IsFinished n b → IfOk r (λ bytes. bytes ≡ report n.setup (shown_world b))
-    → IfOk r (λ bytes. bytes ≡ output_of v n)
-output_made v n b (Ok bytes) f is = shown_output v n b bytes f is
-output_made v n b (Err e) f is = tt
 
 summed_up : (number : ℕ) (n : Script) (b : WorldBook) (bytes : List ℕ) → IsFinished n b → bytes ≡ summary number n.setup (shown_world b)
     → bytes ≡ summary number n.setup (run n.setup n.steps)

@@ -1,4 +1,4 @@
--- The commands of the program, by its words: `run`, `save`, `resume` and `big NUMBER`. Any other words are none (own).
+-- The commands of the program, by its words: `run`, `save`, `resume`, `big NUMBER` and `compact HORIZON`. Any other words are none (own).
 use Rattle.std.specs.Prelude.{◌≡◌, ℕ, Bool, true, false, if◌then◌else◌, List, [], ◌∷◌, Option, Some, None, codes}
 use Rattle.std.specs.Str.{bytes_eq}
 use Rattle.script_names.specs.Numbers.{number_of}
@@ -30,6 +30,17 @@ save_command = command.Reads reading.Save
 abbrev pub resume_command : Command
 resume_command = command.Reads reading.Resume
 
+-- the horizon of a compacted view: no run stores more entries than it has events
+abbrev pub most_horizon : ℕ
+most_horizon = 2000000
+
+abbrev pub compact_command : ℕ → Command
+compact_command horizon = command_showing (shown.Compacted horizon)
+
+abbrev pub compact_of : Option ℕ → Option Command
+compact_of None = None
+compact_of (Some horizon) = Some (compact_command horizon)
+
 -- a word that stands alone
 abbrev pub alone_of : List ℕ → Option Command
 alone_of w =
@@ -38,10 +49,17 @@ alone_of w =
     else if bytes_eq w (codes "resume") then Some resume_command
     else None
 
+-- a word with a number
+abbrev pub numbered_of : List ℕ → List ℕ → Option Command
+numbered_of w n =
+    if bytes_eq w (codes "big") then big_of (number_of most_number n)
+    else if bytes_eq w (codes "compact") then compact_of (number_of most_horizon n)
+    else None
+
 abbrev pub command_of : List (List ℕ) → Option Command
 command_of [] = None
 command_of (w ∷ []) = alone_of w
-command_of (w ∷ n ∷ []) = if bytes_eq w (codes "big") then big_of (number_of most_number n) else None
+command_of (w ∷ n ∷ []) = numbered_of w n
 command_of (w ∷ n ∷ v ∷ ws) = None
 
 -- words that have an input

@@ -3,6 +3,7 @@ pub mod Statuses
 pub mod Again
 pub mod Headline
 pub mod Shown
+pub mod Compacted
 pub mod Summary
 pub mod States
 pub mod Outputs

@@ -17,6 +17,7 @@ use Rattle.geo_top.specs.declared.top.command.Shown.{Shown}
 use Rattle.geo_top.specs.declared.top.command.Shown.TheVariants as shown
 use Rattle.geo_top.specs.declared.top.status.Status.TheVariants as status
 use Rattle.geo_top.specs.declared.top.status.Status.{Status}
+use Rattle.geo_top.specs.Compacted.{compacted}
 use Rattle.geo_top.specs.States.{file_of, resumed, resumed_under, stopped}
 use Rattle.geo_top.specs.Statuses.{refusal_line}
 use Rattle.geo_top.specs.Summary.{summary}
@@ -35,9 +36,14 @@ unless_passed bytes (Some limit) = refused (status.TooLarge limit)
 abbrev pub report_of : Script → List ℕ
 report_of n = report n.setup (run n.setup n.steps)
 
+-- those of its compacted views
+abbrev pub compacted_of : ℕ → Script → List ℕ
+compacted_of horizon n = compacted horizon n.setup (run n.setup n.steps)
+
 -- the bytes that a command shows of a script's run
 abbrev pub output_of : Shown → Script → List ℕ
 output_of shown.Report n = report_of n
+output_of (shown.Compacted horizon) n = compacted_of horizon n
 
 -- the number of the limit that a script's run passes: 2, where events and idle events together would be more than 2,000,000; 3,
 -- where the bytes of all frames would be more than 1 GiB

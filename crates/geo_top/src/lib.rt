@@ -4,6 +4,7 @@
 //! `world` does. [`geo_alone`] reads the input from a source, and writes what is answered to a sink.
 #![tactic(auto)]
 
+mod compacted;
 mod law;
 mod run;
 mod summary;

@@ -95,10 +95,43 @@ client p at a lines 0/2 receipts 0 duplicates 0 errors 0\n"
     Ok(())
 }
 
+/// Five messages, of which two have the key `k1` and two `k2`; the last of `k2` has no text.
+const KEYS: &[u8] = b"geo 1\ncluster a\ncluster b\ntopic t\nclient p t a\ndo p produce\n\
+do p pub 0 * k1 a\ndo p pub 1 * k2 b\ndo p pub 2 * k1 c\ndo p pub 3 * - n\ndo p pub 4 * k2 \n\
+reconnect p\nserve a p\ngo p\nserve a p\ngo p\nserve a p\ngo p\nserve a p\ngo p\nserve a p\ngo p\nserve a p\ngo p\nserve a p\n";
+
+/// The views at a horizon behind all entries and at one among them: below it the last message of each key where it has a text, and
+/// those without a key; from it on all.
+#[test]
+fn views_of_the_last_messages_of_keys(rt: HostRuntime) -> Result<(), Fail> {
+    let views: [(&str, &[u8]); 2] = [
+        (
+            "10",
+            b"compacted t at a horizon 5\nentry 0:2 a p 2 * data k1 c\nentry 0:3 a p 3 * data - n\n\
+compacted t at b horizon 0\n",
+        ),
+        (
+            "2",
+            b"compacted t at a horizon 2\nentry 0:0 a p 0 * data k1 a\nentry 0:1 a p 1 * data k2 b\n\
+entry 0:2 a p 2 * data k1 c\nentry 0:3 a p 3 * data - n\nentry 0:4 a p 4 * data k2 \n\
+compacted t at b horizon 0\n",
+        ),
+    ];
+    for (horizon, lines) in views {
+        let mut words = Vec::new(rt.alloc());
+        words.push(Word::from_str(rt.alloc(), "compact")?)?;
+        words.push(Word::from_str(rt.alloc(), horizon)?)?;
+        let shown = answer(rt.alloc(), words.as_slice(), KEYS)?;
+        assert_eq!(rt; shown.status, Status::Ok);
+        assert_eq!(rt; shown.bytes.as_slice(), lines);
+    }
+    Ok(())
+}
+
 /// Nothing is read for them: the source would fail.
 #[test]
 fn words_that_are_no_command(rt: HostRuntime) -> Result<(), Fail> {
-    let lines: [&[&str]; 19] = [
+    let lines: [&[&str]; 24] = [
         &[],
         &["run", "x"],
         &["--help"],
@@ -118,6 +151,11 @@ fn words_that_are_no_command(rt: HostRuntime) -> Result<(), Fail> {
         &["resume", "x"],
         &["Save"],
         &["audit"],
+        &["compact"],
+        &["compact", "2000001"],
+        &["compact", "01"],
+        &["compact", "1", "2"],
+        &["Compact", "1"],
     ];
     for line in lines {
         let mut words = Vec::new(rt.alloc());
@@ -130,7 +168,7 @@ fn words_that_are_no_command(rt: HostRuntime) -> Result<(), Fail> {
         assert_eq!(rt; status, Status::Usage);
         assert_eq!(rt;
             sink.bytes(),
-            b"usage: geo run, live WORKERS TURNS, big NUMBER, save, resume, audit\n".as_slice()
+            b"usage: geo run, live WORKERS TURNS, big NUMBER, save, resume, audit, compact HORIZON\n".as_slice()
         );
     }
     Ok(())

@@ -1,6 +1,6 @@
 //! The commands of the program.
 ghost use Rattle.std.specs.Prelude.{◌≡◌};
-ghost use Rattle.geo_top.specs.Commands.{alone_of, big_of, command_of, has_input, most_number};
+ghost use Rattle.geo_top.specs.Commands.{alone_of, big_of, command_of, compact_of, has_input, most_horizon, most_number, numbered_of};
 ghost use Rattle.script_names.specs.Numbers.{number_of};
 
 use geo_base::Text;
@@ -11,6 +11,9 @@ pub type Word = Text;
 
 /// The greatest number of a generated run: it has 32 bits.
 const MOST_NUMBER: u64 = 4_294_967_295;
+
+/// The greatest horizon of a compacted view: no run stores more entries than it has events.
+const MOST_HORIZON: u64 = 2_000_000;
 
 /// What the program can be asked to do.
 #[derive(Clone, Copy, Debug, Drop, PartialEq, Eq)]
@@ -37,6 +40,8 @@ pub enum Reading {
 pub enum Shown {
     /// Its report.
     Report,
+    /// The compacted view of each topic at each cluster, by its horizon.
+    Compacted(u64),
 }
 
 impl Command {
@@ -46,7 +51,7 @@ impl Command {
     {
         match words {
             [word] => Command::alone(word),
-            [word, number] if word.as_bytes() == b"big".as_slice() => Command::big(number),
+            [word, number] => Command::numbered(word, number),
             _ => None,
         }
     }
@@ -71,6 +76,30 @@ impl Command {
             Some(Command::Reads(Reading::Resume))
         } else {
             None
+        }
+    }
+
+    /// The command of a word with a number.
+    fn numbered(word: &Word, number: &Word) -> Option<Command>
+        ensures { result ≡ numbered_of word.now number.now }
+    {
+        let bytes = word.as_bytes();
+        if bytes == b"big".as_slice() {
+            Command::big(number)
+        } else if bytes == b"compact".as_slice() {
+            Command::compact(number)
+        } else {
+            None
+        }
+    }
+
+    /// The compacted views of a word.
+    fn compact(word: &Word) -> Option<Command>
+        ensures { result ≡ compact_of (number_of most_horizon word.now) }
+    {
+        match number_of(word.as_bytes(), MOST_HORIZON) {
+            Some(horizon) => Some(Command::Reads(Reading::Script(Shown::Compacted(horizon)))),
+            None => None,
         }
     }
 

@@ -1,6 +1,7 @@
 //! The answers of the commands that show something of a script's run, and of the one that sums up a generated run.
 ghost use Rattle.std.specs.Prelude.{◌≡◌, ◌≤◌, IfOk, OnOk, length};
 ghost use Rattle.geo_base.specs.Report.{report};
+ghost use Rattle.geo_top.specs.Compacted.{compacted};
 ghost use Rattle.geo_top.specs.Finished.{IsFinished};
 ghost use Rattle.geo_top.specs.Founded.{IsAccepted};
 ghost use Rattle.geo_top.specs.Outputs.{answer_to, answer_to_big, answer_to_run, output_of, passed_limit, summary_of};
@@ -9,6 +10,7 @@ ghost use Rattle.world.specs.World.{IsAt};
 ghost use Rattle.schedule_gen.specs.Generated.{generated_run};
 ghost use Rattle.script_text.specs.Rules.{script_of};
 
+use crate::compacted::append_compacted;
 use crate::run::run_script;
 use crate::summary::append_summary;
 use crate::top::answer::{Answer, refusal};
@@ -51,13 +53,13 @@ fn answer_to_scenario(alloc: Global, shown: Shown, scenario: &Scenario) -> Resul
 }
 
 /// What is shown of the world at the end of a script's run.
-#[tactic(auto, using(crate::proofs::Shown::shown_output))]
 fn output(alloc: Global, shown: Shown, scenario: &Scenario, world: &World) -> Result<Blob, Memory>
     requires { IsFinished scenario.now world.now }
     ensures { IfOk result (λ bytes. bytes ≡ output_of shown scenario.now) }
 {
     match shown {
         Shown::Report => report(alloc, scenario, world),
+        Shown::Compacted(horizon) => compacted(alloc, scenario, world, horizon),
     }
 }
 
@@ -68,6 +70,21 @@ pub fn report(alloc: Global, scenario: &Scenario, world: &World) -> Result<Blob,
 {
     let mut bytes = Blob::new(alloc);
     append_report(alloc, &mut bytes, scenario, world)?;
+    Ok(bytes)
+}
+
+/// The compacted views of a world.
+fn compacted(
+    alloc: Global,
+    scenario: &Scenario,
+    world: &World,
+    horizon: u64,
+) -> Result<Blob, Memory>
+    requires { IsAt scenario.now.setup world.now }
+    ensures { IfOk result (λ bytes. bytes ≡ compacted horizon scenario.now.setup (shown_world world.now)) }
+{
+    let mut bytes = Blob::new(alloc);
+    append_compacted(alloc, &mut bytes, scenario, world, horizon)?;
     Ok(bytes)
 }
 

@@ -1,7 +1,9 @@
-use Rattle.std.proofs.Common.{◌≡◌, ℕ, List, Result, Ok, Err}
-use Rattle.std.specs.Prelude.{IfOk}
-use Rattle.geo_top.proofs.Shown.{output_made}
+use Rattle.geo_top.proofs.Views.{compacted_made, report_made}
 use Rattle.geo_top.proofs.top.scripts.output.Goals as goal
 
-pub returns : goal.returns
-returns c = output_made c.args.shown c.args.scenario.now c.args.world.now c.report.result c.requires c.report.ensures
+pub returns-in-Report : goal.returns-in-Report
+returns-in-Report c = report_made c.args.shown c.args.scenario.now c.args.world.now c.report.result c.in-Report.is c.requires c.report.ensures
+
+pub returns-in-Compacted : goal.returns-in-Compacted
+returns-in-Compacted c =
+    compacted_made c.args.shown c.in-Compacted.horizon c.args.scenario.now c.args.world.now c.compacted.result c.in-Compacted.is c.requires c.compacted.ensures
