@@ -1,0 +1,13 @@
+use Rattle.std.proofs.Common.{◌≡◌, ◌≤◌, ◌∙◌, length, arith}
+use Rattle.std.proofs.lemmas.List.{take_all}
+use Rattle.tiered_ledger.specs.Tiered.{all_here}
+use Rattle.tiered_ledger.proofs.Cutting.{parts_many}
+use Rattle.tiered_ledger.proofs.cut.parts_of.Goals as goal
+
+pub returns : goal.returns
+returns g c =
+    let all = all_here (g.S.EntryStore.ledgers c.args.store.now) (g.S.EntryStore.entries c.args.store.now) in
+    let many = parts_many (g.S.EntryStore.ledgers c.args.store.now) (g.S.EntryStore.entries c.args.store.now) in
+    let test = c.loop-ledger-test.false in
+    let end = c.ledgers-ledger-end.ensures in
+    c.loop-ledger.invariant ∙ take_all c.loop-ledger.ledger all (omega (arith, many, test, end))

@@ -1,0 +1,83 @@
+use Rattle.std.proofs.Common.{◌≡◌, ◌<◌, ◌∙◌, ℕ, List, length, refl, rules, subst, sym, ap, arith}
+use Rattle.std.specs.Prelude.{Some, not, slice_get}
+use Rattle.geo_base.specs.declared.entry.Entry.{Entry}
+use Rattle.ledger_texts.specs.Readable.{AreReadable, AreTellable}
+use Rattle.ledger_texts.specs.Texts.{ledger_text}
+use Rattle.tier_store.specs.Kept.{Puts}
+use Rattle.topic_ledger.specs.Firsts.{lengths_of}
+use Rattle.tiered_ledger.specs.declared.part.Part.TheVariants as part
+use Rattle.tiered_ledger.specs.Calls.{calls_if, is_offloaded}
+use Rattle.tiered_ledger.specs.Ledgers.{entries_in}
+use Rattle.tiered_ledger.specs.Tiered.{Holds, Tiered}
+use Rattle.tiered_ledger.proofs.Cutting.{ledger_tellable}
+use Rattle.tiered_ledger.proofs.Keeping.{away_is, here_is, moved, not_moved, part_at}
+use Rattle.tiered_ledger.proofs.tiered.TieredLedger.offload.Goals as goal
+
+pub returns-in_default-clause-kept : goal.returns-in_default-clause-kept
+returns-in_default-clause-kept g c =
+    let t : Tiered g.row.T.Denot = record { own = c.self.inside.own; ledgers = lengths_of c.self.inside.firsts.items c.self.inside.len; unclosed = c.self.inside.unclosed; parts = c.self.inside.parts.items; recalled = c.self.inside.recalled; tier = c.self.inside.tier } in
+    let holds : Holds c.args.names.now g.T.Tier.kept g.entries t = subst (λ (v : Tiered g.row.T.Denot). Holds c.args.names.now g.T.Tier.kept g.entries v) (sym c.self.view_is) c.requires.1 in
+    let within : c.args.ledger < length c.self.inside.parts.items = let low = c.if-ledger-self.false in let other = c.if-ledger-self-2.false in let closed = holds.closed in omega (arith, low, other, closed) in
+    let away : slice_get t.parts c.args.ledger ≡ Some part.Away = part_at c.self.inside.parts.items c.args.ledger c.index.result.now part.Away within c.index.ensures c.in_default.is in
+    let text = (away_is c.args.names.now g.T.Tier.kept g.entries t c.args.ledger holds away).text in
+    subst (λ (v : Tiered g.row.T.Denot). g.T.Tier.kept v.tier c.args.ledger ≡ Some (ledger_text c.args.names.now v.own (entries_in v.ledgers g.entries c.args.ledger))) c.self.view_is text
+
+pub returns-in_default-clause-calls : goal.returns-in_default-clause-calls
+returns-in_default-clause-calls g c =
+    let t : Tiered g.row.T.Denot = record { own = c.self.inside.own; ledgers = lengths_of c.self.inside.firsts.items c.self.inside.len; unclosed = c.self.inside.unclosed; parts = c.self.inside.parts.items; recalled = c.self.inside.recalled; tier = c.self.inside.tier } in
+    let holds : Holds c.args.names.now g.T.Tier.kept g.entries t = subst (λ (v : Tiered g.row.T.Denot). Holds c.args.names.now g.T.Tier.kept g.entries v) (sym c.self.view_is) c.requires.1 in
+    let within : c.args.ledger < length c.self.inside.parts.items = let low = c.if-ledger-self.false in let other = c.if-ledger-self-2.false in let closed = holds.closed in omega (arith, low, other, closed) in
+    let away : slice_get t.parts c.args.ledger ≡ Some part.Away = part_at c.self.inside.parts.items c.args.ledger c.index.result.now part.Away within c.index.ensures c.in_default.is in
+    let none : g.T.Tier.calls t.tier ≡ calls_if (not (is_offloaded t c.args.ledger)) (g.T.Tier.calls t.tier) = rw away refl in
+    subst (λ (v : Tiered g.row.T.Denot). g.T.Tier.calls v.tier ≡ calls_if (not (is_offloaded v c.args.ledger)) (g.T.Tier.calls v.tier)) c.self.view_is none
+
+pub text_of-requires : goal.text_of-requires
+text_of-requires g c =
+    let t : Tiered g.row.T.Denot = record { own = c.self.inside.own; ledgers = lengths_of c.self.inside.firsts.items c.self.inside.len; unclosed = c.self.inside.unclosed; parts = c.self.inside.parts.items; recalled = c.self.inside.recalled; tier = c.self.inside.tier } in
+    let holds : Holds c.args.names.now g.T.Tier.kept g.entries t = subst (λ (v : Tiered g.row.T.Denot). Holds c.args.names.now g.T.Tier.kept g.entries v) (sym c.self.view_is) c.requires.1 in
+    let within : c.args.ledger < length c.self.inside.parts.items = let low = c.if-ledger-self.false in let other = c.if-ledger-self-2.false in let closed = holds.closed in omega (arith, low, other, closed) in
+    let here : slice_get t.parts c.args.ledger ≡ Some (part.Here c.in-Here.entries) = part_at c.self.inside.parts.items c.args.ledger c.index.result.now (part.Here c.in-Here.entries) within c.index.ensures c.in-Here.is in
+    let is : c.as_slice.result.now ≡ entries_in t.ledgers g.entries c.args.ledger = c.as_slice.ensures ∙ here_is c.args.names.now g.T.Tier.kept g.entries t c.args.ledger c.in-Here.entries holds here in
+    subst (λ (xs : List Entry). AreTellable c.args.names.now t.own xs) (sym is) (ledger_tellable c.args.names.now t.own t.ledgers g.entries c.args.ledger holds.tellable)
+
+pub returns-in_err-put-clause-holds : goal.returns-in_err-put-clause-holds
+returns-in_err-put-clause-holds g c =
+    let t : Tiered g.row.T.Denot = record { own = c.self.inside.own; ledgers = lengths_of c.self.inside.firsts.items c.self.inside.len; unclosed = c.self.inside.unclosed; parts = c.self.inside.parts.items; recalled = c.self.inside.recalled; tier = c.self.inside.tier } in
+    let holds : Holds c.args.names.now g.T.Tier.kept g.entries t = subst (λ (v : Tiered g.row.T.Denot). Holds c.args.names.now g.T.Tier.kept g.entries v) (sym c.self.view_is) c.requires.1 in
+    let within : c.args.ledger < length c.self.inside.parts.items = let low = c.if-ledger-self.false in let other = c.if-ledger-self-2.false in let closed = holds.closed in omega (arith, low, other, closed) in
+    let here : slice_get t.parts c.args.ledger ≡ Some (part.Here c.in-Here.entries) = part_at c.self.inside.parts.items c.args.ledger c.index.result.now (part.Here c.in-Here.entries) within c.index.ensures c.in-Here.is in
+    not_moved c.args.names.now g.T.Tier.kept g.entries t c.put.new.self c.args.ledger c.in-Here.entries c.as_slice-2.result.now holds here c.in_err-put.ensures.err
+
+pub returns-clause-holds : goal.returns-clause-holds
+returns-clause-holds g c =
+    let t : Tiered g.row.T.Denot = record { own = c.self.inside.own; ledgers = lengths_of c.self.inside.firsts.items c.self.inside.len; unclosed = c.self.inside.unclosed; parts = c.self.inside.parts.items; recalled = c.self.inside.recalled; tier = c.self.inside.tier } in
+    let holds : Holds c.args.names.now g.T.Tier.kept g.entries t = subst (λ (v : Tiered g.row.T.Denot). Holds c.args.names.now g.T.Tier.kept g.entries v) (sym c.self.view_is) c.requires.1 in
+    let within : c.args.ledger < length c.self.inside.parts.items = let low = c.if-ledger-self.false in let other = c.if-ledger-self-2.false in let closed = holds.closed in omega (arith, low, other, closed) in
+    let here : slice_get t.parts c.args.ledger ≡ Some (part.Here c.in-Here.entries) = part_at c.self.inside.parts.items c.args.ledger c.index.result.now (part.Here c.in-Here.entries) within c.index.ensures c.in-Here.is in
+    let bytes : c.as_slice-2.result.now ≡ ledger_text c.args.names.now t.own c.in-Here.entries = c.as_slice-2.ensures ∙ c.in_ok-text.ensures.text ∙ ap (ledger_text c.args.names.now t.own) c.as_slice.ensures in
+    let puts : Puts (g.T.Tier.kept t.tier) (g.T.Tier.kept c.put.new.self) c.args.ledger (ledger_text c.args.names.now t.own c.in-Here.entries) =
+    subst (λ (b : List ℕ). Puts (g.T.Tier.kept t.tier) (g.T.Tier.kept c.put.new.self) c.args.ledger b) bytes c.in_ok-put.ensures.ok in
+    let readable : AreReadable c.args.names.now t.own c.in-Here.entries = subst (λ (xs : List Entry). AreReadable c.args.names.now t.own xs) c.as_slice.ensures c.in_ok-text.ensures.readable in
+    moved c.args.names.now g.T.Tier.kept g.entries t c.put.new.self c.args.ledger c.in-Here.entries holds here readable puts
+
+pub returns-clause-kept : goal.returns-clause-kept
+returns-clause-kept g c =
+    let t : Tiered g.row.T.Denot = record { own = c.self.inside.own; ledgers = lengths_of c.self.inside.firsts.items c.self.inside.len; unclosed = c.self.inside.unclosed; parts = c.self.inside.parts.items; recalled = c.self.inside.recalled; tier = c.self.inside.tier } in
+    let holds : Holds c.args.names.now g.T.Tier.kept g.entries t = subst (λ (v : Tiered g.row.T.Denot). Holds c.args.names.now g.T.Tier.kept g.entries v) (sym c.self.view_is) c.requires.1 in
+    let within : c.args.ledger < length c.self.inside.parts.items = let low = c.if-ledger-self.false in let other = c.if-ledger-self-2.false in let closed = holds.closed in omega (arith, low, other, closed) in
+    let here : slice_get t.parts c.args.ledger ≡ Some (part.Here c.in-Here.entries) = part_at c.self.inside.parts.items c.args.ledger c.index.result.now (part.Here c.in-Here.entries) within c.index.ensures c.in-Here.is in
+    let bytes : c.as_slice-2.result.now ≡ ledger_text c.args.names.now t.own c.in-Here.entries = c.as_slice-2.ensures ∙ c.in_ok-text.ensures.text ∙ ap (ledger_text c.args.names.now t.own) c.as_slice.ensures in
+    let puts : Puts (g.T.Tier.kept t.tier) (g.T.Tier.kept c.put.new.self) c.args.ledger (ledger_text c.args.names.now t.own c.in-Here.entries) =
+    subst (λ (b : List ℕ). Puts (g.T.Tier.kept t.tier) (g.T.Tier.kept c.put.new.self) c.args.ledger b) bytes c.in_ok-put.ensures.ok in
+    let is : c.in-Here.entries ≡ entries_in t.ledgers g.entries c.args.ledger = here_is c.args.names.now g.T.Tier.kept g.entries t c.args.ledger c.in-Here.entries holds here in
+    let text : g.T.Tier.kept c.put.new.self c.args.ledger ≡ Some (ledger_text c.args.names.now t.own (entries_in t.ledgers g.entries c.args.ledger)) = puts.0 ∙ ap (λ (xs : List Entry). Some (ledger_text c.args.names.now t.own xs)) is in
+    subst (λ (v : Tiered g.row.T.Denot). g.T.Tier.kept c.put.new.self c.args.ledger ≡ Some (ledger_text c.args.names.now v.own (entries_in v.ledgers g.entries c.args.ledger))) c.self.view_is text
+
+pub returns-clause-calls : goal.returns-clause-calls
+returns-clause-calls g c =
+    let t : Tiered g.row.T.Denot = record { own = c.self.inside.own; ledgers = lengths_of c.self.inside.firsts.items c.self.inside.len; unclosed = c.self.inside.unclosed; parts = c.self.inside.parts.items; recalled = c.self.inside.recalled; tier = c.self.inside.tier } in
+    let holds : Holds c.args.names.now g.T.Tier.kept g.entries t = subst (λ (v : Tiered g.row.T.Denot). Holds c.args.names.now g.T.Tier.kept g.entries v) (sym c.self.view_is) c.requires.1 in
+    let within : c.args.ledger < length c.self.inside.parts.items = let low = c.if-ledger-self.false in let other = c.if-ledger-self-2.false in let closed = holds.closed in omega (arith, low, other, closed) in
+    let here : slice_get t.parts c.args.ledger ≡ Some (part.Here c.in-Here.entries) = part_at c.self.inside.parts.items c.args.ledger c.index.result.now (part.Here c.in-Here.entries) within c.index.ensures c.in-Here.is in
+    let one : g.T.Tier.calls c.put.new.self ≡ calls_if (not (is_offloaded t c.args.ledger)) (g.T.Tier.calls t.tier) = rw here c.put.ensures.counted in
+    subst (λ (v : Tiered g.row.T.Denot). g.T.Tier.calls c.put.new.self ≡ calls_if (not (is_offloaded v c.args.ledger)) (g.T.Tier.calls v.tier)) c.self.view_is one
