@@ -31,3 +31,5 @@ pub mod AllBack
 pub mod Appended
 pub mod Following
 pub mod Growing
+pub mod OneText
+pub mod RecentLines

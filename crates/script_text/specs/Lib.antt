@@ -10,3 +10,5 @@ pub mod Subs
 pub mod Drafts
 pub mod Kept
 pub mod Canonical
+pub mod Same
+pub mod Recent

@@ -30,6 +30,8 @@ mod law;
 mod lines;
 mod names;
 mod read;
+mod recent;
+mod same;
 mod scenario;
 mod schedule;
 mod setup;

@@ -31,6 +31,13 @@ impl<'a> TextLine<'a> {
         self.bytes
     }
 
+    /// Whether a line feed ends it.
+    pub(crate) fn is_ended(&self) -> bool
+        ensures { result ≡ self.now.ended }
+    {
+        self.ended
+    }
+
     /// Whether it is empty or a comment.
     pub(crate) fn is_skipped(&self) -> bool
         ensures { result ≡ is_skipped self.now.bytes }

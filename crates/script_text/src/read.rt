@@ -10,6 +10,7 @@ use crate::declarations::Declarations;
 use crate::draft::Draft;
 use crate::fault::ScriptFault;
 use crate::lines::Lines;
+use crate::recent::Recent;
 use crate::scenario::Scenario;
 use crate::steps::Steps;
 use geo_base::Memory;
@@ -166,10 +167,14 @@ impl Declarations {
             Err(Memory) => return Err(ScriptFault::Memory),
         };
         let mut lines = lines;
+        let mut recent = match Recent::new(alloc) {
+            Ok(recent) => recent,
+            Err(Memory) => return Err(ScriptFault::Memory),
+        };
         let mut progress = self.progress();
         let mut number = first;
         while let Some(line) = lines.next_line() {
-            match steps.read_line(progress, &names, number, &line) {
+            match steps.read_next(progress, &names, number, &line, &mut recent) {
                 Ok(()) => {}
                 Err(LineFault::Broken(rule)) => {
                     return Err(ScriptFault::Rule {

@@ -1,16 +1,20 @@
 //! The steps that lines schedule.
-ghost use Rattle.std.specs.Prelude.{◌≡◌, [], None, Some, OnOk};
+ghost use Rattle.std.specs.Prelude.{◌≡◌, true, [], All, None, Some, IfErr, OnOk};
+ghost use Rattle.script_rows.specs.declared.fault.LineFault.TheVariants as LineFault;
+ghost use Rattle.script_rows.specs.declared.progress.Stage.TheVariants as stage;
 ghost use Rattle.script_rows.specs.Reading.{values_in};
 ghost use Rattle.script_text.specs.Adding.{with_step};
 ghost use Rattle.script_text.specs.Drafts.{Judges, heads_step, says_step};
+ghost use Rattle.script_text.specs.Recent.{Means, Schedules, among_events};
 ghost use Rattle.script_text.specs.Rules.{lowest, said_by};
 ghost use Rattle.script_text.specs.Schedule.{scheduled};
 ghost use Rattle.script_text.specs.Script.{no_steps};
 
 use crate::lines::TextLine;
+use crate::recent::{Recent, place_of};
 use crate::step_list::StepList;
 use geo_base::{Memory, Step};
-use script_rows::{Heading, LineFault, Names, Progress, Row, Rule, heading_of};
+use script_rows::{Heading, LineFault, Names, Progress, Row, Rule, Stage, heading_of};
 use std::alloc::Global;
 use std::marker::Model;
 
@@ -78,15 +82,59 @@ impl Steps {
     ) -> Result<(), LineFault>
         ensures { Judges result self.new (scheduled number progress names.now self.old line.now) }
     {
-        if line.is_skipped() {
-            return Ok(());
+        match step_of(progress, names, line) {
+            Err(rule) => Err(LineFault::Broken(rule)),
+            Ok(step) => self.take(number, step),
         }
-        let heading = heading_of(line.bytes());
-        let mut row = Row::empty();
-        if let Some(rule) = read_row(progress, names, line, &heading, &mut row) {
-            return Err(LineFault::Broken(rule));
+    }
+
+    /// The same, where lines that schedule steps among events were noted.
+    pub(crate) fn read_next<'a>(
+        &mut self,
+        progress: Progress,
+        names: &Names<'_>,
+        number: u64,
+        line: &TextLine<'a>,
+        recent: &mut Recent<'a>,
+    ) -> Result<(), LineFault>
+        requires recent { All (Means (among_events progress) names.now) recent.old }
+        ensures judges { Judges result self.new (scheduled number progress names.now self.old line.now) }
+        ensures recent { All (Means (among_events progress) names.now) recent.new }
+    {
+        if progress.last == Stage::Event && line.is_ended() {
+            self.read_again(progress, names, number, line, recent)
+        } else {
+            self.read_line(progress, names, number, line)
         }
-        if let Some(step) = heading.step(row.as_slice()) {
+    }
+
+    /// The same of a line that may have been noted, or else is noted now.
+    fn read_again<'a>(
+        &mut self,
+        progress: Progress,
+        names: &Names<'_>,
+        number: u64,
+        line: &TextLine<'a>,
+        recent: &mut Recent<'a>,
+    ) -> Result<(), LineFault>
+        requires late { progress.last ≡ stage.Event }
+        requires ended { line.now.ended ≡ true }
+        requires recent { All (Means (among_events progress) names.now) recent.old }
+        ensures judges { Judges result self.new (scheduled number progress names.now self.old line.now) }
+        ensures recent { All (Means (among_events progress) names.now) recent.new }
+    {
+        match step_again(progress, names, line, recent) {
+            Err(rule) => Err(LineFault::Broken(rule)),
+            Ok(step) => self.take(number, step),
+        }
+    }
+
+    /// The step of a line, where it schedules one.
+    fn take(&mut self, number: u64, step: Option<Step>) -> Result<(), LineFault>
+        ensures ok { OnOk result (self.new ≡ with_step number self.old step) }
+        ensures err { IfErr result (λ why. why ≡ LineFault.Memory) }
+    {
+        if let Some(step) = step {
             self.push(number, step)?;
         }
         Ok(())
@@ -102,6 +150,46 @@ impl Steps {
         }
         Ok(())
     }
+}
+
+/// The step that a line schedules, if it schedules one, or the lowest rule that it breaks.
+fn step_of(progress: Progress, names: &Names<'_>, line: &TextLine<'_>) -> Result<Option<Step>, Rule>
+    ensures { Schedules progress names.now line.now result }
+{
+    if line.is_skipped() {
+        return Ok(None);
+    }
+    let heading = heading_of(line.bytes());
+    let mut row = Row::empty();
+    if let Some(rule) = read_row(progress, names, line, &heading, &mut row) {
+        return Err(rule);
+    }
+    Ok(heading.step(row.as_slice()))
+}
+
+/// The same among events of a line that ends: as it was noted, or read and noted.
+#[tactic(auto, using(crate::proofs::RecentLines::noted_schedules, crate::proofs::RecentLines::note_means))]
+fn step_again<'a>(
+    progress: Progress,
+    names: &Names<'_>,
+    line: &TextLine<'a>,
+    recent: &mut Recent<'a>,
+) -> Result<Option<Step>, Rule>
+    requires late { progress.last ≡ stage.Event }
+    requires ended { line.now.ended ≡ true }
+    requires recent { All (Means (among_events progress) names.now) recent.old }
+    ensures schedules { Schedules progress names.now line.now result }
+    ensures recent { All (Means (among_events progress) names.now) recent.new }
+{
+    let place = place_of(line.bytes());
+    if let Some(step) = recent.find(place, line.bytes()) {
+        return Ok(Some(step));
+    }
+    let step = step_of(progress, names, line)?;
+    if let Some(step) = step {
+        recent.note(place, line.bytes(), step);
+    }
+    Ok(step)
 }
 
 /// The lowest rule that a line breaks. Where it breaks none, what its words say stands in the row.
