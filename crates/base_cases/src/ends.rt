@@ -3,9 +3,9 @@ ghost use Rattle.std.specs.Prelude.{◌≤◌, length, OnOk};
 ghost use Rattle.geo_io.specs.Sink.{Gains};
 ghost use Rattle.geo_io.specs.Ends.{held_of};
 
+use geo_base::Memory;
 use geo_io::{
-    MemSink, MemSource, Memory, ReadFault, Sink, SteadySink, SteadySource, WriteFault, read_all,
-    write_all,
+    MemSink, MemSource, ReadFault, Sink, SteadySink, SteadySource, WriteFault, read_all, write_all,
 };
 use std::alloc::Global;
 use std::test::Fail;

@@ -7,7 +7,7 @@ ghost use Rattle.broker_subs.specs.Table.{sub_at};
 
 use broker_state::{Book, SenderRow, Site};
 use broker_subs::Sub;
-use geo_base::{Memory, Session, SubName};
+use geo_base::{Memory, SubName};
 use std::alloc::Global;
 use std::marker::Model;
 use topic_ledger::TopicLedger;
@@ -122,12 +122,5 @@ impl TopicNode {
         ensures { result ≡ backlog self.now.broker (sub_at self.now.broker.subs i) }
     {
         self.book.backlog(self.book.subs().at(i))
-    }
-
-    /// The clients' sessions.
-    pub fn sessions(&self) -> &[Option<Session>]
-        ensures { result.now ≡ self.now.broker.sessions }
-    {
-        self.book.sessions()
     }
 }

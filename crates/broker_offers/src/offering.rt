@@ -21,12 +21,7 @@ use broker_state::{Book, BookChange, Prepared};
 use broker_subs::{Sub, SubChange};
 use geo_base::{Consumer, Content, Entry, EntryStore, Memory, Peer, Position, WireOut};
 use std::alloc::Global;
-
-/// The position of the first entry.
-const FIRST: Position = Position {
-    ledger: 0,
-    entry: 0,
-};
+use topic_ledger::or_first;
 
 /// What an offer of the subscription of a name will do; idle where there is none, where nothing is due, and where a message is due
 /// and no consumer for it has a permit. Only room is made; an `Err` is want of memory.
@@ -198,10 +193,7 @@ fn message(
 fn position_at(book: &Book, index: u64) -> Position
     ensures { result ≡ position_at book.now.broker.ledgers index }
 {
-    match book.store().position_of(index as usize) {
-        Some(position) => position,
-        None => FIRST,
-    }
+    or_first(book.store().position_of(index as usize))
 }
 
 /// The number of the session that a client has open; 0 where it has none.

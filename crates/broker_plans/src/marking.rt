@@ -6,13 +6,11 @@ ghost use Rattle.broker_plans.specs.Updates.{appending};
 
 use broker_state::{Book, BookWrite};
 use dedup_table::Stream;
+use durable_parts::MARKER_PRODUCER;
 use geo_base::{
     Blob, Content, Entry, Ident, Marker, Memory, Metadata, ProducerName, Sequence, Targets, Text,
 };
 use std::alloc::Global;
-
-/// The name of the producer that a cluster writes its markers as (own).
-const MARKER_PRODUCER: &str = "pulsar.marker";
 
 /// A marker that the own cluster writes next, for targets, which have these names.
 pub fn own_marker(

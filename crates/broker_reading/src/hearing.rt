@@ -14,13 +14,14 @@ ghost use Rattle.broker_plans.specs.Storable.{IsBuilderOf, first_text};
 ghost use Rattle.broker_reading.specs.Reading.{IsRead, IsReading, IsReady, ReadRoom};
 
 use crate::act::{ReadAct, ReadAt, acknowledge_read, skip};
-use crate::markers::{or_first, request, response, snapshot};
+use crate::markers::{request, response, snapshot};
 use crate::updating::read_update;
 use broker_plans::appending;
 use broker_state::{Book, BookChange, Prepared};
 use geo_base::{ClusterPosition, Entry, EntryStore, Marker, Memory, Place, Progress, Text};
 use snapshot_builder::Builder;
 use std::alloc::Global;
+use topic_ledger::or_first;
 
 /// What is to be done with a marker of the other cluster. Its snapshots are its own affair.
 pub(crate) fn read_marker(

@@ -19,12 +19,7 @@ use geo_base::{
 use snapshot_builder::Builder;
 use std::alloc::Global;
 use sub_update::named_positions;
-
-/// The position that nothing stored stands for.
-const FIRST: Position = Position {
-    ledger: 0,
-    entry: 0,
-};
+use topic_ledger::or_first;
 
 /// A request of this id, of a snapshot's first or second round.
 #[tactic(auto, using(crate::proofs::Sizes::request_ready))]
@@ -99,14 +94,4 @@ fn only(book: &Book, cluster: u32) -> Targets
 {
     let _site = book.site();
     Targets::Only(1 << cluster)
-}
-
-/// A position, if there is one.
-pub(crate) fn or_first(position: Option<Position>) -> Position
-    ensures { result ≡ or_first position }
-{
-    match position {
-        None => FIRST,
-        Some(position) => position,
-    }
 }

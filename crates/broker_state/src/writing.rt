@@ -2,7 +2,6 @@
 ghost use Rattle.std.specs.Prelude.{◌≡◌, ◌<◌, ◌≤◌, ◌+◌, ◌-◌, ◌^◌, ◌++◌, ◌∷◌, [], None, true, length, max, min, if◌then◌else◌};
 ghost use Rattle.dedup_table.specs.Table.{stream_of};
 ghost use Rattle.geo_base.specs.Broker.{sub_named, written};
-ghost use Rattle.geo_base.specs.Entry.{is_own_marker};
 ghost use Rattle.geo_base.specs.Topic.{accepts};
 ghost use Rattle.geo_base.specs.declared.write.Write.TheVariants as write;
 ghost use Rattle.broker_subs.specs.Steps as sub;
@@ -16,10 +15,8 @@ use crate::sender_row::SenderStep;
 use crate::write::BookWrite;
 use broker_subs::{Sub, SubWrite};
 use dedup_table::Stream;
+use durable_parts::marker_after;
 use geo_base::{Entry, EntryStore};
-
-/// The producer of a cluster's own markers.
-const MARKER_PRODUCER: &[u8] = b"pulsar.marker";
 
 impl Book {
     /// Does one durable write of an event about the subscription at a place.
@@ -106,22 +103,4 @@ impl Book {
     {
         self.subs.write(place, write, &self.store);
     }
-}
-
-/// The sequence id of the next own marker after one more entry.
-fn marker_after(own: u32, next: u64, entry: &Entry) -> u64
-    ensures { result ≡ (if is_own_marker own entry.now then max next (min (entry.now.ident.seq + 1) (2 ^ 64 - 1)) else next) }
-{
-    if is_own_marker(own, entry) {
-        next.max(entry.ident.seq.saturating_add(1))
-    } else {
-        next
-    }
-}
-
-/// Whether an entry is a marker that a cluster stored first, of whatever kind.
-fn is_own_marker(own: u32, entry: &Entry) -> bool
-    ensures { result ≡ is_own_marker own entry.now }
-{
-    entry.ident.origin == own && entry.ident.producer.as_bytes() == MARKER_PRODUCER
 }

@@ -7,6 +7,7 @@
 
 mod applying;
 mod durable;
+mod marker;
 mod recovery;
 mod senders;
 mod subs;
@@ -14,6 +15,7 @@ mod write;
 
 pub use applying::{apply_write, law_writes};
 pub use durable::{Durable, DurableSender, DurableSub};
+pub use marker::{MARKER_PRODUCER, is_own_marker, marker_after};
 pub use recovery::{Recovered, recover};
 pub use senders::DurableSenders;
 pub use subs::DurableSubs;

@@ -1,12 +1,12 @@
 //! Recovery from a topic's entries.
 ghost use Rattle.std.specs.Prelude.{◌≡◌, ◌+◌, ◌-◌, ◌^◌, max, min, if◌then◌else◌, IfOk};
 ghost use Rattle.dedup_table.specs.Table.{Tells};
-ghost use Rattle.geo_base.specs.Entry.{is_own_marker};
 ghost use Rattle.geo_base.specs.Topic.{next_marker};
 
 use crate::durable::Durable;
+use crate::marker::marker_after;
 use dedup_table::DedupTable;
-use geo_base::{Entry, EntryStore, Memory};
+use geo_base::{EntryStore, Memory};
 use std::alloc::Global;
 
 /// What a broker keeps in memory about the entries that its topic stores.
@@ -37,26 +37,8 @@ fn next_marker<S: EntryStore>(own: u32, store: &S) -> u64
     let mut next: u64 = 0;
     for i in 0..store.len() {
         if let Some(entry) = store.get(i) {
-            next = next_after(own, entry, next);
+            next = marker_after(own, next, entry);
         }
     }
     next
-}
-
-/// The sequence id of the next own marker after one more entry.
-fn next_after(own: u32, entry: &Entry, next: u64) -> u64
-    ensures { result ≡ (if is_own_marker own entry.now then max next (min (entry.now.ident.seq + 1) (2 ^ 64 - 1)) else next) }
-{
-    if is_own_marker(own, entry) {
-        next.max(entry.ident.seq.saturating_add(1))
-    } else {
-        next
-    }
-}
-
-/// Whether an entry is a marker that a cluster stored first, of whatever kind.
-fn is_own_marker(own: u32, entry: &Entry) -> bool
-    ensures { result ≡ is_own_marker own entry.now }
-{
-    entry.ident.origin == own && entry.ident.producer.as_bytes() == b"pulsar.marker".as_slice()
 }

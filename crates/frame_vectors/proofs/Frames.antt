@@ -1,7 +1,7 @@
 -- What a reader that took in one piece says of it.
 use Rattle.std.proofs.Common.{◌≡◌, ℕ, List, [], ◌∷◌, Option, Some, None, Result, Ok, Err, inl, inr, refl, sym, ap, subst, ◌∙◌}
 use Rattle.std.specs.Prelude.{IfOk}
-use Rattle.pb_fields.specs.declared.memory.Memory.{Memory}
+use Rattle.geo_base.specs.declared.memory.Memory.{Memory}
 use Rattle.pulsar_frames.specs.declared.fault.FrameFault.{FrameFault}
 use Rattle.pulsar_frames.specs.declared.fault.FrameFault.TheVariants as fault
 use Rattle.pulsar_frames.specs.declared.frame.Frame.{Frame}

@@ -3,7 +3,7 @@ use Rattle.std.proofs.Common.{◌≡◌, ℕ, List, Result, Ok, Err, subst, sym}
 use Rattle.std.specs.Prelude.{IfOk}
 use Rattle.geo_base.specs.declared.frame.Frame.{Frame}
 use Rattle.geo_base.specs.declared.frame.Frame.TheVariants as frame
-use Rattle.pb_fields.specs.declared.memory.Memory.{Memory}
+use Rattle.geo_base.specs.declared.memory.Memory.{Memory}
 use Rattle.frame_values.specs.Standing.{Reads}
 use Rattle.frame_vectors.specs.declared.answer.Answer.{Answer}
 use Rattle.frame_vectors.specs.declared.answer.Answer.TheVariants as answers

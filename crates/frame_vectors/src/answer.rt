@@ -7,10 +7,10 @@ ghost use Rattle.frame_values.specs.Texts.{unread_bytes};
 ghost use Rattle.pulsar_frames.specs.Canonical.{IsComplete};
 
 use frame_values::{is_readable, read_value, try_write_value};
-use geo_base::{ClusterName, Frame as Value};
+use geo_base::{ClusterName, Frame as Value, Memory};
 use marker_codec::{Marker, MarkerFault};
 use message_meta::{Meta, MetaFault};
-use pb_fields::{ByteList, Memory, PbFault, read_fields, write_fields};
+use pb_fields::{ByteList, PbFault, read_fields, write_fields};
 use pulsar_commands::{Command, CommandFault};
 use pulsar_frames::{Frame, FrameFault, FrameReader, write_frame};
 use std::alloc::Global;

@@ -1,8 +1,8 @@
 //! A line of a file of vectors.
 
 use crate::answer::{Answer, Kind, answer_of};
+use geo_base::Memory;
 use hex::FromHexError;
-use pb_fields::Memory;
 use std::alloc::Global;
 
 /// The answer for a line.

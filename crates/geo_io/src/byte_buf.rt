@@ -1,7 +1,7 @@
 //! Bytes that own their memory.
 ghost use Rattle.std.specs.Prelude.{◌≡◌, [], ◌++◌, length, IsTrue, ◌↔◌, OnOk, OnErr};
 
-use crate::fault::Memory;
+use geo_base::Memory;
 use std::alloc::Global;
 use std::marker::Model;
 

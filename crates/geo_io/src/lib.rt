@@ -13,7 +13,7 @@
 //! - [`MemSource`] and [`MemSink`] are for tests: they move few bytes in a call and fail at stated
 //!   calls.
 //!
-//! Want of memory is [`Memory`], an error of its own. The traits and their rules are this project's
+//! Want of memory is [`Memory`], as everywhere. The traits and their rules are this project's
 //! own, after `std::io::{Read, Write}`.
 #![tactic(auto)]
 
@@ -29,7 +29,7 @@ mod steady;
 mod whole;
 
 pub use byte_buf::ByteBuf;
-pub use fault::{Failed, Memory};
+pub use fault::Failed;
 pub use mem_sink::MemSink;
 pub use mem_source::MemSource;
 pub use planned_faults::PlannedFaults;

@@ -4,9 +4,10 @@ ghost use Rattle.std.specs.Io.{WritesAtMost};
 ghost use Rattle.geo_io.specs.Faults.{one_more, Rose, Stood};
 ghost use Rattle.geo_io.specs.Sink.{Gains, Gains-more, Gains-none, WriteGains, WriteTakes};
 
-use crate::fault::{Failed, Memory};
+use crate::fault::Failed;
 use crate::planned_faults::PlannedFaults;
 use crate::sink::Sink;
+use geo_base::Memory;
 use std::alloc::Global;
 use std::marker::Model;
 

@@ -5,9 +5,10 @@ ghost use Rattle.std.specs.Io.KnownBytes.{Consumes, ReadConsumes};
 ghost use Rattle.geo_io.specs.Faults.{one_more, Rose, Stood};
 ghost use Rattle.geo_io.specs.Source.{Consumes-more, Consumes-none, ReadGives};
 
-use crate::fault::{Failed, Memory};
+use crate::fault::Failed;
 use crate::planned_faults::PlannedFaults;
 use crate::source::{Source, copy_front};
+use geo_base::Memory;
 use std::alloc::Global;
 use std::marker::Model;
 

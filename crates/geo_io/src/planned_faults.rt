@@ -2,7 +2,7 @@
 ghost use Rattle.std.specs.Prelude.{◌≡◌, ◌≤◌, IfOk, IsTrue, ◌↔◌, Contains, if◌then◌else◌};
 ghost use Rattle.geo_io.specs.Faults.{one_more};
 
-use crate::fault::Memory;
+use geo_base::Memory;
 use std::alloc::Global;
 use std::marker::Model;
 

@@ -6,9 +6,10 @@ ghost use Rattle.geo_io.specs.Source.{ConsumesWithin, GivesOver, GivesSome, Long
 ghost use Rattle.geo_io.specs.Sink.{Gains};
 
 use crate::byte_buf::ByteBuf;
-use crate::fault::{Failed, Memory};
+use crate::fault::Failed;
 use crate::sink::Sink;
 use crate::source::Source;
+use geo_base::Memory;
 use std::alloc::Global;
 use std::error::Error;
 use std::fmt;

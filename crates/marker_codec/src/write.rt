@@ -30,11 +30,7 @@ impl Marker {
     }
 }
 
-fn append_marker(
-    alloc: Global,
-    out: &mut ByteList,
-    marker: &Marker,
-) -> Result<(), pb_fields::Memory>
+fn append_marker(alloc: Global, out: &mut ByteList, marker: &Marker) -> Result<(), Memory>
     ensures ok { OnOk result (out.new ≡ out.old ++ text (canonical_fields marker.now)) }
     ensures fields { OnOk result (AllByRecursion IsField (canonical_fields marker.now)) }
     ensures parts { OnOk result (HasGoodParts marker.now) }
@@ -73,7 +69,7 @@ fn append_marker(
     }
 }
 
-fn append_text(out: &mut ByteList, number: u32, content: &Text) -> Result<(), pb_fields::Memory>
+fn append_text(out: &mut ByteList, number: u32, content: &Text) -> Result<(), Memory>
     requires { IsFieldNumber number }
     ensures ok { OnOk result (out.new ≡ out.old ++ field_text (bytes_field number content.now)) }
     ensures field { OnOk result (IsField (bytes_field number content.now)) }
@@ -88,7 +84,7 @@ fn append_position(
     out: &mut ByteList,
     number: u32,
     position: Position,
-) -> Result<(), pb_fields::Memory>
+) -> Result<(), Memory>
     requires { IsFieldNumber number }
     ensures ok { OnOk result (out.new ≡ out.old ++ field_text (bytes_field number (text (position_fields position)))) }
     ensures field { OnOk result (IsField (bytes_field number (text (position_fields position)))) }
@@ -106,7 +102,7 @@ fn append_cluster(
     out: &mut ByteList,
     number: u32,
     cluster: &ClusterMessageId,
-) -> Result<(), pb_fields::Memory>
+) -> Result<(), Memory>
     requires { IsFieldNumber number }
     ensures ok { OnOk result (out.new ≡ out.old ++ field_text (bytes_field number (text (cluster_fields cluster.now)))) }
     ensures field { OnOk result (IsField (bytes_field number (text (cluster_fields cluster.now)))) }
@@ -124,7 +120,7 @@ fn append_clusters(
     out: &mut ByteList,
     number: u32,
     clusters: &ClusterMessageIds,
-) -> Result<(), pb_fields::Memory>
+) -> Result<(), Memory>
     requires { IsFieldNumber number }
     ensures ok { OnOk result (out.new ≡ out.old ++ text (clusters_fields number clusters.now)) }
     ensures fields { OnOk result (AllByRecursion IsField (clusters_fields number clusters.now)) }

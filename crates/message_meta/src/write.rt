@@ -33,7 +33,7 @@ impl Meta {
 }
 
 #[tactic(auto, using(crate::proofs::Joined::same_text, crate::proofs::Joined::same_metadata))]
-fn append_meta(out: &mut ByteList, meta: &Meta) -> Result<(), pb_fields::Memory>
+fn append_meta(out: &mut ByteList, meta: &Meta) -> Result<(), Memory>
     ensures ok { OnOk result (out.new ≡ out.old ++ text (canonical_fields meta.now)) }
     ensures fits { OnOk result (IsMetadata meta.now) }
 {
@@ -42,10 +42,7 @@ fn append_meta(out: &mut ByteList, meta: &Meta) -> Result<(), pb_fields::Memory>
 }
 
 /// Appends the fields that the table names.
-pub(crate) fn append_known(
-    out: &mut ByteList,
-    known: KnownMeta<'_>,
-) -> Result<(), pb_fields::Memory>
+pub(crate) fn append_known(out: &mut ByteList, known: KnownMeta<'_>) -> Result<(), Memory>
     ensures ok { OnOk result (out.new ≡ out.old ++ text (known_fields known.entry)) }
     ensures fits { OnOk result (IsKnown known.entry) }
 {
@@ -53,7 +50,7 @@ pub(crate) fn append_known(
     append_optional(out, known)
 }
 
-fn append_required(out: &mut ByteList, known: KnownMeta<'_>) -> Result<(), pb_fields::Memory>
+fn append_required(out: &mut ByteList, known: KnownMeta<'_>) -> Result<(), Memory>
     ensures ok { OnOk result (out.new ≡ out.old ++ text (required_fields (joined known.entry []))) }
     ensures fields { OnOk result (AllByRecursion IsField (required_fields (joined known.entry []))) }
     ensures producer { OnOk result (IsUtf8 known.entry.producer.now) }
@@ -63,7 +60,7 @@ fn append_required(out: &mut ByteList, known: KnownMeta<'_>) -> Result<(), pb_fi
     write_varint(out, PUBLISH_TIME, known.publish_time)
 }
 
-fn append_optional(out: &mut ByteList, known: KnownMeta<'_>) -> Result<(), pb_fields::Memory>
+fn append_optional(out: &mut ByteList, known: KnownMeta<'_>) -> Result<(), Memory>
     ensures ok { OnOk result (out.new ≡ out.old ++ text (optional_fields (joined known.entry []))) }
     ensures fields { OnOk result (AllByRecursion IsField (optional_fields (joined known.entry []))) }
     ensures replicated_from { OnOk result (IfSome (option_copied known.entry.replicated_from) IsUtf8) }
@@ -76,7 +73,7 @@ fn append_optional(out: &mut ByteList, known: KnownMeta<'_>) -> Result<(), pb_fi
     write_optional_varint(out, MARKER_TYPE, known.marker)
 }
 
-fn append_text(out: &mut ByteList, number: u32, content: &str) -> Result<(), pb_fields::Memory>
+fn append_text(out: &mut ByteList, number: u32, content: &str) -> Result<(), Memory>
     requires { IsFieldNumber number }
     ensures ok { OnOk result (out.new ≡ out.old ++ field_text (bytes_field number content.now)) }
     ensures field { OnOk result (IsField (bytes_field number content.now)) }
@@ -85,11 +82,7 @@ fn append_text(out: &mut ByteList, number: u32, content: &str) -> Result<(), pb_
     write_bytes(out, number, content.as_bytes())
 }
 
-fn append_optional_str(
-    out: &mut ByteList,
-    number: u32,
-    content: Option<&str>,
-) -> Result<(), pb_fields::Memory>
+fn append_optional_str(out: &mut ByteList, number: u32, content: Option<&str>) -> Result<(), Memory>
     requires { IsFieldNumber number }
     ensures ok { OnOk result (out.new ≡ out.old ++ text (optional (bytes_field number) (option_copied content.entry))) }
     ensures fields { OnOk result (AllByRecursion IsField (optional (bytes_field number) (option_copied content.entry))) }
@@ -105,7 +98,7 @@ fn append_optional_text(
     out: &mut ByteList,
     number: u32,
     content: &Option<Text>,
-) -> Result<(), pb_fields::Memory>
+) -> Result<(), Memory>
     requires { IsFieldNumber number }
     ensures ok { OnOk result (out.new ≡ out.old ++ text (optional (bytes_field number) content.now)) }
     ensures fields { OnOk result (AllByRecursion IsField (optional (bytes_field number) content.now)) }
@@ -117,11 +110,7 @@ fn append_optional_text(
     }
 }
 
-fn append_texts(
-    out: &mut ByteList,
-    number: u32,
-    contents: &TextList,
-) -> Result<(), pb_fields::Memory>
+fn append_texts(out: &mut ByteList, number: u32, contents: &TextList) -> Result<(), Memory>
     requires { IsFieldNumber number }
     ensures ok { OnOk result (out.new ≡ out.old ++ text (map (bytes_field number) contents.now)) }
     ensures fields { OnOk result (AllByRecursion IsField (map (bytes_field number) contents.now)) }

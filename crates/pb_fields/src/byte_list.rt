@@ -2,7 +2,7 @@
 
 ghost use Rattle.std.specs.Prelude.{◌≡◌, ◌↔◌, [], length, IfOk, IsTrue};
 
-use crate::memory::Memory;
+use geo_base::Memory;
 use std::alloc::Global;
 use std::marker::Model;
 

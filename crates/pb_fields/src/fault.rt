@@ -5,7 +5,7 @@ ghost use Rattle.pb_fields.specs.declared.fault.FieldError.TheVariants as field_
 ghost use Rattle.pb_fields.specs.declared.fault.PbFault.TheVariants as pb;
 ghost use Rattle.pb_fields.specs.Faults.{fault_at};
 
-use crate::memory::Memory;
+use geo_base::Memory;
 use std::alloc::{AllocError, AllocFailed};
 use std::error::Error;
 use std::fmt;

@@ -7,7 +7,7 @@ ghost use Rattle.pb_fields.specs.Field.{HasNumber, wire_number, wire_type};
 ghost use Rattle.std.specs.List.{AllByRecursion};
 
 use crate::byte_list::ByteList;
-use crate::memory::Memory;
+use geo_base::Memory;
 use std::alloc::Global;
 use std::marker::Model;
 

@@ -14,7 +14,7 @@ ghost use Rattle.pb_fields.specs.declared.fault.FieldFault.{FieldFault};
 use crate::byte_list::ByteList;
 use crate::fault::{FieldError, FieldFault, PbFault};
 use crate::field::{Field, FieldList, Value, WireType};
-use crate::memory::Memory;
+use geo_base::Memory;
 use std::alloc::Global;
 
 /// A varint has at most ten bytes; the tenth has the one bit that is left of 64.

@@ -7,7 +7,7 @@ ghost use Rattle.pb_fields.specs.Canonical.{varint, value_text, field_text, text
 
 use crate::byte_list::ByteList;
 use crate::field::{Field, FieldList, Value, WireType};
-use crate::memory::Memory;
+use geo_base::Memory;
 use std::alloc::AllocError;
 
 /// Appends the shortest varint of a number.

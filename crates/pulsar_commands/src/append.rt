@@ -13,7 +13,8 @@ use crate::command::Command;
 use broker::append_of_broker;
 use connection::append_of_connection;
 use consumer::append_of_consumer;
-use pb_fields::{ByteList, Memory};
+use geo_base::Memory;
+use pb_fields::ByteList;
 use producer::append_of_producer;
 use std::alloc::Global;
 

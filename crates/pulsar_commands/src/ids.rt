@@ -147,7 +147,7 @@ pub(crate) fn all_ids(
 }
 
 /// The canonical text of a position.
-fn id_content(alloc: Global, position: Position) -> Result<ByteList, pb_fields::Memory>
+fn id_content(alloc: Global, position: Position) -> Result<ByteList, Memory>
     ensures { IfOk result (λ bytes. (bytes ≡ id_text position) × IsPosition position) }
 {
     let mut out = ByteList::new(alloc);
@@ -162,7 +162,7 @@ pub(crate) fn append_id(
     out: &mut ByteList,
     number: u32,
     position: Position,
-) -> Result<(), pb_fields::Memory>
+) -> Result<(), Memory>
     requires { IsFieldNumber number }
     ensures { OnOk result (WritesPart out.old (part.id number position) out.new) }
 {
@@ -176,7 +176,7 @@ pub(crate) fn append_optional_id(
     out: &mut ByteList,
     number: u32,
     position: Option<Position>,
-) -> Result<(), pb_fields::Memory>
+) -> Result<(), Memory>
     requires { IsFieldNumber number }
     ensures { OnOk result (WritesPart out.old (part.optional_id number position) out.new) }
 {
@@ -192,7 +192,7 @@ pub(crate) fn append_ids(
     out: &mut ByteList,
     number: u32,
     positions: &PositionList,
-) -> Result<(), pb_fields::Memory>
+) -> Result<(), Memory>
     requires { IsFieldNumber number }
     ensures { OnOk result (WritesPart out.old (part.ids number positions.now) out.new) }
 {

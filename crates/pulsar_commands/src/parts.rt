@@ -70,11 +70,7 @@ pub(crate) fn flag(rows: &[Row], fields: &[Field], number: u32) -> bool
 }
 
 /// Appends a text.
-pub(crate) fn append_text(
-    out: &mut ByteList,
-    number: u32,
-    content: &Text,
-) -> Result<(), pb_fields::Memory>
+pub(crate) fn append_text(out: &mut ByteList, number: u32, content: &Text) -> Result<(), Memory>
     requires { IsFieldNumber number }
     ensures { OnOk result (WritesPart out.old (part.text number content.now) out.new) }
 {
@@ -86,7 +82,7 @@ pub(crate) fn append_optional_text(
     out: &mut ByteList,
     number: u32,
     content: &Option<Text>,
-) -> Result<(), pb_fields::Memory>
+) -> Result<(), Memory>
     requires { IsFieldNumber number }
     ensures { OnOk result (WritesPart out.old (part.optional_text number content.now) out.new) }
 {
@@ -97,11 +93,7 @@ pub(crate) fn append_optional_text(
 }
 
 /// Appends a number.
-pub(crate) fn append_number(
-    out: &mut ByteList,
-    number: u32,
-    value: u64,
-) -> Result<(), pb_fields::Memory>
+pub(crate) fn append_number(out: &mut ByteList, number: u32, value: u64) -> Result<(), Memory>
     requires { IsFieldNumber number }
     ensures { OnOk result (WritesPart out.old (part.number number value) out.new) }
 {
@@ -113,7 +105,7 @@ pub(crate) fn append_optional_number(
     out: &mut ByteList,
     number: u32,
     value: Option<u64>,
-) -> Result<(), pb_fields::Memory>
+) -> Result<(), Memory>
     requires { IsFieldNumber number }
     ensures { OnOk result (WritesPart out.old (part.optional_number number value) out.new) }
 {
@@ -121,11 +113,7 @@ pub(crate) fn append_optional_number(
 }
 
 /// Appends a flag as 0 or 1.
-pub(crate) fn append_flag(
-    out: &mut ByteList,
-    number: u32,
-    flag: bool,
-) -> Result<(), pb_fields::Memory>
+pub(crate) fn append_flag(out: &mut ByteList, number: u32, flag: bool) -> Result<(), Memory>
     requires { IsFieldNumber number }
     ensures { OnOk result (WritesPart out.old (part.flag number flag) out.new) }
 {

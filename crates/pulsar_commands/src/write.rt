@@ -26,7 +26,7 @@ impl Command {
     }
 }
 
-fn written(alloc: Global, command: &Command) -> Result<ByteList, pb_fields::Memory>
+fn written(alloc: Global, command: &Command) -> Result<ByteList, Memory>
     ensures canonical { IfOk result (λ bytes. bytes ≡ command_text command.now) }
     ensures writable { IfOk result (λ bytes. IsWritable command.now) }
 {

@@ -6,12 +6,10 @@ ghost use Rattle.state_brokers.specs.Entries.{is_in_turn, is_next};
 ghost use Rattle.state_brokers.specs.Book.{is_new, is_turn, last_with};
 
 use dedup_table::{DedupTable, Stream, Verdict};
+use durable_parts::is_own_marker;
 use geo_base::{Entry, Ident, Memory};
 use std::alloc::Global;
 use std::marker::Model;
-
-/// The producer that a cluster writes its markers as (own).
-const MARKER_PRODUCER: &[u8] = b"pulsar.marker";
 
 /// Entries of the topic of the cluster `own`, each of which was in turn. `last` is the sequence id of its last own marker.
 #[derive(Debug, Drop)]
@@ -102,13 +100,6 @@ impl EntryBook {
         self.last = last;
         Ok(())
     }
-}
-
-/// Whether an identity is that of a marker of the cluster `own`.
-fn is_own_marker(own: u32, ident: &Ident) -> bool
-    ensures { result ≡ ((ident.now.origin == own) && bytes_eq ident.now.producer marker_producer) }
-{
-    ident.origin == own && ident.producer.as_bytes() == MARKER_PRODUCER
 }
 
 /// Whether a sequence id is no duplicate.

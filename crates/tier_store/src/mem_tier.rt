@@ -4,7 +4,8 @@ ghost use Rattle.geo_io.specs.Faults.{Rose, Stood, one_more};
 ghost use Rattle.tier_store.specs.Kept.{IsRead, KeepsAll, MayPut, Puts, kept_in};
 
 use crate::tier::{Failed, Held, Tier, TierGet};
-use geo_io::{ByteBuf, Memory, PlannedFaults};
+use geo_base::Memory;
+use geo_io::{ByteBuf, PlannedFaults};
 use std::alloc::Global;
 use std::collections::BTreeMap;
 use std::marker::Model;

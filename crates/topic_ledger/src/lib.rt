@@ -9,6 +9,8 @@ mod entry_of;
 pub mod firsts;
 mod ledger;
 mod list_store;
+mod position;
 
 pub use ledger::TopicLedger;
 pub use list_store::ListStore;
+pub use position::or_first;

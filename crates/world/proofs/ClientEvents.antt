@@ -1,24 +1,19 @@
 -- An event of a client leads to the machine's world after it.
 use Rattle.std.proofs.Common.{◌≡◌, ℕ, zero, suc, ◌+◌, ◌^◌, ◌<◌, ◌≤◌, true, false, List, [], ◌∷◌, length, refl, sym, ◌∙◌, ap, subst, arith}
 use Rattle.std.specs.Prelude.{Option, Some, None, Ok, Err, OnErr, OnOk, not, is_some, slice_index, slice_index_or}
-use Rattle.std.specs.List.{list_all}
 use Rattle.client.proofs.KnownNames.{goes_known, reconnects_known}
-use Rattle.client.proofs.Short.{declared_short}
 use Rattle.client.specs.Changing.{client_after}
 use Rattle.client.specs.Counted.{CanConnect, CanCount}
 use Rattle.client.specs.Packets.{AreWritten}
 use Rattle.client.specs.Prepared.{IsPrepared, PreparedClient}
-use Rattle.client.specs.Site.{is_short_line, known_setup}
+use Rattle.client.specs.Site.{known_setup}
 use Rattle.geo_base.specs.declared.event.Event.TheVariants as event
-use Rattle.geo_base.specs.declared.client.Line.{Line}
 use Rattle.geo_base.specs.declared.packet.Out.{Out}
 use Rattle.geo_base.specs.Client.{Acted, Client, new_client, reconnect}
 use Rattle.geo_base.specs.Going.{go}
 use Rattle.geo_base.specs.Happening.{client_acted as machine_acted, client_does, happens, idles}
-use Rattle.geo_base.specs.Name.{is_name}
 use Rattle.geo_base.specs.Planned.{has_client}
-use Rattle.geo_base.specs.Scripted.{IsScripted, is_declared}
-use Rattle.geo_base.specs.Setup.{Declared, Setup, declared_at, nobody}
+use Rattle.geo_base.specs.Setup.{Setup, declared_at}
 use Rattle.geo_base.specs.World.{LinkName as MachineLink, World, client_at}
 use Rattle.links.proofs.Simulated.{stamp_is}
 use Rattle.links.specs.declared.name.LinkName.{LinkName}
@@ -32,7 +27,6 @@ use Rattle.world_kept.proofs.Keeping.{client_goes, client_reconnects, client_sta
 use Rattle.world_kept.specs.Kept.{Kept, client_acted, idled, stamp_at}
 use Rattle.world_kept.specs.Standing.{Stands, limit_of}
 use Rattle.world_laws.proofs.Bounds.{packet_within}
-use Rattle.world_laws.proofs.ClientRoams.{all_index}
 use Rattle.world_kept.proofs.Reaching.{ground}
 use Rattle.world_kept.specs.Reached.{Reached}
 use Rattle.world_laws.specs.Starts.{most_at_start}
@@ -43,20 +37,6 @@ use Rattle.world.specs.Steps.{Leads}
 use Rattle.world.specs.World.{AreNodes, IsAt, WorldBook, kept_of}
 use Rattle.world.proofs.Leading.{Answer, leads_by, on_ok}
 use Rattle.world.proofs.Places.{below, few, ground_of, most_number}
-
--- ---- what a client knows
-
-pub lines_short : (s : Setup) (c : ℕ) → IsScripted s → c < length s.clients → list_all is_short_line (declared_at s c).lines ≡ true
-lines_short s c scripted lt = declared_short s (declared_at s c) (all_index (is_declared s) s.clients c nobody scripted.clients.0 lt)
-
-pub short_lines : (d : Declared) (ls : List Line) → list_all is_short_line d.lines ≡ true → ls ≡ d.lines → list_all is_short_line ls ≡ true
-short_lines d ls short is = rw is short
-
-pub few_clusters : (s : Setup) → IsScripted s → length s.clusters ≤ 8
-few_clusters s scripted = scripted.clusters.1
-
-pub names_are : (s : Setup) → IsScripted s → list_all is_name s.clusters ≡ true
-names_are s scripted = scripted.cluster_names.0
 
 -- ---- the client of an event
 

@@ -1,13 +1,12 @@
 -- A world as it begins.
-use Rattle.std.proofs.Common.{◌≡◌, ℕ, zero, suc, ◌+◌, ◌*◌, ◌/◌, ◌<◌, List, [], ◌∷◌, ◌++◌, length, map, take, refl, sym, ◌∙◌, ap, subst, arith, add-one, take_all}
+use Rattle.std.proofs.Common.{◌≡◌, ℕ, zero, suc, ◌+◌, ◌*◌, ◌/◌, ◌<◌, List, [], ◌∷◌, ◌++◌, length, map, take, refl, sym, ◌∙◌, ap, subst, arith}
 use Rattle.std.proofs.lemmas.List.{length-map, length-replicate, map-append, replicate_more, take_more}
 use Rattle.std.proofs.lemmas.Nat.{div-mul-add}
-use Rattle.std.proofs.lemmas.Option.{get_or_from_slice_get, none-some, slice_get_within}
-use Rattle.std.specs.Prelude.{Some, None, replicate, slice_get, slice_index_or}
+use Rattle.std.specs.Prelude.{replicate, slice_index_or}
 use Rattle.geo_base.specs.Broker.{Broker, new_broker}
 use Rattle.geo_base.specs.Client.{Client, new_client}
 use Rattle.geo_base.specs.Scripted.{IsScripted}
-use Rattle.geo_base.specs.Setup.{Declared, Setup, declared_at, nobody, sub_names}
+use Rattle.geo_base.specs.Setup.{Declared, Setup, declared_at, nobody}
 use Rattle.geo_base.specs.World.{node, opening_world}
 use Rattle.broker.specs.Events.{IsNodeOf}
 use Rattle.broker.specs.Node.{NodeBook}
@@ -68,23 +67,6 @@ topic_begins s t vs h = let is : t * length s.clusters ≡ t * length s.clusters
 
 pub topic_ends : (s : Setup) (t x : ℕ) (vs : List NodeBook) → x ≡ length s.clusters → AreNew s (t * length s.clusters + x) vs → AreNew s ((t + 1) * length s.clusters) vs
 topic_ends s t x vs all h = let is : t * length s.clusters + x ≡ (t + 1) * length s.clusters = grind (arith, all) in subst (λ (k : ℕ). AreNew s k vs) is h
-
--- ---- names
-
-pub one_name_more : {X : Type 0} (xs : List X) (i : ℕ) (x : X) → slice_get xs i ≡ Some x → take (i + 1) xs ≡ take i xs ++ x ∷ []
-one_name_more xs i x at = take_more xs i x (slice_get_within xs i x at) ∙ ap (λ (y : _). take i xs ++ y ∷ []) (get_or_from_slice_get xs i x x at)
-
-no_more : {X : Type 0} (xs : List X) (i : ℕ) → slice_get xs i ≡ None → take (suc i) xs ≡ take i xs
-no_more [] zero at = refl
-no_more [] (suc i) at = refl
-no_more (x ∷ xs) zero at = absurd (none-some x (sym at))
-no_more (x ∷ xs) (suc i) at = ap (λ ys. x ∷ ys) (no_more xs i at)
-
-pub no_name_more : {X : Type 0} (xs : List X) (i : ℕ) → slice_get xs i ≡ None → take (i + 1) xs ≡ take i xs
-no_name_more xs i at = rw add-one (no_more xs i at)
-
-pub all_names : (s : Setup) (t : ℕ) → IsScripted s → take 32 (sub_names s t) ≡ sub_names s t
-all_names s t h = take_all 32 (sub_names s t) (h.of_a_topic t).1
 
 -- ---- clients
 

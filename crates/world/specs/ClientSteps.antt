@@ -1,5 +1,5 @@
 -- How an event of a client leaves the world.
-use Rattle.std.specs.Prelude.{◌≡◌, ℕ, ◌+◌, Bool, true, false, not, List, map, Option, Some, None, slice_index_or, slice_set}
+use Rattle.std.specs.Prelude.{◌≡◌, ℕ, ◌+◌, Bool, true, false, not, List, Option, Some, None, slice_index_or, slice_set}
 use Rattle.client.specs.Changing.{client_after}
 use Rattle.client.specs.Prepared.{PreparedClient}
 use Rattle.geo_base.specs.Client.{Client, new_client}

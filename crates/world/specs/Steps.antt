@@ -1,5 +1,5 @@
 -- How a step leaves the world.
-use Rattle.std.specs.Prelude.{◌≡◌, ℕ, ◌+◌, ◌≤◌, Bool, true, false, List, map, Option, Some, None, Ok, Err, OnOk, Result, slice_set, ⊤}
+use Rattle.std.specs.Prelude.{◌≡◌, ℕ, ◌+◌, ◌≤◌, Bool, true, false, List, Option, Some, None, Ok, Err, OnOk, Result, slice_set, ⊤}
 use Rattle.geo_base.specs.declared.event.Event.{Event}
 use Rattle.geo_base.specs.declared.packet.Packet.{Packet}
 use Rattle.geo_base.specs.Broker.{Broker}

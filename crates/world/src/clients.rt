@@ -1,11 +1,8 @@
 //! An event of a client: prepared there, its packets delivered, committed.
-ghost use Rattle.std.specs.Prelude.{◌≡◌, ℕ, ◌<◌, ◌+◌, ◌^◌, length, true, IfOk, OnErr, OnOk, None, Some, Err, slice_set};
-ghost use Rattle.std.specs.List.{list_all};
+ghost use Rattle.std.specs.Prelude.{◌≡◌, ℕ, ◌<◌, ◌+◌, ◌^◌, length, IfOk, OnErr, OnOk, None, Some, Err, slice_set};
 ghost use Rattle.client.specs.Changing.{ClientFits, client_after};
-ghost use Rattle.client.specs.Site.{is_short_line, known_setup};
 ghost use Rattle.geo_base.specs.declared.event.Event.TheVariants as event;
 ghost use Rattle.geo_base.specs.Happening.{happens};
-ghost use Rattle.geo_base.specs.Setup.{declared_at};
 ghost use Rattle.geo_base.specs.World.{World as Machine};
 ghost use Rattle.world.specs.ClientSteps.{IsSent, client_in};
 ghost use Rattle.world.specs.declared.fault.RunFault.TheVariants as fault;
@@ -18,10 +15,11 @@ ghost use Rattle.world_kept.specs.Reached.{Reached};
 
 use crate::fault::RunFault;
 use crate::world::World;
-use client::{ClientSite, Prepared};
+use client::Prepared;
 use geo_base::Stamp;
 use links::{LinkName, Node};
-use script_text::{ClientDecl, Scenario};
+use node_starts::site_of;
+use script_text::Scenario;
 use std::alloc::Global;
 
 impl World {
@@ -124,32 +122,4 @@ impl World {
     {
         1 + self.client_clocks[client as usize].max(self.links.stamp(takes))
     }
-}
-
-/// What a client knows.
-#[tactic(auto, using(crate::proofs::ClientEvents::short_lines, crate::proofs::ClientEvents::few_clusters, crate::proofs::ClientEvents::names_are))]
-pub(crate) fn site_of(scenario: &Scenario, client: u32) -> ClientSite<'_>
-    requires { client < length scenario.now.setup.clients }
-    ensures setup { result.setup ≡ known_setup scenario.now.setup.clusters scenario.now.setup.topics }
-    ensures declared { result.declared ≡ declared_at scenario.now.setup client }
-{
-    let declared = declared_of(scenario, client);
-    ClientSite::new(
-        scenario.clusters(),
-        scenario.topics(),
-        declared.name(),
-        declared.topic(),
-        declared.cluster(),
-        declared.lines(),
-    )
-}
-
-/// What a script declares of a client.
-#[tactic(auto, using(crate::proofs::ClientEvents::lines_short))]
-fn declared_of(scenario: &Scenario, client: u32) -> &ClientDecl
-    requires { client < length scenario.now.setup.clients }
-    ensures declared { result.now ≡ declared_at scenario.now.setup client }
-    ensures lines { list_all is_short_line (declared_at scenario.now.setup client).lines ≡ true }
-{
-    &scenario.clients()[client as usize]
 }

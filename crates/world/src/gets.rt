@@ -11,12 +11,12 @@ ghost use Rattle.world_kept.specs.Kept.{stamp_at};
 ghost use Rattle.world_kept.specs.Standing.{Stands};
 ghost use Rattle.world_kept.specs.Reached.{Reached};
 
-use crate::clients::site_of;
 use crate::fault::RunFault;
 use crate::world::World;
 use client::{ClientSite, Incoming};
 use geo_base::Memory;
 use links::LinkName;
+use node_starts::site_of;
 use script_text::Scenario;
 use std::alloc::Global;
 

@@ -21,4 +21,4 @@ mod stops;
 mod world;
 
 pub use fault::RunFault;
-pub use world::{Counts, World};
+pub use world::World;

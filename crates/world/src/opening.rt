@@ -1,23 +1,19 @@
 //! How a world begins: empty topics, clients that have done nothing, empty links, and clocks at zero.
 ghost use Rattle.std.specs.Prelude.{◌≡◌, ◌<◌, ◌+◌, ◌*◌, length, map, IfOk, OnOk};
-ghost use Rattle.geo_base.specs.Broker.{new_broker};
 ghost use Rattle.geo_base.specs.Client.{new_client};
-ghost use Rattle.geo_base.specs.Setup.{sub_names};
-ghost use Rattle.geo_base.specs.World.{site};
 ghost use Rattle.world.specs.Opening.{AreNew};
 ghost use Rattle.world.specs.World.{IsAt, kept_of};
-ghost use Rattle.broker.specs.Events.{IsNodeOf};
 ghost use Rattle.world_kept.specs.Kept.{opening_kept};
 
-use crate::clients::site_of;
-use crate::world::{Counts, World};
+use crate::world::World;
 use broker::TopicNode;
-use broker_state::{Prepared, Site};
+use broker_state::Prepared;
 use client::Client;
-use geo_base::limits::SUBSCRIPTIONS;
-use geo_base::{ClusterName, Memory, Name, SubName};
+use geo_base::Memory;
 use links::Links;
+use node_starts::{new_node, site_of};
 use script_text::Scenario;
+use state_brokers::Counts;
 use std::alloc::Global;
 
 impl World {
@@ -72,75 +68,6 @@ fn add_nodes(
         nodes.push(new_node(alloc, scenario, topic, cluster)?)?;
     }
     Ok(())
-}
-
-/// The broker of a topic at a cluster.
-fn new_node(
-    alloc: Global,
-    scenario: &Scenario,
-    topic: u32,
-    cluster: u32,
-) -> Result<TopicNode, Memory>
-    requires topic { topic < length scenario.now.setup.topics }
-    requires cluster { cluster < length scenario.now.setup.clusters }
-    ensures node { IfOk result (IsNodeOf scenario.now.setup topic cluster) }
-    ensures broker { IfOk result (λ v. v.broker ≡ new_broker (length scenario.now.setup.clusters) (length scenario.now.setup.clients)) }
-{
-    let site = new_site(alloc, scenario, topic, cluster)?;
-    let names = sub_names(alloc, scenario, topic)?;
-    TopicNode::new(alloc, topic, site, names, scenario.clients().len())
-}
-
-/// What the broker of a topic at a cluster knows of the setup.
-pub(crate) fn new_site(
-    alloc: Global,
-    scenario: &Scenario,
-    topic: u32,
-    cluster: u32,
-) -> Result<Site, Memory>
-    requires topic { topic < length scenario.now.setup.topics }
-    requires cluster { cluster < length scenario.now.setup.clusters }
-    ensures { IfOk result (λ h. h ≡ site scenario.now.setup topic cluster) }
-{
-    let clusters = cluster_names(alloc, scenario.clusters())?;
-    let topic = copied(alloc, &scenario.topics()[topic as usize])?;
-    Ok(Site::new(cluster, clusters, topic, scenario.per_ledger()))
-}
-
-/// The clusters' names once more.
-fn cluster_names(alloc: Global, names: &[ClusterName]) -> Result<Vec<ClusterName>, Memory>
-    ensures { IfOk result (λ copies. copies.items ≡ names.now) }
-{
-    let mut copies = Vec::new(alloc);
-    for name in names {
-        copies.push(copied(alloc, name)?)?;
-    }
-    Ok(copies)
-}
-
-/// The names of a topic's subscriptions, by their numbers in events.
-pub(crate) fn sub_names(
-    alloc: Global,
-    scenario: &Scenario,
-    topic: u32,
-) -> Result<Vec<SubName>, Memory>
-    ensures { IfOk result (λ names. names.items ≡ sub_names scenario.now.setup topic) }
-{
-    let _known = scenario.topics();
-    let mut names = Vec::new(alloc);
-    for sub in 0..SUBSCRIPTIONS as u32 {
-        if let Some(name) = scenario.sub_name(topic, sub) {
-            names.push(copied(alloc, name)?)?;
-        }
-    }
-    Ok(names)
-}
-
-/// A name with the same text.
-fn copied<K>(alloc: Global, name: &Name<K>) -> Result<Name<K>, Memory>
-    ensures { IfOk result (λ copy. copy ≡ name.now) }
-{
-    Name::read(alloc, name.as_str()).map_err(|_| Memory)
 }
 
 /// The clients, none of which has done anything.

@@ -12,13 +12,13 @@ ghost use Rattle.world.specs.World.{IsAt, kept_of};
 ghost use Rattle.world_kept.specs.Reached.{Reached};
 ghost use Rattle.world_kept.specs.Standing.{Stands};
 
-use crate::opening::{new_site, sub_names};
-use crate::world::{Counts, World};
+use crate::world::World;
 use broker::TopicNode;
 use broker_state::Prepared;
 use client::{Client, ClientState};
 use geo_base::Memory;
 use links::Links;
+use node_starts::{new_site, sub_names};
 use script_text::Scenario;
 use state_brokers::NodeParts;
 use state_file::Saved;
@@ -54,12 +54,7 @@ impl World {
             )?,
             broker_clocks: vec![in alloc; 0; brokers]?,
             client_clocks: vec![in alloc; 0; declared]?,
-            counts: Counts {
-                events: counts.events,
-                idle: counts.idle,
-                rounds: counts.rounds,
-                frame_bytes: counts.frame_bytes,
-            },
+            counts,
             plan: Prepared::new(alloc),
         };
         Ok((scenario, world))

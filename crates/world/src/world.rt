@@ -11,6 +11,7 @@ use client::Client;
 use geo_base::Memory;
 use links::Links;
 use script_text::Scenario;
+use state_brokers::Counts;
 use std::alloc::Global;
 use std::marker::Model;
 
@@ -25,15 +26,6 @@ pub struct World {
     pub(crate) client_clocks: Vec<u64>,
     pub(crate) counts: Counts,
     pub(crate) plan: Prepared,
-}
-
-/// Events that were done, idle ones, rounds of settling, and the bytes of all frames that were sent.
-#[derive(Clone, Copy, Debug, Drop, PartialEq, Eq)]
-pub struct Counts {
-    pub events: u64,
-    pub idle: u64,
-    pub rounds: u64,
-    pub frame_bytes: u64,
 }
 
 impl Model for World {

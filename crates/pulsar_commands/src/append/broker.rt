@@ -9,8 +9,8 @@ ghost use Rattle.pulsar_commands.specs.Canonical.{Writes};
 use crate::command::Command;
 use crate::ids::{append_id, append_optional_id};
 use crate::parts::{append_number, append_text};
-use geo_base::{Position, Text};
-use pb_fields::{ByteList, Memory};
+use geo_base::{Memory, Position, Text};
+use pb_fields::ByteList;
 use std::alloc::Global;
 
 /// Appends the fields of a command of a broker.

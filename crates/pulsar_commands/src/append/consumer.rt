@@ -9,8 +9,8 @@ ghost use Rattle.pulsar_commands.specs.Canonical.{Writes};
 use crate::command::{Command, PositionList};
 use crate::ids::append_ids;
 use crate::parts::{append_flag, append_number, append_optional_text, append_text};
-use geo_base::{AckKind, SubKind, Text};
-use pb_fields::{ByteList, Memory};
+use geo_base::{AckKind, Memory, SubKind, Text};
+use pb_fields::ByteList;
 use std::alloc::Global;
 
 /// Appends the fields of a command of a consumer.

@@ -8,8 +8,8 @@ ghost use Rattle.pulsar_commands.specs.Canonical.{Writes};
 
 use crate::command::Command;
 use crate::parts::{append_number, append_optional_text, append_text};
-use geo_base::Text;
-use pb_fields::{ByteList, Memory};
+use geo_base::{Memory, Text};
+use pb_fields::ByteList;
 
 /// Appends the fields of a command of a producer.
 pub(super) fn append_of_producer(out: &mut ByteList, command: &Command) -> Result<(), Memory>

@@ -1,6 +1,6 @@
 use Rattle.std.proofs.Common.{◌≡◌, take}
 use Rattle.geo_base.specs.Setup.{sub_names}
-use Rattle.world.proofs.opening.sub_names.Given as goal
+use Rattle.node_starts.proofs.brokers.sub_names.Given as goal
 
 -- the names so far; none is past the last
 abbrev pub invariant-loop-sub : goal.invariant-loop-sub

@@ -1,5 +1,5 @@
 use Rattle.std.proofs.Common.{◌≡◌, take}
-use Rattle.world.proofs.opening.cluster_names.Given as goal
+use Rattle.node_starts.proofs.brokers.cluster_names.Given as goal
 
 -- the names so far
 abbrev pub invariant-loop-name : goal.invariant-loop-name

@@ -1,8 +1,8 @@
 use Rattle.std.proofs.Common.{List, [], ◌∷◌, ◌++◌, sym, ◌∙◌, ap, ℕ, take}
 use Rattle.geo_base.specs.Setup.{sub_names}
-use Rattle.world.proofs.NewWorlds.{no_name_more, one_name_more}
-use Rattle.world.proofs.opening.sub_names.Goals.{in-Some+in_ok-copied+in_ok-push, in_default}
-use Rattle.world.proofs.opening.sub_names.Goals as goal
+use Rattle.node_starts.proofs.Names.{no_name_more, one_name_more}
+use Rattle.node_starts.proofs.brokers.sub_names.Goals.{in-Some+in_ok-copied+in_ok-push, in_default}
+use Rattle.node_starts.proofs.brokers.sub_names.Goals as goal
 
 pub loop-sub-preserved : goal.loop-sub-preserved
 loop-sub-preserved c =
