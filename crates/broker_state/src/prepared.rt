@@ -1,5 +1,5 @@
 //! What an event will do at a broker.
-ghost use Rattle.std.specs.Prelude.{◌≡◌, ℕ, ◌++◌, ◌∷◌, [], IfOk, OnOk, length};
+ghost use Rattle.std.specs.Prelude.{◌≡◌, ℕ, ◌<◌, ◌++◌, ◌∷◌, [], IfOk, OnOk, Some, length, slice_get};
 ghost use Rattle.geo_base.specs.Broker.{Broker};
 ghost use Rattle.geo_base.specs.Plan.{done, halted};
 ghost use Rattle.broker_state.specs.Prepared.{IsEmptyPlan, halted_book, plan_in, quiet_book};
@@ -97,6 +97,21 @@ impl Prepared {
         ensures { result ≡ length self.now.writes }
     {
         self.writes.len()
+    }
+
+    /// The place of the subscription that the event is about.
+    pub fn place(&self) -> usize
+        ensures { result ≡ self.now.sub }
+    {
+        self.sub
+    }
+
+    /// The durable write of a number, in the order in which they are done.
+    pub fn write_at(&self, number: usize) -> &BookWrite
+        requires { number < length self.now.writes }
+        ensures { slice_get self.now.writes number ≡ Some result.now }
+    {
+        &self.writes[number]
     }
 
     /// The packets to send.

@@ -10,6 +10,7 @@ use Rattle.geo_base.specs.declared.marker.Marker.{Marker}
 use Rattle.geo_base.specs.declared.marker.Marker.TheVariants as marker
 use Rattle.geo_base.specs.declared.position.Position.{Position}
 use Rattle.geo_base.specs.Report.{entry_line, printed, shown_cluster_position, shown_content, shown_ident, shown_marker, shown_position, shown_targets, words}
+use Rattle.report_lines.specs.Entries.{entry_words}
 use Rattle.report_lines.specs.Spaced.{spaced}
 
 -- words, the first of which stands and each other one behind a space
@@ -33,32 +34,37 @@ content_some names e content.Data = omega arith
 content_some names e (content.Marked m) = marker_some names m
 content_some names e (content.Unread kind) = omega arith
 
--- seven words, the third to the fifth in a group of their own; s separates, e ends
-regrouped : (first place origin producer seq to what s e : List ℕ)
-    → first ++ (s ++ (place ++ (s ++ ((origin ++ (s ++ (producer ++ (s ++ seq)))) ++ (s ++ (to ++ (s ++ (what ++ e))))))))
-    ≡ (first ++ (s ++ (place ++ (s ++ (origin ++ (s ++ (producer ++ (s ++ (seq ++ (s ++ (to ++ (s ++ what)))))))))))) ++ e
-regrouped first place origin producer seq to what s e = simp append_assoc
+-- six words, the second to the fourth in a group of their own; s separates
+regrouped : (place origin producer seq to what s : List ℕ)
+    → place ++ (s ++ ((origin ++ (s ++ (producer ++ (s ++ seq)))) ++ (s ++ (to ++ (s ++ what)))))
+    ≡ place ++ (s ++ (origin ++ (s ++ (producer ++ (s ++ (seq ++ (s ++ (to ++ (s ++ what)))))))))
+regrouped place origin producer seq to what s = simp append_assoc
 
-entry_whole : (names : List (List ℕ)) (p : Position) (e : Entry)
-    → codes "entry " ++ (shown_position p ++ (32 ∷ (words (shown_ident names e.ident) ++ (32 ∷ (shown_targets names e.to ++ (32 ∷ (words (shown_content names e e.content) ++ 10 ∷ [])))))))
-    ≡ entry_line names p e ++ 10 ∷ []
-entry_whole names p e =
+words_are : (names : List (List ℕ)) (p : Position) (e : Entry)
+    → shown_position p ++ (32 ∷ (words (shown_ident names e.ident) ++ (32 ∷ (shown_targets names e.to ++ (32 ∷ words (shown_content names e e.content))))))
+    ≡ words (entry_words names p e)
+words_are names p e =
     let what = shown_content names e e.content in let to = shown_targets names e.to in
     rw (words_more to what (content_some names e e.content))
-    (regrouped (codes "entry") (shown_position p) (slice_index_or names e.ident.origin []) (printed e.ident.producer) (decimal e.ident.seq) to (words what) (32 ∷ []) (10 ∷ []))
+    (regrouped (shown_position p) (slice_index_or names e.ident.origin []) (printed e.ident.producer) (decimal e.ident.seq) to (words what) (32 ∷ []))
 
--- nine parts behind what stands there
-joined : (old a b c d e f g h i : List ℕ) → ((((((((old ++ a) ++ b) ++ c) ++ d) ++ e) ++ f) ++ g) ++ h) ++ i ≡ old ++ (a ++ (b ++ (c ++ (d ++ (e ++ (f ++ (g ++ (h ++ i))))))))
-joined old a b c d e f g h i = simp append_assoc
+-- seven parts behind what stands there
+joined : (old a b c d e f g : List ℕ) → ((((((old ++ a) ++ b) ++ c) ++ d) ++ e) ++ f) ++ g ≡ old ++ (a ++ (b ++ (c ++ (d ++ (e ++ (f ++ g))))))
+joined old a b c d e f g = simp append_assoc
 
-pub line_whole : (names : List (List ℕ)) (p : Position) (e : Entry) (old first place two ident four to six what all : List ℕ)
-    → first ≡ old ++ codes "entry " → place ≡ first ++ shown_position p → two ≡ place ++ 32 ∷ [] → ident ≡ two ++ words (shown_ident names e.ident)
+pub words_whole : (names : List (List ℕ)) (p : Position) (e : Entry) (old place two ident four to six what : List ℕ)
+    → place ≡ old ++ shown_position p → two ≡ place ++ 32 ∷ [] → ident ≡ two ++ words (shown_ident names e.ident)
     → four ≡ ident ++ 32 ∷ [] → to ≡ four ++ shown_targets names e.to → six ≡ to ++ 32 ∷ [] → what ≡ six ++ words (shown_content names e e.content)
-    → all ≡ what ++ 10 ∷ [] → all ≡ old ++ (entry_line names p e ++ 10 ∷ [])
-line_whole names p e old first place two ident four to six what all e1 e2 e3 e4 e5 e6 e7 e8 e9 =
-    rw (e9, e8, e7, e6, e5, e4, e3, e2, e1)
-    (joined old (codes "entry ") (shown_position p) (32 ∷ []) (words (shown_ident names e.ident)) (32 ∷ []) (shown_targets names e.to) (32 ∷ []) (words (shown_content names e e.content)) (10 ∷ [])
-    ∙ ap (λ (line : List ℕ). old ++ line) (entry_whole names p e))
+    → what ≡ old ++ words (entry_words names p e)
+words_whole names p e old place two ident four to six what e1 e2 e3 e4 e5 e6 e7 =
+    rw (e7, e6, e5, e4, e3, e2, e1)
+    (joined old (shown_position p) (32 ∷ []) (words (shown_ident names e.ident)) (32 ∷ []) (shown_targets names e.to) (32 ∷ []) (words (shown_content names e e.content))
+    ∙ ap (λ (text : List ℕ). old ++ text) (words_are names p e))
+
+-- and the line
+pub line_whole : (names : List (List ℕ)) (p : Position) (e : Entry) (old first what all : List ℕ)
+    → first ≡ old ++ codes "entry " → what ≡ first ++ words (entry_words names p e) → all ≡ what ++ 10 ∷ [] → all ≡ old ++ (entry_line names p e ++ 10 ∷ [])
+line_whole names p e old first what all e1 e2 e3 = rw (e3, e2, e1) (simp append_assoc)
 
 -- a snapshot, and an update
 pub snapshot_whole : (names : List (List ℕ)) (id : List ℕ) (local : Position) (remote : List ClusterPosition) (old text with : List ℕ)

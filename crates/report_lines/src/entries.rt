@@ -3,8 +3,9 @@
 //! Where memory ends in the midst, it is left open what was appended, since a whole report is made apart from where it goes.
 ghost use Rattle.std.specs.Prelude.{◌≡◌, ◌≤◌, ◌<◌, ◌++◌, ◌∷◌, [], length, map, slice_get, Some, OnOk, string_bytes};
 ghost use Rattle.geo_base.specs.declared.entry.Entry.{Entry};
-ghost use Rattle.geo_base.specs.Report.{entry_line, entry_lines, got_line, with_line_feeds};
+ghost use Rattle.geo_base.specs.Report.{entry_line, entry_lines, got_line, with_line_feeds, words};
 ghost use Rattle.geo_base.specs.Topic.{position_at};
+ghost use Rattle.report_lines.specs.Entries.{entry_words};
 
 use crate::words::{add_content, add_ident, add_position, add_targets};
 use geo_base::limits::CLUSTERS;
@@ -62,14 +63,28 @@ pub fn add_entry_line(
     ensures { OnOk result (lines.new ≡ lines.old ++ (entry_line clusters.now position entry.now ++ 10 ∷ [])) }
 {
     lines.append(b"entry ")?;
+    add_entry_words(lines, clusters, position, entry)?;
+    lines.append(b"\n")
+}
+
+/// Appends the words of an entry at a position: all of its line but the first word.
+#[tactic(auto, using(crate::proofs::Wholes::words_whole))]
+pub fn add_entry_words(
+    lines: &mut Blob,
+    clusters: &[ClusterName],
+    position: Position,
+    entry: &Entry,
+) -> Result<(), Memory>
+    requires { length clusters.now ≤ CLUSTERS }
+    ensures { OnOk result (lines.new ≡ lines.old ++ words (entry_words clusters.now position entry.now)) }
+{
     add_position(lines, position)?;
     lines.append(b" ")?;
     add_ident(lines, clusters, &entry.ident)?;
     lines.append(b" ")?;
     add_targets(lines, clusters, entry.to)?;
     lines.append(b" ")?;
-    add_content(lines, clusters, entry)?;
-    lines.append(b"\n")
+    add_content(lines, clusters, entry)
 }
 
 /// The position of an index; 0:0 where nothing stands there.

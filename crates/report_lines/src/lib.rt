@@ -9,7 +9,8 @@ mod lines;
 mod markers;
 mod words;
 
-pub use entries::{add, add_entries, add_entry, add_entry_line, add_got};
+pub use entries::{add, add_entries, add_entry, add_entry_line, add_entry_words, add_got};
 pub use lines::{
     ClientCounts, SubShown, client_line, head_line, place_line, sender_line, sub_line,
 };
+pub use words::{add_number, add_position};

@@ -46,15 +46,15 @@ fn printed_byte(byte: u8) -> u8
     if is_shown(byte) { byte } else { b'?' }
 }
 
-/// A number.
-fn add_number(lines: &mut Blob, number: u64) -> Result<(), Memory>
+/// Appends a number.
+pub fn add_number(lines: &mut Blob, number: u64) -> Result<(), Memory>
     ensures { OnOk result (lines.new ≡ lines.old ++ decimal number) }
 {
     lines.append(Buffer::new().format(number).as_bytes())
 }
 
-/// A position: its ledger's number and its entry's number there.
-pub(crate) fn add_position(lines: &mut Blob, position: Position) -> Result<(), Memory>
+/// Appends a position: its ledger's number and its entry's number there.
+pub fn add_position(lines: &mut Blob, position: Position) -> Result<(), Memory>
     ensures { OnOk result (lines.new ≡ lines.old ++ shown_position position) }
 {
     add_number(lines, position.ledger)?;
