@@ -1,0 +1,61 @@
+//! Messages of a producer `p`, and markers, as the cluster of number 0 stores them.
+ghost use Rattle.std.specs.Prelude.{ℕ, List, IfOk};
+ghost use Rattle.ledger_texts.specs.Readable.{IsTellable};
+
+use geo_base::{
+    Blob, Content, Entry, Ident, Marker, Memory, Metadata, ProducerName, Sequence, Targets, Text,
+};
+use std::alloc::Global;
+
+/// A message of a key, or of none.
+#[tactic(auto, using(crate::proofs::Told::message_tellable))]
+pub fn message(alloc: Global, seq: u64, key: Option<&str>, payload: &[u8]) -> Result<Entry, Memory>
+    ensures { IfOk result (λ e. (names : List (List ℕ)) → IsTellable names 0 e) }
+{
+    let key = match key {
+        Some(key) => Some(Text::from_str(alloc, key)?),
+        None => None,
+    };
+    Ok(Entry {
+        ident: Ident {
+            origin: 0,
+            producer: ProducerName::any(alloc, "p")?,
+            seq,
+        },
+        content: Content::Data,
+        to: Targets::All,
+        meta: Metadata {
+            publish_time: 0,
+            key,
+            names: Sequence::new(alloc),
+            rest: Blob::new(alloc),
+        },
+        payload: Blob::from_slice(alloc, payload)?,
+    })
+}
+
+/// A marker that is an update of a subscription, and names no position.
+#[tactic(auto, using(crate::proofs::Told::update_tellable))]
+pub fn update(alloc: Global, seq: u64) -> Result<Entry, Memory>
+    ensures { IfOk result (λ e. (names : List (List ℕ)) → IsTellable names 0 e) }
+{
+    Ok(Entry {
+        ident: Ident {
+            origin: 0,
+            producer: ProducerName::any(alloc, "pulsar.marker")?,
+            seq,
+        },
+        content: Content::Marked(Marker::Update {
+            sub: Text::from_str(alloc, "s")?,
+            remote: Sequence::new(alloc),
+        }),
+        to: Targets::All,
+        meta: Metadata {
+            publish_time: 0,
+            key: None,
+            names: Sequence::new(alloc),
+            rest: Blob::new(alloc),
+        },
+        payload: Blob::new(alloc),
+    })
+}
