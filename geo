@@ -5,7 +5,7 @@
 #   ./geo run SCRIPT        this wrapper reads a file that stands behind run, save or resume in place of standard input;
 #   ./geo run SCRIPT ..     several behind run are several runs, each answer under a line `== SCRIPT`,
 #   ./geo resume STATE ..   and several behind resume are read one behind the other, as a state and the events behind it
-#   ./geo compact 100 SCRIPT  a file that stands behind the horizon of compact is read in the same way
+#   ./geo compact 100 SCRIPT  a file that stands behind the horizon of compact, or behind the number of tiered, is read in the same way
 #
 # Where tools/build has made the program (.built/geo) and no source is newer, that is what runs. Else the source is compiled and
 # run without its proof, by the toolchain's `rt try`, which keeps nothing from one call to the next; several runs are compiled for once.
@@ -24,7 +24,7 @@ run:* | resume:* | save:2)
     words=("$1")
     files=("${@:2}")
     ;;
-compact:3)
+compact:3 | tiered:3)
     words=("$1" "$2")
     files=("$3")
     ;;
@@ -108,7 +108,7 @@ fi
 # `rt try` does not wait for a pipe to end, so what the program reads is read here
 input=/dev/null
 case "${words[*]-}" in
-run | save | resume | compact\ *)
+run | save | resume | compact\ * | tiered\ *)
     input=$room/input
     # what the program says of a directory and of a standard input that is closed
     if ! cat ${files+"${files[@]}"} >"$input" 2>/dev/null; then

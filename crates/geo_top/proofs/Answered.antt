@@ -38,6 +38,7 @@ pub answered : (c : Option Command) (input : List ℕ) (a : Answer) (f : FaultCo
 answered c input a f founded = record {
   report = λ ok run. of_script c input a founded (λ v m. (a.bytes ≡ output_of v m) × (passed_limit m ≡ None)) (λ v m k is none. (is, none)) shown.Report ok run;
   compacted = λ horizon ok is. of_script c input a founded (λ v m. (a.bytes ≡ output_of v m) × (passed_limit m ≡ None)) (λ v m k is none. (is, none)) (shown.Compacted horizon) ok is;
+  tiered = λ keep ok is. of_script c input a founded (λ v m. (a.bytes ≡ output_of v m) × (passed_limit m ≡ None)) (λ v m k is none. (is, none)) (shown.Tiered keep) ok is;
   shows = of_script c input a founded (λ v m. (a.bytes ≡ output_of v m) × (passed_limit m ≡ None)) (λ v m k is none. (is, none));
   once = of_script c input a founded (λ v m. IsAlwaysOnce m) (λ v m k is none. always_once m);
   safe = of_script c input a founded (λ v m. IsAlwaysSafe m) (λ v m k is none. always_safe m k.setup none);
@@ -128,6 +129,7 @@ failed : (c : Option Command) (input output : List ℕ) (f : FaultCounts) (s : S
 failed c input output f s fault read write memory out line = record {
   report = λ is run. absurd (other status.Ok is);
   compacted = λ horizon is compact. absurd (other status.Ok is);
+  tiered = λ keep is tier. absurd (other status.Ok is);
   shows = λ v is run. absurd (other status.Ok is);
   once = λ v is run. absurd (other status.Ok is);
   safe = λ v is run. absurd (other status.Ok is);
@@ -214,6 +216,7 @@ counted_again : (c : Option Command) (input output : List ℕ) (f g : FaultCount
 counted_again c input output f g s made h = record {
   report = h.report;
   compacted = h.compacted;
+  tiered = h.tiered;
   shows = h.shows;
   once = h.once;
   safe = h.safe;

@@ -3,6 +3,7 @@ pub mod FewClients
 pub mod Lines
 pub mod Shown
 pub mod Views
+pub mod Tiers
 pub mod Finishing
 pub mod Quiet
 pub mod FewSent

@@ -18,10 +18,10 @@ use Rattle.geo_top.specs.declared.top.command.Shown.TheVariants as shown
 use Rattle.geo_top.specs.declared.top.status.Status.{Status}
 use Rattle.geo_top.specs.declared.top.status.Status.TheVariants as status
 use Rattle.geo_top.specs.Causes.{HasBadLine, HasBadState, IsPassed}
-use Rattle.geo_top.specs.Commands.{Reads, command_showing, compact_command, resume_command, run_command, save_command}
+use Rattle.geo_top.specs.Commands.{Reads, command_showing, compact_command, resume_command, run_command, save_command, tiered_command}
 use Rattle.geo_top.specs.Headline.{IsAlwaysKept, IsAlwaysOnce, IsAlwaysSafe, IsAlwaysSettled, NothingComesAgain}
 use Rattle.geo_top.specs.OneRun.{IsKept, IsSavedWith, IsStillKept, IsStillOnce, IsStillSafe, IsStillSettled, NothingStillComesAgain, counted_on, lines_before, text_on}
-use Rattle.geo_top.specs.Outputs.{IsAnswerFor, answer_to, answer_to_big, compacted_of, output_of, passed_limit, report_of, resumed_limit, resumed_report, summary_of}
+use Rattle.geo_top.specs.Outputs.{IsAnswerFor, answer_to, answer_to_big, compacted_of, output_of, passed_limit, report_of, resumed_limit, resumed_report, summary_of, tiered_of}
 use Rattle.geo_top.specs.States.{file_of, gone_on}
 use Rattle.geo_top.specs.Statuses.{IsDue, IsMade, refusal_line}
 
@@ -68,11 +68,13 @@ OfSaved c input s Holds =
 
 pub record IsAnswered (c : Option Command) (input output : List ℕ) (f : FaultCounts) (s : Status) : Type 0 where
   -- With Ok, what `run` writes is the report of the written machine's run over the script that the input is, and what `compact` writes
-  -- are the compacted views of the topics at its end. So each command that shows something of a script's run writes what it shows of
+  -- are the compacted views of the topics at its end; what `tiered` writes are, of each topic, how many of its closed ledgers moved to
+  -- a tier, and its entries as the report has them. So each command that shows something of a script's run writes what it shows of
   -- it. The run passes no limit,
   pub report : s ≡ status.Ok → c ≡ Some run_command → IsOkAnd (script_of input) (λ n. (output ≡ report_of n) × (passed_limit n ≡ None))
   pub compacted : (horizon : ℕ) → s ≡ status.Ok → c ≡ Some (compact_command horizon)
       → IsOkAnd (script_of input) (λ n. (output ≡ compacted_of horizon n) × (passed_limit n ≡ None))
+  pub tiered : (keep : ℕ) → s ≡ status.Ok → c ≡ Some (tiered_command keep) → IsOkAnd (script_of input) (λ n. (output ≡ tiered_of keep n) × (passed_limit n ≡ None))
   pub shows : OfScript c input s (λ v n. (output ≡ output_of v n) × (passed_limit n ≡ None))
   -- and at every moment of it, between its events, inside settling and after each single durable write: each topic has its messages
   -- once, per producer in order,

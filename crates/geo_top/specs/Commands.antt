@@ -1,4 +1,5 @@
--- The commands of the program, by its words: `run`, `save`, `resume`, `big NUMBER` and `compact HORIZON`. Any other words are none (own).
+-- The commands of the program, by its words: `run`, `save`, `resume`, `big NUMBER`, `compact HORIZON` and `tiered KEEP`. Any other words are
+-- none (own).
 use Rattle.std.specs.Prelude.{◌≡◌, ℕ, Bool, true, false, if◌then◌else◌, List, [], ◌∷◌, Option, Some, None, codes}
 use Rattle.std.specs.Str.{bytes_eq}
 use Rattle.script_names.specs.Numbers.{number_of}
@@ -41,6 +42,17 @@ abbrev pub compact_of : Option ℕ → Option Command
 compact_of None = None
 compact_of (Some horizon) = Some (compact_command horizon)
 
+-- how many of a topic's closed ledgers may be let stay: half as many as a run has events (own)
+abbrev pub most_keep : ℕ
+most_keep = 1000000
+
+abbrev pub tiered_command : ℕ → Command
+tiered_command keep = command_showing (shown.Tiered keep)
+
+abbrev pub tier_of : Option ℕ → Option Command
+tier_of None = None
+tier_of (Some keep) = Some (tiered_command keep)
+
 -- a word that stands alone
 abbrev pub alone_of : List ℕ → Option Command
 alone_of w =
@@ -54,6 +66,7 @@ abbrev pub numbered_of : List ℕ → List ℕ → Option Command
 numbered_of w n =
     if bytes_eq w (codes "big") then big_of (number_of most_number n)
     else if bytes_eq w (codes "compact") then compact_of (number_of most_horizon n)
+    else if bytes_eq w (codes "tiered") then tier_of (number_of most_keep n)
     else None
 
 abbrev pub command_of : List (List ℕ) → Option Command

@@ -4,6 +4,7 @@ pub mod Again
 pub mod Headline
 pub mod Shown
 pub mod Compacted
+pub mod Tiered
 pub mod Summary
 pub mod States
 pub mod Outputs

@@ -21,6 +21,7 @@ use Rattle.geo_top.specs.Compacted.{compacted}
 use Rattle.geo_top.specs.States.{file_of, resumed, resumed_under, stopped}
 use Rattle.geo_top.specs.Statuses.{refusal_line}
 use Rattle.geo_top.specs.Summary.{summary}
+use Rattle.geo_top.specs.Tiered.{tiered}
 use Rattle.schedule_gen.specs.Generated.{generated_run}
 
 abbrev pub refused : Status → Answer
@@ -40,10 +41,15 @@ report_of n = report n.setup (run n.setup n.steps)
 abbrev pub compacted_of : ℕ → Script → List ℕ
 compacted_of horizon n = compacted horizon n.setup (run n.setup n.steps)
 
+-- those of its topics whose closed ledgers moved to tiers, but the last ones, keep of them
+abbrev pub tiered_of : ℕ → Script → List ℕ
+tiered_of keep n = tiered keep n.setup (run n.setup n.steps)
+
 -- the bytes that a command shows of a script's run
 abbrev pub output_of : Shown → Script → List ℕ
 output_of shown.Report n = report_of n
 output_of (shown.Compacted horizon) n = compacted_of horizon n
+output_of (shown.Tiered keep) n = tiered_of keep n
 
 -- the number of the limit that a script's run passes: 2, where events and idle events together would be more than 2,000,000; 3,
 -- where the bytes of all frames would be more than 1 GiB

@@ -18,7 +18,7 @@ status_number (status.StateVersion number) = 9
 -- the one line that a refusal writes. Want of memory writes nothing, and a write fault has no line of its own
 abbrev pub refusal_line : Status → List ℕ
 refusal_line status.Ok = []
-refusal_line status.Usage = codes "usage: geo run, live WORKERS TURNS, big NUMBER, save, resume, audit, compact HORIZON\n"
+refusal_line status.Usage = codes "usage: geo run, live WORKERS TURNS, big NUMBER, save, resume, audit, compact HORIZON, tiered KEEP\n"
 refusal_line (status.BadScript line rule) = codes "bad script line " ++ (decimal line ++ (codes " rule " ++ (decimal rule ++ 10 ∷ [])))
 refusal_line status.ReadFault = codes "read fault\n"
 refusal_line status.WriteFault = []

@@ -8,6 +8,7 @@ mod compacted;
 mod law;
 mod run;
 mod summary;
+mod tiered;
 mod top;
 mod world_report;
 

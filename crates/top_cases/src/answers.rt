@@ -128,10 +128,40 @@ compacted t at b horizon 0\n",
     Ok(())
 }
 
+/// Five messages in ledgers of two.
+const LEDGERS: &[u8] =
+    b"geo 1\nledger 2\ncluster a\ncluster b\ntopic t\nclient p t a\ndo p produce\n\
+do p pub 0 * - a\ndo p pub 1 * - b\ndo p pub 2 * - c\ndo p pub 3 * - d\ndo p pub 4 * - e\n\
+reconnect p\nserve a p\ngo p\nserve a p\ngo p\nserve a p\ngo p\nserve a p\ngo p\nserve a p\ngo p\nserve a p\n";
+
+/// The entries that are read back once the closed ledgers moved, all or but the last one: the same, and another head.
+#[test]
+fn entries_read_back_from_moved_ledgers(rt: HostRuntime) -> Result<(), Fail> {
+    let entries: &[u8] =
+        b"entry 0:0 a p 0 * data - a\nentry 0:1 a p 1 * data - b\nentry 1:0 a p 2 * data - c\n\
+entry 1:1 a p 3 * data - d\nentry 2:0 a p 4 * data - e\ntiered t at b offloaded 0\n";
+    let heads: [(&str, &[u8]); 3] = [
+        ("1", b"tiered t at a offloaded 1\n"),
+        ("0", b"tiered t at a offloaded 2\n"),
+        ("1000000", b"tiered t at a offloaded 0\n"),
+    ];
+    for (keep, head) in heads {
+        let mut words = Vec::new(rt.alloc());
+        words.push(Word::from_str(rt.alloc(), "tiered")?)?;
+        words.push(Word::from_str(rt.alloc(), keep)?)?;
+        let shown = answer(rt.alloc(), words.as_slice(), LEDGERS)?;
+        assert_eq!(rt; shown.status, Status::Ok);
+        let mut lines = head.to_vec(rt.alloc())?;
+        lines.extend_from_slice(entries)?;
+        assert_eq!(rt; shown.bytes.as_slice(), lines.as_slice());
+    }
+    Ok(())
+}
+
 /// Nothing is read for them: the source would fail.
 #[test]
 fn words_that_are_no_command(rt: HostRuntime) -> Result<(), Fail> {
-    let lines: [&[&str]; 24] = [
+    let lines: [&[&str]; 29] = [
         &[],
         &["run", "x"],
         &["--help"],
@@ -156,6 +186,11 @@ fn words_that_are_no_command(rt: HostRuntime) -> Result<(), Fail> {
         &["compact", "01"],
         &["compact", "1", "2"],
         &["Compact", "1"],
+        &["tiered"],
+        &["tiered", "1000001"],
+        &["tiered", "01"],
+        &["tiered", "1", "2"],
+        &["Tiered", "1"],
     ];
     for line in lines {
         let mut words = Vec::new(rt.alloc());
@@ -168,7 +203,7 @@ fn words_that_are_no_command(rt: HostRuntime) -> Result<(), Fail> {
         assert_eq!(rt; status, Status::Usage);
         assert_eq!(rt;
             sink.bytes(),
-            b"usage: geo run, live WORKERS TURNS, big NUMBER, save, resume, audit, compact HORIZON\n".as_slice()
+            b"usage: geo run, live WORKERS TURNS, big NUMBER, save, resume, audit, compact HORIZON, tiered KEEP\n".as_slice()
         );
     }
     Ok(())

@@ -32,7 +32,7 @@ fn refusal_line(alloc: Global, status: Status) -> Result<String, Memory>
     match status {
         Status::Usage => Ok(String::from_str(
             alloc,
-            "usage: geo run, live WORKERS TURNS, big NUMBER, save, resume, audit, compact HORIZON\n",
+            "usage: geo run, live WORKERS TURNS, big NUMBER, save, resume, audit, compact HORIZON, tiered KEEP\n",
         )?),
         Status::BadScript { line, rule } => Ok(format!(in alloc;
             "bad script line {line} rule {rule}\n"

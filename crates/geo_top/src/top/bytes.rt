@@ -18,9 +18,10 @@ use std::alloc::Global;
 
 /// The whole program but for the words of `live`, over the bytes of its input: how it ends, and the bytes that it writes. For `run` the
 /// input is a script, and the output the report of its run; for `compact HORIZON` it is the compacted view of each topic at the run's
-/// end; for `save` it is the state file of the run and a stop behind it; for `resume` the input is a state file and a schedule behind
-/// it, and the output the report of the run that goes on from there; for `big NUMBER` it is the summary of the run that the number
-/// generates. Else, and where it refuses, it is one line.
+/// end; for `tiered KEEP` the entries of each topic there, read back once its closed ledgers but the last ones moved to a tier; for
+/// `save` it is the state file of the run and a stop behind it; for `resume` the input is a state file and a schedule behind it, and
+/// the output the report of the run that goes on from there; for `big NUMBER` it is the summary of the run that the number generates.
+/// Else, and where it refuses, it is one line.
 ///
 /// The first of these refusals wins: words that are no command; more than 67,108,864 bytes; an item of the state that breaks a rule, or
 /// its version; a line of the script or the schedule that breaks a rule; more than 2,000,000 events and idle events, or more than 1 GiB

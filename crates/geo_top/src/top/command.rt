@@ -1,6 +1,6 @@
 //! The commands of the program.
 ghost use Rattle.std.specs.Prelude.{◌≡◌};
-ghost use Rattle.geo_top.specs.Commands.{alone_of, big_of, command_of, compact_of, has_input, most_horizon, most_number, numbered_of};
+ghost use Rattle.geo_top.specs.Commands.{alone_of, big_of, command_of, compact_of, has_input, most_horizon, most_keep, most_number, numbered_of, tier_of};
 ghost use Rattle.script_names.specs.Numbers.{number_of};
 
 use geo_base::Text;
@@ -14,6 +14,9 @@ const MOST_NUMBER: u64 = 4_294_967_295;
 
 /// The greatest horizon of a compacted view: no run stores more entries than it has events.
 const MOST_HORIZON: u64 = 2_000_000;
+
+/// The greatest number of closed ledgers that stay: half as many as a run has events (own).
+const MOST_KEEP: u64 = 1_000_000;
 
 /// What the program can be asked to do.
 #[derive(Clone, Copy, Debug, Drop, PartialEq, Eq)]
@@ -42,6 +45,8 @@ pub enum Shown {
     Report,
     /// The compacted view of each topic at each cluster, by its horizon.
     Compacted(u64),
+    /// The entries of each topic at each cluster, read back once its closed ledgers moved to a tier, but for so many last ones.
+    Tiered(u64),
 }
 
 impl Command {
@@ -88,6 +93,8 @@ impl Command {
             Command::big(number)
         } else if bytes == b"compact".as_slice() {
             Command::compact(number)
+        } else if bytes == b"tiered".as_slice() {
+            Command::tiered(number)
         } else {
             None
         }
@@ -99,6 +106,16 @@ impl Command {
     {
         match number_of(word.as_bytes(), MOST_HORIZON) {
             Some(horizon) => Some(Command::Reads(Reading::Script(Shown::Compacted(horizon)))),
+            None => None,
+        }
+    }
+
+    /// The topics in tiers of a word.
+    fn tiered(word: &Word) -> Option<Command>
+        ensures { result ≡ tier_of (number_of most_keep word.now) }
+    {
+        match number_of(word.as_bytes(), MOST_KEEP) {
+            Some(keep) => Some(Command::Reads(Reading::Script(Shown::Tiered(keep)))),
             None => None,
         }
     }

@@ -6,13 +6,16 @@ ghost use Rattle.geo_top.specs.Finished.{IsFinished};
 ghost use Rattle.geo_top.specs.Founded.{IsAccepted};
 ghost use Rattle.geo_top.specs.Outputs.{answer_to, answer_to_big, answer_to_run, output_of, passed_limit, summary_of};
 ghost use Rattle.geo_top.specs.Shown.{shown_world};
+ghost use Rattle.geo_top.specs.Tiered.{tiered};
 ghost use Rattle.world.specs.World.{IsAt};
 ghost use Rattle.schedule_gen.specs.Generated.{generated_run};
 ghost use Rattle.script_text.specs.Rules.{script_of};
+ghost use Rattle.script_text.specs.Scenario.{IsScenario};
 
 use crate::compacted::append_compacted;
 use crate::run::run_script;
 use crate::summary::append_summary;
+use crate::tiered::append_tiered;
 use crate::top::answer::{Answer, refusal};
 use crate::top::command::Shown;
 use crate::top::status::Status;
@@ -40,6 +43,7 @@ pub fn answer_to_script(alloc: Global, shown: Shown, bytes: &[u8]) -> Result<Ans
 /// What is shown of the run of a script, or the limit that the run passes.
 #[tactic(auto, using(crate::proofs::Finishing::shown_whole, crate::proofs::Finishing::refused_run))]
 fn answer_to_scenario(alloc: Global, shown: Shown, scenario: &Scenario) -> Result<Answer, Memory>
+    requires { IsScenario scenario.now }
     ensures { IfOk result (λ a. a ≡ answer_to_run shown scenario.now (passed_limit scenario.now)) }
 {
     match run_script(alloc, scenario) {
@@ -54,12 +58,14 @@ fn answer_to_scenario(alloc: Global, shown: Shown, scenario: &Scenario) -> Resul
 
 /// What is shown of the world at the end of a script's run.
 fn output(alloc: Global, shown: Shown, scenario: &Scenario, world: &World) -> Result<Blob, Memory>
-    requires { IsFinished scenario.now world.now }
+    requires scenario { IsScenario scenario.now }
+    requires finished { IsFinished scenario.now world.now }
     ensures { IfOk result (λ bytes. bytes ≡ output_of shown scenario.now) }
 {
     match shown {
         Shown::Report => report(alloc, scenario, world),
         Shown::Compacted(horizon) => compacted(alloc, scenario, world, horizon),
+        Shown::Tiered(keep) => tiered(alloc, scenario, world, keep),
     }
 }
 
@@ -85,6 +91,17 @@ fn compacted(
 {
     let mut bytes = Blob::new(alloc);
     append_compacted(alloc, &mut bytes, scenario, world, horizon)?;
+    Ok(bytes)
+}
+
+/// The topics of the world at the end of a script's run, whose closed ledgers move to tiers.
+fn tiered(alloc: Global, scenario: &Scenario, world: &World, keep: u64) -> Result<Blob, Memory>
+    requires scenario { IsScenario scenario.now }
+    requires finished { IsFinished scenario.now world.now }
+    ensures { IfOk result (λ bytes. bytes ≡ tiered keep scenario.now.setup (shown_world world.now)) }
+{
+    let mut bytes = Blob::new(alloc);
+    append_tiered(alloc, &mut bytes, scenario, world, keep)?;
     Ok(bytes)
 }
 

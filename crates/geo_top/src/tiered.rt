@@ -1,0 +1,81 @@
+//! The topics of a world whose closed ledgers move to tiers in memory, line by line.
+//!
+//! Each part appends its lines to those before it. Where a part wants memory, it is left open what it appended, since the whole
+//! is made apart from where it goes.
+ghost use Rattle.std.specs.Prelude.{◌≡◌, ◌<◌, ◌++◌, [], length, slice_index_or, OnErr, OnOk};
+ghost use Rattle.geo_base.specs.Report.{with_line_feeds};
+ghost use Rattle.geo_top.specs.Shown.{shown_world};
+ghost use Rattle.geo_top.specs.Tiered.{AreTopicsTellable, tiered, tiers_at, tiers_of};
+ghost use Rattle.world.specs.World.{IsAt};
+
+use geo_base::{Blob, Memory};
+use report_lines::add;
+use report_tiers::{add_read_entries, moved_line, moved_to_tier};
+use script_text::Scenario;
+use std::alloc::Global;
+use world::World;
+
+/// Appends, of each topic at each cluster of a world, how many of its closed ledgers moved to a tier of its own (all but the last
+/// `keep`) and its entries, each read from where it stands then; nothing where memory is wanting.
+pub fn append_tiered(
+    alloc: Global,
+    out: &mut Blob,
+    scenario: &Scenario,
+    world: &World,
+    keep: u64,
+) -> Result<(), Memory>
+    requires at { IsAt scenario.now.setup world.now }
+    requires tellable { AreTopicsTellable scenario.now.setup (shown_world world.now) }
+    ensures ok { OnOk result (out.new ≡ out.old ++ tiered keep scenario.now.setup (shown_world world.now)) }
+    ensures err { OnErr result (out.new ≡ out.old) }
+{
+    let mut lines = Blob::new(alloc);
+    add_topics(alloc, &mut lines, scenario, world, keep)?;
+    out.append(lines.as_slice())
+}
+
+/// All topics.
+fn add_topics(
+    alloc: Global,
+    lines: &mut Blob,
+    scenario: &Scenario,
+    world: &World,
+    keep: u64,
+) -> Result<(), Memory>
+    requires at { IsAt scenario.now.setup world.now }
+    requires tellable { AreTopicsTellable scenario.now.setup (shown_world world.now) }
+    ensures { OnOk result (lines.new ≡ lines.old ++ with_line_feeds (tiers_of scenario.now.setup (shown_world world.now) keep 0 scenario.now.setup.topics)) }
+{
+    for topic in 0..scenario.topics().len() {
+        add_topic(alloc, lines, scenario, world, topic as u32, keep)?;
+    }
+    Ok(())
+}
+
+/// A topic at each cluster.
+fn add_topic(
+    alloc: Global,
+    lines: &mut Blob,
+    scenario: &Scenario,
+    world: &World,
+    topic: u32,
+    keep: u64,
+) -> Result<(), Memory>
+    requires at { IsAt scenario.now.setup world.now }
+    requires tellable { AreTopicsTellable scenario.now.setup (shown_world world.now) }
+    requires topic { topic < length scenario.now.setup.topics }
+    ensures { OnOk result (lines.new ≡ lines.old ++ with_line_feeds (tiers_at scenario.now.setup (shown_world world.now) keep topic (slice_index_or scenario.now.setup.topics topic []) 0 scenario.now.setup.clusters)) }
+{
+    let name = scenario.topics()[topic as usize].as_str();
+    let clusters = scenario.clusters();
+    for (number, cluster) in clusters.iter().enumerate() {
+        let store = world.topic(scenario, topic, number as u32).store();
+        let mut moved = moved_to_tier(alloc, clusters, number as u32, store, keep)?;
+        add(
+            lines,
+            moved_line(alloc, name, cluster.as_str(), moved.offloaded())?,
+        )?;
+        add_read_entries(alloc, lines, clusters, store, &mut moved)?;
+    }
+    Ok(())
+}
