@@ -4,8 +4,10 @@
 The input has each script NAME.geo of examples/, drills/, runs/, edges/ and states/ behind a line `== DIRECTORY/NAME`, the output has that
 line and the report NAME.report that lies beside the script. Behind them stand each case of refused/cases.txt as `== refused/LINE`, by its line in that
 file, with the line that refuses it; each script with a `stop` line as `== stop DIRECTORY/NAME`, which the program saves there and resumes,
-with its report once more; the state files of tools/state_files.py; and each script whose messages have keys as `== compact HORIZON
-DIRECTORY/NAME`, at two horizons, with the views that tools/compacted_view.py makes of its report. The program's own output is never read.
+with its report once more; the state files of tools/state_files.py; each script whose messages have keys as `== compact HORIZON
+DIRECTORY/NAME`, at two horizons, with the views that tools/compacted_view.py makes of its report; and each script that tells which of its
+ledgers are closed as `== tiered KEEP DIRECTORY/NAME`, with none and with one to stay, where a ledger moves, with what tools/tiered_view.py
+makes of its report. The program's own output is never read.
 
 usage: example_runs.py write     writes crates/geo_examples/stdin and crates/geo_examples/stdout
        example_runs.py check     says whether they are what `write` would write
@@ -16,6 +18,7 @@ import sys
 
 import compacted_view
 import state_files
+import tiered_view
 
 ROOT = os.path.dirname(os.path.dirname(os.path.abspath(__file__)))
 DIRECTORIES = ('examples', 'drills', 'runs', 'edges', 'states')
@@ -71,6 +74,15 @@ def compactions():
                 yield 'compact %d %s' % (horizon, name), content(name, '.geo'), compacted_view.compacted(report, horizon).encode()
 
 
+def tierings():
+    """The scripts that tell which of their ledgers are closed, with none to stay and with one, where a ledger moves."""
+    for name in names():
+        script, report = content(name, '.geo').decode(), content(name, '.report').decode()
+        for keep in (0, 1):
+            if tiered_view.moves(script, report, keep):
+                yield 'tiered %d %s' % (keep, name), script.encode(), tiered_view.tiered(script, report, keep).encode()
+
+
 def sections():
     """All that the program is given, in order: a name, a script, and what is to be answered."""
     for name in names():
@@ -81,6 +93,7 @@ def sections():
             yield 'stop ' + name, content(name, '.geo'), content(name, '.report')
     yield from state_files.sections(lambda name: content(name, '.report'))
     yield from compactions()
+    yield from tierings()
 
 
 def joined(part):

@@ -1,10 +1,11 @@
 //! Does many runs in one. The input has each script behind a line `== NAME`; the output has that line again, and behind it what the
 //! program writes for the script: its report, or the line that refuses it. Lines before the first `== NAME` are left out.
 //!
-//! Behind `== compact HORIZON NAME` the compacted views of the script's run are shown; behind `== save NAME` the script's run is saved, and the state file shown in hexadecimal; behind `== resume NAME` an input of
-//! `resume` stands in hexadecimal, of which the report or the refusal is shown, and behind `== cuts NAME` one of which each beginning is
-//! answered; behind `== stop NAME` a script is saved where its first `stop` line stands, and the run goes on from that file with the
-//! lines behind it.
+//! Behind `== compact HORIZON NAME` the compacted views of the script's run are shown, and behind `== tiered KEEP NAME` its entries, read
+//! back from ledgers that moved; behind `== save NAME` the script's run is saved, and the state file shown in hexadecimal; behind
+//! `== resume NAME` an input of `resume` stands in hexadecimal, of which the report or the refusal is shown, and behind `== cuts NAME`
+//! one of which each beginning is answered; behind `== stop NAME` a script is saved where its first `stop` line stands, and the run goes
+//! on from that file with the lines behind it.
 //!
 //! The input is made of the repository's examples and runs by `tools/example_runs.py`, and what is expected of their reports.
 #![tactic(auto)]

@@ -20,6 +20,8 @@ enum Task {
     Run,
     /// The compacted views of a script's run are shown.
     Compact,
+    /// The entries of a script's run are shown, read back from ledgers that moved.
+    Tiered,
     /// A script's run is saved.
     Save,
     /// A run goes on from bytes in hexadecimal.
@@ -35,6 +37,8 @@ impl Task {
     fn of(heading: &[u8]) -> Task {
         if heading.starts_with(b"== compact ") {
             Task::Compact
+        } else if heading.starts_with(b"== tiered ") {
+            Task::Tiered
         } else if heading.starts_with(b"== save ") {
             Task::Save
         } else if heading.starts_with(b"== resume ") {
@@ -89,7 +93,8 @@ impl Section {
     pub fn answer(&self, alloc: Global) -> Result<Vec<u8>> {
         match self.task {
             Task::Run => Ok(answer(alloc, &["run"], self.first.as_slice())?.bytes),
-            Task::Compact => self.compacted(alloc),
+            Task::Compact => self.numbered(alloc, "compact"),
+            Task::Tiered => self.numbered(alloc, "tiered"),
             Task::Save => self.saved(alloc),
             Task::Resume => {
                 let bytes = hex::decode(alloc, self.first.as_slice())?;
@@ -100,11 +105,11 @@ impl Section {
         }
     }
 
-    /// The compacted views at the horizon that the section's line has behind `== compact `.
-    fn compacted(&self, alloc: Global) -> Result<Vec<u8>> {
+    /// What a command shows of the script's run, with the number that the section's line has behind the command's word.
+    fn numbered(&self, alloc: Global, word: &str) -> Result<Vec<u8>> {
         let heading = str::from_utf8(self.heading.as_slice())?;
-        let horizon = heading.split_whitespace().nth(2).unwrap_or("");
-        Ok(answer(alloc, &["compact", horizon], self.first.as_slice())?.bytes)
+        let number = heading.split_whitespace().nth(2).unwrap_or("");
+        Ok(answer(alloc, &[word, number], self.first.as_slice())?.bytes)
     }
 
     /// The state file in hexadecimal, or the line that refuses the script.
