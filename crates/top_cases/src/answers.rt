@@ -132,7 +132,7 @@ compacted t at b horizon 0\n",
 const LEDGERS: &[u8] =
     b"geo 1\nledger 2\ncluster a\ncluster b\ntopic t\nclient p t a\ndo p produce\n\
 do p pub 0 * - a\ndo p pub 1 * - b\ndo p pub 2 * - c\ndo p pub 3 * - d\ndo p pub 4 * - e\n\
-reconnect p\nserve a p\ngo p\nserve a p\ngo p\nserve a p\ngo p\nserve a p\ngo p\nserve a p\ngo p\nserve a p\n";
+reconnect p\nserve a p\ngo p\nserve a p\ngo p\nserve a p\ngo p\nserve a p\ngo p\nserve a p\ngo p\nserve a p\ngo p\nserve a p\n";
 
 /// The entries that are read back once the closed ledgers moved, all or but the last one: the same, and another head.
 #[test]
