@@ -50,7 +50,7 @@ plans s old mid e place n p at same brokers scripted there number prepares = rec
   prepares = prepares;
 }
 
-prepared_there : (s : Setup) (old mid : WorldBook) (e : Event) (place : Place) (n : ℕ) (p : PreparedBook) → IsPlanned s old mid e place n p
+pub prepared_there : (s : Setup) (old mid : WorldBook) (e : Event) (place : Place) (n : ℕ) (p : PreparedBook) → IsPlanned s old mid e place n p
     → PreparesAt old (node_of s e) (takes_of e) e p
 prepared_there s old mid e place n p h =
     subst (λ (m : ℕ). PreparesAt old m (takes_of e) e p) h.number (subst (λ (a : Place). PreparesAt old n a.takes e p) h.there h.prepares)

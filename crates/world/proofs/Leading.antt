@@ -72,7 +72,7 @@ takes_stands s b w e h brokers here reached stands =
     subst (λ (g : Site). Both (IsInput g.clusters) (packet_on b.links (takes_of e)) (taken_in s w e)) (sym (node_is s b e h brokers here).site)
     (input s (kept_of b) w (takes_of e) (told_frames s w h.setup reached) stands)
 
-prepared_plan : (s : Setup) (b : WorldBook) (w : World) (e : Event) (p : PreparedBook) → IsAt s b → IsBrokers e → IsEvent s e → Reached s w → Stands s (kept_of b) w
+pub prepared_plan : (s : Setup) (b : WorldBook) (w : World) (e : Event) (p : PreparedBook) → IsAt s b → IsBrokers e → IsEvent s e → Reached s w → Stands s (kept_of b) w
     → PreparesAt b (node_of s e) (takes_of e) e p
     → IsPrepared (node_at b.nodes (node_of s e)).site (node_at b.nodes (node_of s e)).broker (plan_in s w e) p
 prepared_plan s b w e p h brokers here reached stands prepared =
@@ -81,7 +81,7 @@ prepared_plan s b w e p h brokers here reached stands prepared =
     (prepared (taken_in s w e) (takes_stands s b w e h brokers here reached stands))
 
 -- also where brokers have other room
-prepared_same : (s : Setup) (old mid : WorldBook) (e : Event) (plan : Plan) (p : PreparedBook) → IsAt s old → SameWorld old mid → IsBrokers e → IsEvent s e
+pub prepared_same : (s : Setup) (old mid : WorldBook) (e : Event) (plan : Plan) (p : PreparedBook) → IsAt s old → SameWorld old mid → IsBrokers e → IsEvent s e
     → IsPrepared (node_at old.nodes (node_of s e)).site (node_at old.nodes (node_of s e)).broker plan p
     → IsPrepared (node_at mid.nodes (node_of s e)).site (node_at mid.nodes (node_of s e)).broker plan p
 prepared_same s old mid e plan p h same brokers here prepared =
@@ -103,7 +103,7 @@ becomes s b e plan p h brokers here prepared =
 
 -- ---- the event
 
-stands_same : (s : Setup) (old mid : WorldBook) (w : World) → SameWorld old mid → Stands s (kept_of old) w → Stands s (kept_of mid) w
+pub stands_same : (s : Setup) (old mid : WorldBook) (w : World) → SameWorld old mid → Stands s (kept_of old) w → Stands s (kept_of mid) w
 stands_same s old mid w same stands = subst (λ (k : Kept). Stands s k w) (sym same.kept) stands
 
 pub acted_stands : (s : Setup) (old mid : WorldBook) (w : World) (e : Event) (p : PreparedBook) → IsAt s old → SameWorld old mid → IsBrokers e → IsEvent s e

@@ -6,3 +6,4 @@ pub mod Opening
 pub mod Restarts
 pub mod Settling
 pub mod Saving
+pub mod Foreseen

@@ -8,6 +8,7 @@ mod brokers;
 mod clients;
 mod events;
 mod fault;
+mod foreseeing;
 mod gets;
 mod halts;
 mod opening;
@@ -21,4 +22,6 @@ mod stops;
 mod world;
 
 pub use fault::RunFault;
+pub use place::Place;
+pub use settling_events::SettlingEvents;
 pub use world::World;

@@ -73,8 +73,8 @@ impl World {
         Ok(true)
     }
 
-    /// Counts a round.
-    fn counts_round(&mut self)
+    /// Counts a round that did an event.
+    pub fn counts_round(&mut self)
         requires within { IsWithin self.old }
         requires few { self.old.rounds < most_at_start + self.old.events }
         ensures { self.new ≡ record self.old { rounds = self.old.rounds + 1 } }
@@ -102,7 +102,7 @@ impl World {
     }
 
     /// An event of settling: where it is idle it is not counted, and passes no limit. An `Err` changes nothing of the world.
-    pub(crate) fn settles(
+    pub fn settles(
         &mut self,
         alloc: Global,
         scenario: &Scenario,

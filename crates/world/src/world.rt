@@ -1,9 +1,10 @@
 //! The world: its parts, how it begins, and what may be read of it.
-ghost use Rattle.std.specs.Prelude.{◌≡◌, ◌<◌, length, IfOk, slice_index_or};
+ghost use Rattle.std.specs.Prelude.{◌≡◌, ◌<◌, ◌≤◌, ◌+◌, length, IfOk, slice_index_or};
 ghost use Rattle.geo_base.specs.World.{node};
 ghost use Rattle.script_text.specs.Scenario.{IsScenario};
 ghost use Rattle.world.specs.World.{AreNodes, IsAt, kept_of, node_at};
 ghost use Rattle.world_kept.specs.Kept.{opening_kept};
+ghost use Rattle.world_laws.specs.Starts.{most_at_start};
 
 use broker::TopicNode;
 use broker_state::Prepared;
@@ -54,6 +55,14 @@ impl World {
         ensures { result ≡ record { events = self.now.events; idle = self.now.idle; rounds = self.now.rounds; frame_bytes = self.now.frame_bytes } }
     {
         self.counts
+    }
+
+    /// How many events were done. But for those of a file, no more rounds were counted than that.
+    pub fn events(&self) -> u64
+        ensures events { result ≡ self.now.events }
+        ensures rounds { self.now.rounds ≤ most_at_start + self.now.events }
+    {
+        self.counts.events
     }
 
     /// The broker of a topic at a cluster.

@@ -170,7 +170,7 @@ stops_in s k w n t x takes p h = record {
 }
 
 -- which event it is
-abbrev event_plan : Setup → World → Event → Planned
+abbrev pub event_plan : Setup → World → Event → Planned
 event_plan s w e = record { topic = topic_of s e; cluster = cluster_of e; takes = taken_name (length s.clusters) (takes_of e); plan = plan_in s w e }
 
 happens_is : (s : Setup) (w : World) (e : Event) → IsBrokers e → happens s w e ≡ does_planned s w (planned s w e)
@@ -204,11 +204,11 @@ in_is s w (event.Go c) b = absurd b
 in_is s w (event.Get c) b = absurd b
 in_is s w (event.Reconnect c) b = absurd b
 
-planned_is : (s : Setup) (w : World) (e : Event) → IsBrokers e → in_range s e ≡ true → planned s w e ≡ Some (event_plan s w e)
+pub planned_is : (s : Setup) (w : World) (e : Event) → IsBrokers e → in_range s e ≡ true → planned s w e ≡ Some (event_plan s w e)
 unfolding planned
 planned_is s w e b within = ap (λ (t : Bool). if t then planned_in s w e else None) within ∙ in_is s w e b
 
-done_is : (s : Setup) (w : World) (e : Event) → IsBrokers e → in_range s e ≡ true → happens s w e ≡ broker_does s w (event_plan s w e)
+pub done_is : (s : Setup) (w : World) (e : Event) → IsBrokers e → in_range s e ≡ true → happens s w e ≡ broker_does s w (event_plan s w e)
 done_is s w e b within = happens_is s w e b ∙ ap (does_planned s w) (planned_is s w e b within)
 
 read_plan : (s : Setup) (w : World) (e : Event) → IsBrokers e → in_range s e ≡ true → IsGround s w → AreReadable (plan_in s w e).sent

@@ -1,0 +1,4 @@
+pub mod Lines
+pub mod RangeTexts
+pub mod Gains
+pub mod Snapshots

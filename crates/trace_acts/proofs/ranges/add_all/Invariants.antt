@@ -1,0 +1,9 @@
+use Rattle.std.proofs.Common.{◌≡◌, ◌++◌, drop}
+use Rattle.geo_base.specs.TraceText.{shown_ranges}
+use Rattle.trace_acts.specs.Ranges.{as_shown}
+use Rattle.trace_acts.proofs.RangeTexts.{behind_commas}
+use Rattle.trace_acts.proofs.ranges.add_all.Given as goal
+
+-- the ranges so far and the rest make the whole
+abbrev pub invariant-loop-range : goal.invariant-loop-range
+invariant-loop-range l = l.lines ++ behind_commas (as_shown (drop l.range-index l.rest)) ≡ l.fn.lines ++ shown_ranges (as_shown l.ranges)

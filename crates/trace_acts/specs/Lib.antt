@@ -1,0 +1,4 @@
+pub mod Naming
+pub mod Told
+pub mod Ranges
+pub mod Acts

@@ -1,0 +1,18 @@
+//! The lines of a trace, each from its parts: that an event begins, and what was written durably of a topic at a cluster.
+//!
+//! A line ends with its line feed, and is exactly the one that `geo_base`'s definition of a trace has. Each call appends its line to
+//! those before it. Where memory ends in the midst, an `Err`, it is left open what was appended, since the lines of an event are
+//! made apart from where they go.
+#![tactic(auto)]
+
+mod acts;
+mod gained;
+mod named;
+mod naming;
+mod ranges;
+mod told;
+
+pub use acts::{add_acks, add_append, add_begin, add_create, add_delete, add_seek};
+pub use gained::{gained_each, gained_passed, gained_to};
+pub use naming::Naming;
+pub use told::snapshot_told;

@@ -1,0 +1,38 @@
+//! The indexes that a cursor gained, as ranges.
+ghost use Rattle.std.specs.Prelude.{◌≡◌, ◌++◌, ◌∷◌, [], if◌then◌else◌, OnOk};
+ghost use Rattle.geo_base.specs.TraceText.{ranges_of, shown_range, shown_ranges};
+ghost use Rattle.trace_acts.specs.Ranges.{as_shown};
+
+use cursor_acks::{Cursor, IndexRange};
+use geo_base::{Blob, Memory};
+use report_lines::add_number;
+
+/// Ranges of indexes that ascend, with a gap between each two, with commas; `-` where there is none.
+pub(crate) fn add_ranges(lines: &mut Blob, gained: &Cursor) -> Result<(), Memory>
+    ensures { OnOk result (lines.new ≡ lines.old ++ shown_ranges (ranges_of gained.now.indexes)) }
+{
+    gained.is_told_by_ranges();
+    add_all(lines, gained.ranges().as_slice())
+}
+
+fn add_all(lines: &mut Blob, ranges: &[IndexRange]) -> Result<(), Memory>
+    ensures { OnOk result (lines.new ≡ lines.old ++ shown_ranges (as_shown ranges.now)) }
+{
+    let Some((first, rest)) = ranges.split_first() else {
+        return lines.append(b"-");
+    };
+    add_range(lines, *first)?;
+    for range in rest {
+        lines.append(b",")?;
+        add_range(lines, *range)?;
+    }
+    Ok(())
+}
+
+fn add_range(lines: &mut Blob, range: IndexRange) -> Result<(), Memory>
+    ensures { OnOk result (lines.new ≡ lines.old ++ shown_range (record { first = range.first; last = range.last })) }
+{
+    add_number(lines, range.first)?;
+    lines.append(b"-")?;
+    add_number(lines, range.last)
+}

@@ -1,0 +1,14 @@
+use Rattle.std.proofs.Common.{◌≡◌, ◌++◌, drop}
+use Rattle.std.specs.Prelude.{take}
+use Rattle.broker_state.specs.Prepared.{plan_in}
+use Rattle.geo_base.specs.Traced.{cause_of}
+use Rattle.trace_acts.specs.Acts.{acts_before}
+use Rattle.trace_events.specs.Writes.{lines_of}
+use Rattle.trace_events.proofs.Steps.{with_left}
+use Rattle.trace_events.proofs.writes.add_writes.Given as goal
+
+-- the lines so far and those that are left make the whole
+abbrev pub invariant-loop-number : goal.invariant-loop-number
+invariant-loop-number l =
+    let h = l.node.site in let b = l.node.broker in let c = cause_of b l.event in let ws = take l.count (plan_in b l.plan).writes in
+    with_left h c b l.lines (drop l.number ws) ≡ l.initial.lines ++ lines_of h (acts_before h c b ws)

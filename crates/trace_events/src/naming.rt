@@ -1,0 +1,19 @@
+//! Where the lines of a broker stand.
+ghost use Rattle.std.specs.Prelude.{◌≡◌, ◌≤◌, length};
+ghost use Rattle.trace_events.specs.Writes.{naming};
+
+use broker::TopicNode;
+use trace_acts::Naming;
+
+/// The topic and the cluster of a broker, by their names.
+pub(crate) fn naming(node: &TopicNode) -> Naming<'_>
+    ensures naming { result ≡ naming node.entry.now.site }
+    ensures few { length node.entry.now.site.clusters ≤ 8 }
+{
+    let site = node.site();
+    Naming::new(
+        site.clusters(),
+        site.topic().as_str(),
+        site.cluster_name(site.own()).as_str(),
+    )
+}

@@ -1,0 +1,121 @@
+//! The lines of an event's writes.
+ghost use Rattle.std.specs.Prelude.{◌≡◌, ◌++◌, take, OnOk};
+ghost use Rattle.broker_state.specs.Fits.{PlanFits};
+ghost use Rattle.broker_state.specs.Prepared.{plan_in};
+ghost use Rattle.broker_state.specs.Writes.{machine_write};
+ghost use Rattle.broker_subs.specs.Steps.{machine_sub_write};
+ghost use Rattle.geo_base.specs.TraceItems.{Appends};
+ghost use Rattle.geo_base.specs.Topic.{next_position};
+ghost use Rattle.geo_base.specs.Traced.{act_of, cause_of, snapshot_told};
+ghost use Rattle.trace_acts.specs.Acts.{acts_before};
+ghost use Rattle.trace_acts.specs.Naming.{act_line};
+ghost use Rattle.trace_events.specs.Writes.{IsWithin, ReadsWithin, SubIsWithin, lines_of, naming};
+
+use crate::cause::cause_of;
+use crate::naming::naming;
+use crate::subs::{cursor_of, name_of};
+use broker::TopicNode;
+use broker_state::{BookWrite, Prepared};
+use broker_subs::SubWrite;
+use cursor_acks::Cursor;
+use geo_base::{Blob, Cause, Entry, EntryStore, Event, Memory};
+use std::alloc::Global;
+use trace_acts::{
+    add_acks, add_append, add_create, add_delete, add_seek, gained_each, gained_passed, gained_to,
+    snapshot_told,
+};
+
+/// Appends the lines of the first `count` durable writes of an event that is prepared at a broker, in their order. An `Err` is want of
+/// memory, and then it is left open what was appended.
+#[tactic(auto, using(crate::proofs::Steps::no_line))]
+pub fn add_writes(
+    alloc: Global,
+    lines: &mut Blob,
+    node: &TopicNode,
+    event: &Event,
+    plan: &Prepared,
+    count: usize,
+) -> Result<(), Memory>
+    requires read { ReadsWithin node.now.site event.now }
+    requires fits { PlanFits node.now.site.per_ledger node.now.broker plan.now }
+    ensures { OnOk result (lines.new ≡ lines.old ++ lines_of node.now.site (acts_before node.now.site (cause_of node.now.broker event.now) node.now.broker (take count (plan_in node.now.broker plan.now).writes))) }
+{
+    let cause = cause_of(node, event);
+    let sub = name_of(node, plan);
+    for number in 0..count.min(plan.write_count()) {
+        add_write(alloc, lines, node, cause, sub, plan.write_at(number))?;
+    }
+    Ok(())
+}
+
+/// The line of a write, if it has one; `sub` is the name of the event's subscription.
+#[tactic(auto, using(crate::proofs::Steps::one_line))]
+fn add_write(
+    alloc: Global,
+    lines: &mut Blob,
+    node: &TopicNode,
+    cause: Cause,
+    sub: &[u8],
+    write: &BookWrite,
+) -> Result<(), Memory>
+    requires { IsWithin node.now.broker.entries write.now }
+    ensures { OnOk result (lines.new ≡ lines.old ++ lines_of node.now.site (act_of node.now.site cause node.now.broker (machine_write sub.now node.now.broker.entries write.now))) }
+{
+    match write {
+        BookWrite::Append { entry, .. } => append(lines, node, entry),
+        BookWrite::Create { sub, latest } => {
+            let name = sub.name().as_str().as_bytes();
+            add_create(lines, &naming(node), name, *latest)
+        }
+        BookWrite::Delete => add_delete(lines, &naming(node), sub),
+        BookWrite::Sub(write) => add_sub_write(alloc, lines, node, cause, sub, write),
+        BookWrite::SenderAck { .. } | BookWrite::SessionNumber { .. } | BookWrite::Ledger => Ok(()),
+    }
+}
+
+/// The line of an entry that is stored next.
+#[tactic(auto, using(crate::proofs::Steps::one_line, crate::proofs::Steps::told_is))]
+fn append(lines: &mut Blob, node: &TopicNode, entry: &Entry) -> Result<(), Memory>
+    ensures { OnOk result (lines.new ≡ lines.old ++ act_line (naming node.now.site) (Appends (next_position node.now.site.per_ledger node.now.broker.ledgers) entry.now (snapshot_told node.now.site node.now.broker entry.now entry.now.content))) }
+{
+    let at = naming(node);
+    let clusters = node.site().clusters().len() as u32;
+    let by = snapshot_told(node.cluster(), clusters, node.store(), entry);
+    add_append(lines, &at, node.store().next(), entry, by)
+}
+
+/// The line of a write of a subscription that is here, or was created before it.
+#[tactic(auto, using(crate::proofs::Steps::one_line))]
+fn add_sub_write(
+    alloc: Global,
+    lines: &mut Blob,
+    node: &TopicNode,
+    cause: Cause,
+    sub: &[u8],
+    write: &SubWrite,
+) -> Result<(), Memory>
+    requires { SubIsWithin node.now.broker.entries write.now }
+    ensures { OnOk result (lines.new ≡ lines.old ++ lines_of node.now.site (act_of node.now.site cause node.now.broker (machine_sub_write sub.now node.now.broker.entries write.now))) }
+{
+    let at = naming(node);
+    let none = Cursor::none(alloc);
+    let cursor = cursor_of(node, sub, &none);
+    let store = node.store();
+    let len = store.len() as u64;
+    match write {
+        SubWrite::Acks(indexes) => {
+            let gained = gained_each(alloc, cursor, indexes.as_slice(), len)?;
+            add_acks(lines, &at, sub, &gained, cause)
+        }
+        SubWrite::AckTo(index) => {
+            let gained = gained_to(alloc, cursor, *index, len)?;
+            add_acks(lines, &at, sub, &gained, cause)
+        }
+        SubWrite::Passed { index, from, .. } => {
+            let gained = gained_passed(alloc, cursor, store, *index, *from)?;
+            add_acks(lines, &at, sub, &gained, cause)
+        }
+        SubWrite::Seek(index) => add_seek(lines, &at, sub, *index),
+        SubWrite::Alter { .. } => Ok(()),
+    }
+}

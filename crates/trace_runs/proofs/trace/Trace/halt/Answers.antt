@@ -1,0 +1,26 @@
+use Rattle.world.specs.World.{node_at}
+use Rattle.world_kept.specs.Events.{node_of}
+use Rattle.trace_runs.proofs.Steps.{halting_comes}
+use Rattle.trace_runs.proofs.Telling.{always, events_are, fits_there, foreseen_there, halt_told, there}
+use Rattle.trace_runs.proofs.trace.Trace.halt.Goals as goal
+
+pub tell-requires-clause-fits : goal.tell-requires-clause-fits
+tell-requires-clause-fits c =
+    let s = c.args.scenario.now.setup in let e = c.args.event.now in let nodes = c.foresee.new.self.nodes in let u = c.topic-node.result.now in
+    let is = there s e nodes c.in_ok-place.place u c.in_ok-place.ensures.place c.topic-node.ensures in
+    let h = c.requires.at in
+    fits_there s h.world e u c.foresee.new.plan (foreseen_there s h.world e u (node_at nodes (node_of s e)) c.foresee.new.plan is (c.in_ok-place.ensures.foreseen h.world h.reached h.stands))
+
+pub returns-clause-told : goal.returns-clause-told
+returns-clause-told c = λ w reached stands.
+    let s = c.args.scenario.now.setup in let e = c.args.event.now in let nodes = c.foresee.new.self.nodes in let u = c.topic-node.result.now in let p = c.foresee.new.plan in
+    let is = there s e nodes c.in_ok-place.place u c.in_ok-place.ensures.place c.topic-node.ensures in
+    let f = foreseen_there s w e u (node_at nodes (node_of s e)) p is (c.in_ok-place.ensures.foreseen w reached stands) in
+    always _ c.halt.result
+    (halt_told s w e u p c.args.writes c.events-events.result c.args.self.now.text c.tell.new.self.text c.requires.broker c.requires.scripted f
+    (events_are s c.args.world.now c.foresee.new.self w c.events-events.result c.events-events.ensures.events c.foresee.ensures.same stands) (c.in_ok-tell.ensures s))
+
+pub returns-clause-comes : goal.returns-clause-comes
+returns-clause-comes c = λ w reached stands.
+    halting_comes c.args.scenario.now.setup c.args.world.now c.foresee.new.self c.halt.new.self w c.args.writes c.args.event.now c.halt.result c.foresee.ensures.same stands
+    (λ there. c.halt.ensures.leads w reached there) c.halt.ensures.err

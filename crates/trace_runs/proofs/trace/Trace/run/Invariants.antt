@@ -1,0 +1,7 @@
+use Rattle.std.proofs.Common.{drop}
+use Rattle.trace_runs.proofs.Steps.{GoesOn}
+use Rattle.trace_runs.proofs.trace.Trace.run.Given as goal
+
+-- what is left from here comes to what all comes to, and makes the lines of all
+abbrev pub invariant-loop-place : goal.invariant-loop-place
+invariant-loop-place l = GoesOn l.scenario.setup l.fn.world l.world l.fn.self.text l.self.text l.fn.steps (drop l.place l.steps)
