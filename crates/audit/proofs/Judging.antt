@@ -1,0 +1,138 @@
+-- What a line may write that no rule refuses, and what it leaves.
+use Rattle.std.proofs.Common.{◌≡◌, ℕ, ◌+◌, ◌*◌, ◌<◌, zero, suc, ◌-◌, Bool, true, false, List, [], ◌∷◌, length, refl, sym, ap, subst, ◌∙◌, arith, ◌≤◌, ◌==◌}
+use Rattle.std.specs.Prelude.{Option, Some, None, is_none, is_some, nat_le, if◌then◌else◌, Result, Ok, Err, IfOk, OnOk, OnErr, slice_set}
+use Rattle.std.proofs.lemmas.Bool.{false≢true}
+use Rattle.std.proofs.lemmas.Bool.Decides.{nat_tests}
+use Rattle.std.proofs.lemmas.List.{length-replicate}
+use Rattle.std.proofs.lemmas.Nat.{mul-add-lt}
+use Rattle.std.proofs.lemmas.Result.{IfOk-weaker}
+use Rattle.std.proofs.Math.Nat.{mul_comm}
+use Rattle.std.proofs.lemmas.Option.{none-some}
+use Rattle.geo_base.specs.Audit.{Refusal, act_refused, are_new, is_above, judged, refused, unless_broken}
+use Rattle.geo_base.specs.Mirror.{Mirror, MirrorSub, Mirrors, acted, mirror_at, mirror_number, mirror_sub, no_mirror, opening_mirrors, told}
+use Rattle.geo_base.specs.Setup.{Setup}
+use Rattle.geo_base.specs.Topic.{accepts}
+use Rattle.geo_base.specs.TraceItems.{Act, Acks, Appends, Begins, Creates, Deletes, Item, Seeks, Writes}
+use Rattle.audit.specs.AuditOf.{item_refused, lines_audited, may_come, names_of, told_if}
+use Rattle.audit.specs.Numbers.{AreSized}
+use Rattle.audit_mirrors.specs.Topic.{MayAct}
+use Rattle.audit_mirrors.proofs.Needing.{Grown, none_grown}
+use Rattle.script_names.specs.Words.{cut_by}
+use Rattle.trace_lines.specs.Lines.{item_read}
+use Rattle.trace_lines.specs.Said.{act_said, item_said}
+use Rattle.trace_lines.specs.declared.line.Line.{Line}
+use Rattle.trace_lines.specs.declared.line.Line.TheVariants as line
+use Rattle.trace_lines.specs.declared.line.Written.{Written}
+use Rattle.audit.proofs.LineNumbers.{some_piece}
+
+-- ---- a rule that is not broken
+
+broken_none : (rule : ℕ) (b : Bool) (o : Option ℕ) → unless_broken rule b o ≡ None → (b ≡ true) × (o ≡ None)
+broken_none rule true o h = (refl, h)
+broken_none rule false o h = absurd (none-some rule (sym h))
+
+none_is : (o : Option MirrorSub) → is_none o ≡ true → o ≡ None
+none_is None h = refl
+none_is (Some v) h = absurd (false≢true h)
+
+pub may_act : (s : Setup) (a : Mirrors) (t x : ℕ) (m : Mirror) (act : Act) → act_refused s a t x m act ≡ None → MayAct m act
+may_act s a t x m (Appends p e by_position) h =
+    let two = broken_none 2 (is_above m.positions p) _ h in let three = broken_none 3 (accepts m.entries e.ident) _ two.1 in (two.0, three.0)
+may_act s a t x m (Creates n latest) h = none_is (mirror_sub m n) (broken_none 7 (is_none (mirror_sub m n)) None h).0
+may_act s a t x m (Deletes n) h = tt
+may_act s a t x m (Acks n is c) h =
+    let seven = broken_none 7 (is_some (mirror_sub m n)) _ h in (broken_none 8 (are_new m (mirror_sub m n) is) _ seven.1).0
+may_act s a t x m (Seeks n i) h =
+    let seven = broken_none 7 (is_some (mirror_sub m n)) _ h in
+    let le : nat_le i (length m.entries) ≡ true = (broken_none 11 (nat_le i (length m.entries)) None seven.1).0 in
+    grind (arith, nat_tests, le)
+
+pub write_may : (s : Setup) (a : Mirrors) (t x : ℕ) (act : Act) → refused s a (Writes t x act) ≡ None → MayAct (mirror_at s a t x) act
+unfolding refused
+write_may s a t x act h = may_act s a t x (mirror_at s a t x) act h
+
+pub acted_grows : (m : Mirror) (act : Act) → Grown m.entries (acted m act).entries
+acted_grows m (Appends p e by_position) = record { more = e ∷ []; is = refl }
+acted_grows m (Creates n latest) = none_grown m.entries m.entries refl
+acted_grows m (Deletes n) = none_grown m.entries m.entries refl
+acted_grows m (Acks n is c) = none_grown m.entries m.entries refl
+acted_grows m (Seeks n i) = none_grown m.entries m.entries refl
+
+-- a write, or want of memory for it
+pub grown_after : {A E : Type 0} (r : Result A E) (m m' : Mirror) (act : Act) → OnOk r (m' ≡ acted m act) → OnErr r (m'.entries ≡ m.entries) → Grown m.entries m'.entries
+grown_after (Ok x) m m' act ok err = subst (λ (q : Mirror). Grown m.entries q.entries) (sym ok) (acted_grows m act)
+grown_after (Err x) m m' act ok err = none_grown m.entries m'.entries err
+
+-- ---- numbers
+
+pub number_within : (s : Setup) (a : Mirrors) (t x : ℕ) → AreSized s a → t < length s.topics → x < length s.clusters → mirror_number s t x < length a.topics
+number_within s a t x sized lt small = let l = mul-add-lt t (length s.clusters) x (length s.topics) lt small in let c = mul_comm (length s.topics) (length s.clusters) in omega (arith, l, c, sized)
+
+set_length : (ms : List Mirror) (j : ℕ) (m : Mirror) → length (slice_set ms j m) ≡ length ms
+set_length [] j m = refl
+set_length (n ∷ ms) zero m = refl
+set_length (n ∷ ms) (suc j) m = let rest = set_length ms j m in omega (arith, rest)
+
+told_sized : (s : Setup) (a : Mirrors) (i : Item) → AreSized s a → AreSized s (told s a i)
+told_sized s a (Begins n) h = h
+told_sized s a (Writes t x act) h = set_length a.topics (mirror_number s t x) (acted (mirror_at s a t x) act) ∙ h
+
+pub told_if_sized : (s : Setup) (a : Mirrors) (o : Option Item) → AreSized s a → AreSized s (told_if s a o)
+told_if_sized s a None h = h
+told_if_sized s a (Some i) h = told_sized s a i h
+
+pub opening_sized : (s : Setup) → AreSized s (opening_mirrors s)
+opening_sized s = length-replicate (length s.topics * length s.clusters) no_mirror
+
+-- ---- the next number of an event
+
+pub next_above : (events n : ℕ) → events < n → ((n - events) == 1) ≡ (n == events + 1)
+next_above events n lt = grind (arith, nat_tests, lt)
+
+pub not_next : (events n : ℕ) → n ≤ events → false ≡ (n == events + 1)
+not_next events n le = grind (arith, nat_tests, le)
+
+pub event_judged : (s : Setup) (a : Mirrors) (n : ℕ) (b : Bool) → b ≡ (n == a.events + 1) → unless_broken 1 b None ≡ refused s a (Begins n)
+unfolding refused
+event_judged s a n b is = ap (λ (q : Bool). unless_broken 1 q None) is
+
+pub write_judged : {E : Type 0} (s : Setup) (a : Mirrors) (l : Line) (t x : ℕ) (w : Written) (r : Result (Option ℕ) E) → l ≡ line.Writes t x w → may_come a.events (item_said l) ≡ true
+    → IfOk r (λ (o : Option ℕ). o ≡ act_refused s a t x (mirror_at s a t x) (act_said w)) → IfOk r (λ (o : Option ℕ). o ≡ item_refused s a (Some (item_said l)))
+unfolding refused
+write_judged s a l t x w r is come h =
+    let e : item_refused s a (Some (item_said l)) ≡ act_refused s a t x (mirror_at s a t x) (act_said w) =
+    ap (λ (b : Bool). if b then refused s a (item_said l) else Some 1) come ∙ ap (λ (k : Line). refused s a (item_said k)) is in
+    IfOk-weaker r (λ (o : Option ℕ). o ≡ act_refused s a t x (mirror_at s a t x) (act_said w)) (λ (o : Option ℕ). o ≡ item_refused s a (Some (item_said l))) (λ o g. g ∙ sym e) h
+
+-- ---- one line more is read
+
+pub line_read : (s : Setup) (a : Mirrors) (l : List ℕ) (ls : List (List ℕ)) → 0 < length ls
+    → lines_audited s a (l ∷ ls) ≡ judged a.events (item_refused s a (item_read (names_of s) l)) (lines_audited s (told_if s a (item_read (names_of s) l)) ls)
+line_read s a l [] some = absurd (omega (arith, some))
+line_read s a l (k ∷ ls) some = refl
+
+pub line_goes_on : (s : Setup) (a : Mirrors) (l : List ℕ) (ls : List (List ℕ)) → 0 < length ls → item_refused s a (item_read (names_of s) l) ≡ None
+    → lines_audited s a (l ∷ ls) ≡ lines_audited s (told_if s a (item_read (names_of s) l)) ls
+line_goes_on s a l ls some none =
+    line_read s a l ls some ∙ ap (λ (o : Option ℕ). judged a.events o (lines_audited s (told_if s a (item_read (names_of s) l)) ls)) none
+
+pub line_ends : (s : Setup) (a : Mirrors) (l : List ℕ) (ls : List (List ℕ)) (rule : ℕ) → 0 < length ls → item_refused s a (item_read (names_of s) l) ≡ Some rule
+    → lines_audited s a (l ∷ ls) ≡ Err (record { event = a.events; rule = rule })
+line_ends s a l ls rule some broken =
+    line_read s a l ls some ∙ ap (λ (o : Option ℕ). judged a.events o (lines_audited s (told_if s a (item_read (names_of s) l)) ls)) broken
+
+-- the first of the lines that are left is read, or refused
+pub line_told : (s : Setup) (a b : Mirrors) (l bytes behind : List ℕ) → cut_by 10 bytes ≡ l ∷ cut_by 10 behind → item_refused s a (item_read (names_of s) l) ≡ None
+    → b ≡ told_if s a (item_read (names_of s) l) → lines_audited s b (cut_by 10 behind) ≡ lines_audited s a (cut_by 10 bytes)
+line_told s a b l bytes behind cut none is =
+    ap (λ (q : Mirrors). lines_audited s q (cut_by 10 behind)) is
+    ∙ sym (ap (lines_audited s a) cut ∙ line_goes_on s a l (cut_by 10 behind) (some_piece 10 behind) none)
+
+abbrev ended : ℕ → ℕ → Result ℕ Refusal
+ended event rule = Err (record { event = event; rule = rule })
+
+pub line_refused : (s : Setup) (a : Mirrors) (l bytes behind : List ℕ) (event rule : ℕ) → cut_by 10 bytes ≡ l ∷ cut_by 10 behind → item_refused s a (item_read (names_of s) l) ≡ Some rule
+    → event ≡ a.events → lines_audited s a (cut_by 10 bytes) ≡ Err (record { event = event; rule = rule })
+line_refused s a l bytes behind event rule cut broken is =
+    ap (lines_audited s a) cut
+    ∙ (line_ends s a l (cut_by 10 behind) rule (some_piece 10 behind) broken ∙ ap (λ (k : ℕ). ended k rule) (sym is))

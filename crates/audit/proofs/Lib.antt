@@ -1,0 +1,5 @@
+pub mod Accepting
+mod Judging
+mod LineNumbers
+mod Steps
+mod Within

@@ -1,0 +1,31 @@
+//! The audit.
+ghost use Rattle.std.specs.Prelude.{ℕ, ◌≡◌, Ok, Err, IfOk};
+ghost use Rattle.audit.specs.AuditOf.{IsAccepted, audit_of};
+ghost use Rattle.audit.specs.declared.fault.AuditFault.TheVariants as fault;
+
+use crate::fault::AuditFault;
+use crate::mirrors::AllMirrors;
+use script_names::{cut_at, is_word};
+use script_text::Scenario;
+use std::alloc::Global;
+use trace_lines::Names;
+
+/// Audits a trace, from its line `trace` on, of a run of what a scenario declares: how many events it tells, where no line breaks a
+/// rule. `Rule` comes exactly where a line does, with the last event before it and the lowest rule that it breaks. The schedule of the
+/// scenario says nothing. `Memory` says nothing of the trace.
+#[tactic(auto, unfolding(crate::specs::AuditOf::audit_of), using(crate::proofs::Accepting::accepted_says))]
+pub fn audit(alloc: Global, scenario: &Scenario, bytes: &[u8]) -> Result<u64, AuditFault>
+    ensures audited { IfOk result (λ events. audit_of scenario.now.setup bytes.now ≡ Ok events) }
+    ensures refused { (event rule : ℕ) → result ≡ Err (fault.Rule event rule) → audit_of scenario.now.setup bytes.now ≡ Err (record { event = event; rule = rule }) }
+    ensures accepted { IfOk result (λ events. IsAccepted scenario.now.setup bytes.now events) }
+{
+    let names = Names::new(alloc, scenario.clusters(), scenario.topics())?;
+    let mut mirrors = AllMirrors::new(alloc, scenario)?;
+    let Some((head, lines)) = cut_at(bytes, b'\n') else {
+        return Err(AuditFault::Rule { event: 0, rule: 1 });
+    };
+    if !is_word(head, b"trace") {
+        return Err(AuditFault::Rule { event: 0, rule: 1 });
+    }
+    mirrors.read_all(alloc, scenario, &names, lines)
+}

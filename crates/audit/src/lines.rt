@@ -1,0 +1,168 @@
+//! The rules of lines.
+ghost use Rattle.std.specs.Prelude.{ℕ, ◌≡◌, ◌<◌, ◌+◌, ◌==◌, None, Some, Ok, Err, length, IfOk, OnOk};
+ghost use Rattle.geo_base.specs.Audit.{act_refused, refused};
+ghost use Rattle.geo_base.specs.Mirror.{mirror_at};
+ghost use Rattle.geo_base.specs.Setup.{Setup};
+ghost use Rattle.geo_base.specs.TraceItems.{Begins};
+ghost use Rattle.script_names.specs.Words.{cut_by};
+ghost use Rattle.trace_lines.specs.Lines.{item_read};
+ghost use Rattle.trace_lines.specs.Said.{act_said, item_said};
+ghost use Rattle.audit.specs.AuditOf.{item_refused, lines_audited, may_come, names_of, told_if};
+ghost use Rattle.audit.specs.Numbers.{AreSized, IsActOf, IsItemOf};
+ghost use Rattle.audit.specs.declared.fault.AuditFault.TheVariants as fault;
+
+use crate::fault::AuditFault;
+use crate::mirrors::{AllMirrors, At, number_of};
+use audit_mirrors::{Acked, unless_broken};
+use geo_base::Memory;
+use script_names::cut_at;
+use script_text::Scenario;
+use std::alloc::Global;
+use trace_lines::{Line, Names, Written, line_of};
+
+/// Whether a line may come where so many events have begun: a write stands behind an event.
+fn may_come(events: u64, line: &Line) -> bool
+    ensures { result ≡ may_come events (item_said line.now) }
+{
+    match line {
+        Line::Begins(_) => true,
+        Line::Writes { .. } => events > 0,
+    }
+}
+
+/// Whether a number is the next one behind so many events.
+#[tactic(auto, using(crate::proofs::Judging::next_above, crate::proofs::Judging::not_next))]
+fn is_next(events: u64, number: u64) -> bool
+    ensures { result ≡ (number == events + 1) }
+{
+    number > events && number - events == 1
+}
+
+impl AllMirrors {
+    /// The lowest rule that the beginning of an event breaks: it has the next number.
+    fn event_refused(&self, number: u64) -> Option<u32>
+        ensures { (s : Setup) → result ≡ refused s self.now (Begins number) }
+    {
+        unless_broken(1, is_next(self.events(), number))
+    }
+
+    /// The lowest rule that a write breaks.
+    fn write_refused(
+        &mut self,
+        alloc: Global,
+        scenario: &Scenario,
+        at: At,
+        written: &Written,
+    ) -> Result<Option<u32>, Memory>
+        requires sized { AreSized scenario.now.setup self.old }
+        requires topic { at.topic < length scenario.now.setup.topics }
+        requires cluster { at.cluster < length scenario.now.setup.clusters }
+        requires numbers { IsActOf scenario.now.setup (act_said written.now) }
+        ensures same { self.new ≡ self.old }
+        ensures refused { IfOk result (λ refused. refused ≡ act_refused scenario.now.setup self.old at.topic at.cluster (mirror_at scenario.now.setup self.old at.topic at.cluster) (act_said written.now)) }
+    {
+        let number = number_of(scenario, at.topic, at.cluster);
+        match written {
+            Written::Appends {
+                position,
+                entry,
+                by,
+            } => self.append_refused(alloc, scenario, at, position, entry, by),
+            Written::Creates { sub, .. } => Ok(self.topics()[number].create_refused(sub)),
+            Written::Deletes { sub } => Ok(self.topics()[number].delete_refused(sub)),
+            Written::Acks { sub, ranges, cause } => {
+                let acked = Acked { sub, ranges, cause };
+                self.acks_refused(alloc, number, at.cluster, acked)
+            }
+            Written::Seeks { sub, index } => Ok(self.topics()[number].seek_refused(sub, *index)),
+        }
+    }
+
+    /// The lowest rule that a line breaks.
+    fn refused(
+        &mut self,
+        alloc: Global,
+        scenario: &Scenario,
+        line: &Line,
+    ) -> Result<Option<u32>, Memory>
+        requires sized { AreSized scenario.now.setup self.old }
+        requires numbers { IsItemOf scenario.now.setup (item_said line.now) }
+        ensures same { self.new ≡ self.old }
+        ensures refused { IfOk result (λ rule. rule ≡ item_refused scenario.now.setup self.old (Some (item_said line.now))) }
+    {
+        if !may_come(self.events(), line) {
+            return Ok(Some(1));
+        }
+        match line {
+            Line::Begins(number) => Ok(self.event_refused(*number)),
+            Line::Writes {
+                topic,
+                cluster,
+                written,
+            } => {
+                let at = At {
+                    topic: *topic,
+                    cluster: *cluster,
+                };
+                self.write_refused(alloc, scenario, at, written)
+            }
+        }
+    }
+
+    /// Reads a line: where no rule refuses it, what it tells is done. A fault of a rule comes exactly where one does, with the last
+    /// event and the lowest such rule.
+    pub(crate) fn read(
+        &mut self,
+        alloc: Global,
+        scenario: &Scenario,
+        names: &Names<'_>,
+        line: &[u8],
+    ) -> Result<(), AuditFault>
+        requires sized { AreSized scenario.now.setup self.old }
+        requires names { names.now ≡ names_of scenario.now.setup }
+        ensures accepted { OnOk result (item_refused scenario.now.setup self.old (item_read names.now line.now) ≡ None) }
+        ensures told { OnOk result (self.new ≡ told_if scenario.now.setup self.old (item_read names.now line.now)) }
+        ensures rule { (event rule : ℕ) → result ≡ Err (fault.Rule event rule) → item_refused scenario.now.setup self.old (item_read names.now line.now) ≡ Some rule }
+        ensures event { (event rule : ℕ) → result ≡ Err (fault.Rule event rule) → event ≡ self.old.events }
+    {
+        let event = self.events();
+        let Some(line) = line_of(alloc, names, line)? else {
+            return Err(AuditFault::Rule { event, rule: 1 });
+        };
+        match self.refused(alloc, scenario, &line)? {
+            None => {
+                self.tell(alloc, scenario, line)?;
+                Ok(())
+            }
+            Some(rule) => Err(AuditFault::Rule { event, rule }),
+        }
+    }
+
+    /// Reads all lines of a text: how many events have begun, where no rule refuses one. A fault of a rule comes exactly where one
+    /// does, with the last event before the first such line and the lowest rule that refuses it. What stands behind the last line feed
+    /// is a line only where there is a byte, and has no form.
+    pub(crate) fn read_all(
+        &mut self,
+        alloc: Global,
+        scenario: &Scenario,
+        names: &Names<'_>,
+        lines: &[u8],
+    ) -> Result<u64, AuditFault>
+        requires sized { AreSized scenario.now.setup self.old }
+        requires names { names.now ≡ names_of scenario.now.setup }
+        ensures audited { IfOk result (λ events. lines_audited scenario.now.setup self.old (cut_by 10 lines.now) ≡ Ok events) }
+        ensures refused { (event rule : ℕ) → result ≡ Err (fault.Rule event rule) → lines_audited scenario.now.setup self.old (cut_by 10 lines.now) ≡ Err (record { event = event; rule = rule }) }
+    {
+        let mut rest = lines;
+        while let Some((line, behind)) = cut_at(rest, b'\n') {
+            self.read(alloc, scenario, names, line)?;
+            rest = behind;
+        }
+        let event = self.events();
+        if rest.is_empty() {
+            Ok(event)
+        } else {
+            Err(AuditFault::Rule { event, rule: 1 })
+        }
+    }
+}

@@ -1,0 +1,8 @@
+mod Following
+mod Gains
+mod HeldSubs
+mod LastPlace
+pub mod Needing
+mod Passing
+mod SlotRows
+mod Tables

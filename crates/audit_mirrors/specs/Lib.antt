@@ -1,0 +1,6 @@
+pub mod Stored
+pub mod Sub
+pub mod Subs
+pub mod Covers
+pub mod Topic
+pub mod Acks
