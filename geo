@@ -2,7 +2,7 @@
 # Runs the program:
 #
 #   ./geo run < SCRIPT      the program's own words; it reads standard input
-#   ./geo run SCRIPT        this wrapper reads a file that stands behind run, save or resume in place of standard input;
+#   ./geo run SCRIPT        this wrapper reads a file that stands behind run, save, resume, trace or audit in place of standard input;
 #   ./geo run SCRIPT ..     several behind run are several runs, each answer under a line `== SCRIPT`,
 #   ./geo resume STATE ..   and several behind resume are read one behind the other, as a state and the events behind it
 #   ./geo compact 100 SCRIPT  a file that stands behind the horizon of compact, or behind the number of tiered, is read in the same way
@@ -20,7 +20,7 @@ program=$top/.built/geo
 words=("$@")
 files=()
 case "${1:-}:$#" in
-run:* | resume:* | save:2)
+run:* | resume:* | save:2 | trace:2 | audit:2)
     words=("$1")
     files=("${@:2}")
     ;;
@@ -108,7 +108,7 @@ fi
 # `rt try` does not wait for a pipe to end, so what the program reads is read here
 input=/dev/null
 case "${words[*]-}" in
-run | save | resume | compact\ * | tiered\ *)
+run | save | resume | trace | audit | compact\ * | tiered\ *)
     input=$room/input
     # what the program says of a directory and of a standard input that is closed
     if ! cat ${files+"${files[@]}"} >"$input" 2>/dev/null; then

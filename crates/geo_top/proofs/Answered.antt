@@ -22,7 +22,8 @@ use Rattle.geo_top.specs.Outputs.{IsAnswerFor, IsAnswerToBytes, UnlessLarge, ans
 use Rattle.geo_top.specs.States.{gone_on}
 use Rattle.geo_top.specs.Statuses.{IsDue, IsMade, refusal_line}
 use Rattle.geo_top.proofs.Again.{generated_again, nothing_again, still_nothing}
-use Rattle.geo_top.proofs.Answering.{big_is, counted, of_saved, of_script, ok_big, ok_resumed, ok_saved}
+use Rattle.geo_top.proofs.Accepted.{traced_accepted}
+use Rattle.geo_top.proofs.Answering.{big_is, counted, of_saved, of_script, ok_audited, ok_big, ok_resumed, ok_saved, safe_audited}
 use Rattle.geo_top.proofs.Causing.{IsCaused, caused, caused_as, caused_made, lined}
 use Rattle.geo_top.proofs.GoingOut.{only_answer, same_due, went, went_is, writes}
 use Rattle.geo_top.proofs.Headline.{always_kept, always_once, always_safe, always_settled}
@@ -39,6 +40,7 @@ answered c input a f founded = record {
   report = λ ok run. of_script c input a founded (λ v m. (a.bytes ≡ output_of v m) × (passed_limit m ≡ None)) (λ v m k is none. (is, none)) shown.Report ok run;
   compacted = λ horizon ok is. of_script c input a founded (λ v m. (a.bytes ≡ output_of v m) × (passed_limit m ≡ None)) (λ v m k is none. (is, none)) (shown.Compacted horizon) ok is;
   tiered = λ keep ok is. of_script c input a founded (λ v m. (a.bytes ≡ output_of v m) × (passed_limit m ≡ None)) (λ v m k is none. (is, none)) (shown.Tiered keep) ok is;
+  traced = λ ok trace. of_script c input a founded (λ v m. (a.bytes ≡ output_of v m) × (passed_limit m ≡ None)) (λ v m k is none. (is, none)) shown.Trace ok trace;
   shows = of_script c input a founded (λ v m. (a.bytes ≡ output_of v m) × (passed_limit m ≡ None)) (λ v m k is none. (is, none));
   once = of_script c input a founded (λ v m. IsAlwaysOnce m) (λ v m k is none. always_once m);
   safe = of_script c input a founded (λ v m. IsAlwaysSafe m) (λ v m k is none. always_safe m k.setup none);
@@ -55,6 +57,9 @@ answered c input a f founded = record {
   still_settled = of_saved c input a founded IsStillSettled (λ n es k is none. still_settled n es k none);
   still_again = of_saved c input a founded NothingStillComesAgain (λ n es k is none. still_nothing n es k none);
   one_answer = λ text lines n made is said k. counted c input a founded text lines n (not_long (length input) k.read) is said k;
+  audited = ok_audited c input a founded;
+  audited_safe = safe_audited c input a founded;
+  accepted = traced_accepted;
   summary = λ number ok is. ok_big c input a number founded ok is;
   big_again = λ number ok is. generated_again number (ok_big c input a number founded ok is).1;
   quiet = generated_quiet;
@@ -64,6 +69,7 @@ answered c input a f founded = record {
   script = λ line rule is. cause (status.BadScript line rule) is;
   state = λ offset rule is. cause (status.BadState offset rule) is;
   version = λ number is. cause (status.StateVersion number) is;
+  judged = λ event rule is. cause (status.AuditRefused event rule) is;
   write = λ is. absurd (cause status.WriteFault is);
   memory = λ is. absurd (cause status.OutOfMemory is);
   no_command = λ none. same_due status.Usage a.status (sym (ap (λ (a : Answer). a.status) (subst (λ (c : Option Command). IsAnswerFor c input a) none founded.due)));
@@ -130,6 +136,7 @@ failed c input output f s fault read write memory out line = record {
   report = λ is run. absurd (other status.Ok is);
   compacted = λ horizon is compact. absurd (other status.Ok is);
   tiered = λ keep is tier. absurd (other status.Ok is);
+  traced = λ is trace. absurd (other status.Ok is);
   shows = λ v is run. absurd (other status.Ok is);
   once = λ v is run. absurd (other status.Ok is);
   safe = λ v is run. absurd (other status.Ok is);
@@ -145,6 +152,9 @@ failed c input output f s fault read write memory out line = record {
   still_settled = λ n lines is resume k. absurd (other status.Ok is);
   still_again = λ n lines is resume k. absurd (other status.Ok is);
   one_answer = λ text lines n made is said k. not_made s fault made;
+  audited = λ is audit. absurd (other status.Ok is);
+  audited_safe = λ is audit. absurd (other status.Ok is);
+  accepted = traced_accepted;
   summary = λ number is big. absurd (other status.Ok is);
   big_again = λ number is big. absurd (other status.Ok is);
   quiet = generated_quiet;
@@ -154,6 +164,7 @@ failed c input output f s fault read write memory out line = record {
   script = λ l rule is. absurd (other (status.BadScript l rule) is);
   state = λ offset rule is. absurd (other (status.BadState offset rule) is);
   version = λ number is. absurd (other (status.StateVersion number) is);
+  judged = λ event rule is. absurd (other (status.AuditRefused event rule) is);
   write = write;
   memory = memory;
   no_command = λ none. fault_due status.Usage s fault;
@@ -191,6 +202,7 @@ part_out c input output f g (status.BadScript line rule) k old now sent h a is =
 part_out c input output f g (status.TooLarge limit) k old now sent h a is = inl (k, ap (take k) (went_is c a g (status.TooLarge limit) output tt (h.out a is)))
 part_out c input output f g (status.BadState offset rule) k old now sent h a is = inl (k, ap (take k) (went_is c a g (status.BadState offset rule) output tt (h.out a is)))
 part_out c input output f g (status.StateVersion number) k old now sent h a is = inl (k, ap (take k) (went_is c a g (status.StateVersion number) output tt (h.out a is)))
+part_out c input output f g (status.AuditRefused event rule) k old now sent h a is = inl (k, ap (take k) (went_is c a g (status.AuditRefused event rule) output tt (h.out a is)))
 
 pub write_failed : (c : Option Command) (input : List ℕ) (before now sink sink_now k : ℕ) (a : Answer) → IsReady c input before now a → Rose sink sink_now
     → IsAnswered c input (take k a.bytes) (record { source = before; source_now = now; sink = sink; sink_now = sink_now }) status.WriteFault
@@ -210,6 +222,7 @@ made_sent (status.TooLarge limit) made = tt
 made_sent status.OutOfMemory made = made
 made_sent (status.BadState offset rule) made = tt
 made_sent (status.StateVersion number) made = tt
+made_sent (status.AuditRefused event rule) made = tt
 
 -- what is promised of an answer that was made does not look at faults
 counted_again : (c : Option Command) (input output : List ℕ) (f g : FaultCounts) (s : Status) → IsMade s → IsAnswered c input output g s → IsAnswered c input output f s
@@ -217,6 +230,7 @@ counted_again c input output f g s made h = record {
   report = h.report;
   compacted = h.compacted;
   tiered = h.tiered;
+  traced = h.traced;
   shows = h.shows;
   once = h.once;
   safe = h.safe;
@@ -232,6 +246,9 @@ counted_again c input output f g s made h = record {
   still_settled = h.still_settled;
   still_again = h.still_again;
   one_answer = h.one_answer;
+  audited = h.audited;
+  audited_safe = h.audited_safe;
+  accepted = h.accepted;
   summary = h.summary;
   big_again = h.big_again;
   quiet = h.quiet;
@@ -241,6 +258,7 @@ counted_again c input output f g s made h = record {
   script = h.script;
   state = h.state;
   version = h.version;
+  judged = h.judged;
   write = λ is. absurd (subst IsMade is made);
   memory = λ is. absurd (subst IsMade is made);
   no_command = h.no_command;

@@ -1,7 +1,10 @@
 -- What an answer is where it is Ok, and what holds of the run behind it.
 use Rattle.std.proofs.Common.{◌≡◌, ℕ, Bool, true, false, List, [], ◌∷◌, ◌++◌, refl, ap, subst}
 use Rattle.std.specs.Prelude.{Option, Some, None, Result, Ok, Err, IsOkAnd, length, drop, nat_lt}
+use Rattle.audit.specs.AuditOf.{audit_of}
 use Rattle.geo_base.specs.declared.event.Step.{Step}
+use Rattle.geo_base.specs.Audit.{Refusal as RefusedLine}
+use Rattle.geo_base.specs.Setup.{Setup}
 use Rattle.script_text.specs.Rules.{script_of}
 use Rattle.script_text.specs.Scenario.{IsScenario}
 use Rattle.script_text.specs.Schedule.{schedule_of}
@@ -10,6 +13,7 @@ use Rattle.state_file.specs.Loading.{IsLoaded, Loaded, bad_state, version}
 use Rattle.state_file.specs.State.{SavedState}
 use Rattle.world_laws.proofs.ResumedRuns.{resumed_law}
 use Rattle.world_laws.proofs.SavedRuns.{reached_law}
+use Rattle.trace_inputs.specs.Starts.{declarations_in, trace_in}
 use Rattle.geo_top.specs.declared.top.answer.Answer.{Answer}
 use Rattle.geo_top.specs.declared.top.command.Command.{Command}
 use Rattle.geo_top.specs.declared.top.command.Command.TheVariants as command
@@ -19,12 +23,14 @@ use Rattle.geo_top.specs.declared.top.command.Shown.{Shown}
 use Rattle.geo_top.specs.declared.top.command.Shown.TheVariants as shown
 use Rattle.geo_top.specs.declared.top.status.Status.TheVariants as status
 use Rattle.geo_top.specs.Answered.{OfSaved, OfScript}
-use Rattle.geo_top.specs.Commands.{resume_command, save_command}
+use Rattle.geo_top.specs.Audits.{IsAuditedSafe, audit_line}
+use Rattle.geo_top.specs.Commands.{audit_command, resume_command, save_command}
 use Rattle.geo_top.specs.Founded.{IsAccepted, IsFounded, IsKnown, IsKnownFor}
 use Rattle.geo_top.specs.OneRun.{IsKept, IsSavedWith, counted_on, lines_before, text_on}
-use Rattle.geo_top.specs.Outputs.{IsAnswerFor, IsAnswerToBytes, IsAnswerToFile, IsAnswerToInput, UnlessLarge, answer_to, answer_to_big, answer_to_loaded, answer_to_resumed, answer_to_save, output_of, passed_limit, resumed_limit, resumed_report, summary_of, unless_passed}
+use Rattle.geo_top.specs.Outputs.{IsAnswerFor, IsAnswerToBytes, IsAnswerToFile, IsAnswerToInput, UnlessLarge, answer_to, answer_to_audited, answer_to_big, answer_to_judged, answer_to_loaded, answer_to_resumed, answer_to_save, output_of, passed_limit, resumed_limit, resumed_report, summary_of, unless_passed}
 use Rattle.geo_top.specs.States.{file_of, state_of_run, stopped}
 use Rattle.schedule_gen.specs.Generated.{generated_run}
+use Rattle.geo_top.proofs.Auditing.{accepted_safe}
 use Rattle.geo_top.proofs.OneRun.{counted_same, kept_is}
 use Rattle.geo_top.proofs.SavedWith.{holds_of, ok_maps}
 
@@ -106,6 +112,28 @@ pub counted : (c : Option Command) (input : List ℕ) (a : Answer) → IsFounded
 counted c input a f text lines n small is said k =
     counted_same resumed_law text lines input n a (reached_law.opening n.setup) (kept_is reached_law n k.kept) said k
     (small_file (nat_lt 67108864 (length input)) input a refl small (of_reading reading.Resume c input a is f.due))
+
+-- ---- to a trace
+abbrev pub IsTold : List ℕ → Setup → List ℕ → Type 0
+IsTold output s trace = (events : ℕ) × (audit_of s trace ≡ Ok events) × (output ≡ audit_line events)
+
+by_judged : (a : Answer) (s : Setup) (trace : List ℕ) (r : Result ℕ RefusedLine) → audit_of s trace ≡ r → a ≡ answer_to_judged r → a.status ≡ status.Ok → IsTold a.bytes s trace
+by_judged a s trace (Ok events) judged is ok = (events, judged, ap (λ (a : Answer). a.bytes) is)
+by_judged a s trace (Err r) judged is ok = absurd (cc (ap (λ (a : Answer). a.status) is))
+
+by_audited : (a : Answer) (trace : List ℕ) (r : Result Script Fault) → a ≡ answer_to_audited trace r → a.status ≡ status.Ok → IsOkAnd r (λ n. IsTold a.bytes n.setup trace)
+by_audited a trace (Ok n) is ok = by_judged a n.setup trace (audit_of n.setup trace) refl is ok
+by_audited a trace (Err f) is ok = absurd (cc (ap (λ (a : Answer). a.status) is))
+
+pub ok_audited : (c : Option Command) (input : List ℕ) (a : Answer) → IsFounded c input a → a.status ≡ status.Ok → c ≡ Some audit_command
+    → IsOkAnd (script_of (declarations_in input)) (λ n. IsTold a.bytes n.setup (trace_in input))
+ok_audited c input a f ok is = by_audited a (trace_in input) (script_of (declarations_in input)) (ok_bytes reading.Audit c input a f ok is) ok
+
+pub safe_audited : (c : Option Command) (input : List ℕ) (a : Answer) → IsFounded c input a → a.status ≡ status.Ok → c ≡ Some audit_command
+    → IsOkAnd (script_of (declarations_in input)) (λ n. IsAuditedSafe n.setup (trace_in input))
+safe_audited c input a f ok is =
+    ok_maps (script_of (declarations_in input)) (λ n. IsTold a.bytes n.setup (trace_in input)) (λ n. IsAuditedSafe n.setup (trace_in input))
+    (λ n told. accepted_safe n.setup (trace_in input) told.0 told.1) (ok_audited c input a f ok is)
 
 -- ---- to a number
 pub big_is : (c : Option Command) (input : List ℕ) (a : Answer) (number : ℕ) → IsFounded c input a → c ≡ Some (command.Big number) → a ≡ answer_to_big number

@@ -2,12 +2,15 @@
 use Rattle.std.proofs.lemmas.Bool.{ltb-true}
 use Rattle.std.proofs.Common.{◌≡◌, ◌≢◌, ℕ, Bool, true, false, List, refl, sym, subst, inl, inr}
 use Rattle.std.specs.Prelude.{Option, Some, None, Result, Ok, Err, IsOkAnd, length, drop, nat_lt, ⊤}
+use Rattle.audit.specs.AuditOf.{audit_of}
 use Rattle.geo_base.specs.declared.event.Step.{Step}
+use Rattle.geo_base.specs.Audit.{Refusal as RefusedLine}
 use Rattle.script_text.specs.Rules.{script_of}
 use Rattle.script_text.specs.Schedule.{schedule_of}
 use Rattle.script_text.specs.Script.{Fault, Script}
 use Rattle.state_file.specs.Loading.{IsLoaded, Loaded, bad_state, version}
 use Rattle.state_file.specs.State.{SavedState}
+use Rattle.trace_inputs.specs.Starts.{declarations_in, trace_in}
 use Rattle.geo_top.specs.declared.top.answer.Answer.{Answer}
 use Rattle.geo_top.specs.declared.top.command.Command.{Command}
 use Rattle.geo_top.specs.declared.top.command.Command.TheVariants as command
@@ -16,9 +19,9 @@ use Rattle.geo_top.specs.declared.top.command.Reading.TheVariants as reading
 use Rattle.geo_top.specs.declared.top.command.Shown.{Shown}
 use Rattle.geo_top.specs.declared.top.status.Status.{Status}
 use Rattle.geo_top.specs.declared.top.status.Status.TheVariants as status
-use Rattle.geo_top.specs.Causes.{HasBadLine, HasBadState, IsPassed, RunPasses}
-use Rattle.geo_top.specs.Commands.{command_showing}
-use Rattle.geo_top.specs.Outputs.{IsAnswerFor, IsAnswerToBytes, UnlessLarge, answer_to, answer_to_generated, answer_to_loaded, answer_to_resumed, answer_to_save, output_of, passed_limit, resumed_limit, resumed_report, summary_of, unless_passed}
+use Rattle.geo_top.specs.Causes.{HasBadLine, HasBadState, HasRefusedLine, IsPassed, RunPasses}
+use Rattle.geo_top.specs.Commands.{audit_command, command_showing}
+use Rattle.geo_top.specs.Outputs.{IsAnswerFor, IsAnswerToBytes, UnlessLarge, answer_to, answer_to_audited, answer_to_generated, answer_to_judged, answer_to_loaded, answer_to_resumed, answer_to_save, output_of, passed_limit, resumed_limit, resumed_report, summary_of, unless_passed}
 use Rattle.geo_top.specs.States.{file_of, stopped}
 use Rattle.geo_top.specs.Statuses.{IsMade, refusal_line}
 use Rattle.schedule_gen.specs.Generated.{generated_run}
@@ -35,6 +38,7 @@ IsCaused c input status.WriteFault = ⊥
 IsCaused c input status.OutOfMemory = ⊥
 IsCaused c input (status.BadState offset rule) = HasBadState c input (bad_state offset rule)
 IsCaused c input (status.StateVersion number) = HasBadState c input (version number)
+IsCaused c input (status.AuditRefused event rule) = HasRefusedLine c input (record { event = event; rule = rule })
 
 some_command : (c : Command) → Some c ≢ None
 some_command c e = cc e
@@ -72,6 +76,15 @@ caused_resume input (Ok x) loaded = caused_steps input x.0 x.1 (schedule_of x.0.
 caused_resume input (Err (bad_state offset rule)) loaded = (refl, loaded)
 caused_resume input (Err (version number)) loaded = (refl, loaded)
 
+caused_judged : (input : List ℕ) (n : Script) (r : Result ℕ RefusedLine) → script_of (declarations_in input) ≡ Ok n → audit_of n.setup (trace_in input) ≡ r
+    → IsCaused (Some audit_command) input (answer_to_judged r).status
+caused_judged input n (Ok events) script judged = some_command audit_command
+caused_judged input n (Err r) script judged = (refl, ok_with (script_of (declarations_in input)) n (λ m. audit_of m.setup (trace_in input) ≡ Err r) script judged)
+
+caused_audit : (input : List ℕ) (r : Result Script Fault) → script_of (declarations_in input) ≡ r → IsCaused (Some audit_command) input (answer_to_audited (trace_in input) r).status
+caused_audit input (Ok n) script = caused_judged input n (audit_of n.setup (trace_in input)) script refl
+caused_audit input (Err f) script = script
+
 caused_bytes : (r : Reading) (input : List ℕ) (a : Answer) → IsAnswerToBytes r input a → IsCaused (Some (command.Reads r)) input a.status
 caused_bytes (reading.Script v) input a is =
     subst (λ (a : Answer). IsCaused (Some (command_showing v)) input a.status) (sym is) (caused_script v input (script_of input) refl)
@@ -79,6 +92,8 @@ caused_bytes reading.Save input a is =
     subst (λ (a : Answer). IsCaused (Some (command.Reads reading.Save)) input a.status) (sym is) (caused_save input (script_of input) refl)
 caused_bytes reading.Resume input a is =
     subst (λ (a : Answer). IsCaused (Some (command.Reads reading.Resume)) input a.status) (sym is.2) (caused_resume input is.0 is.1)
+caused_bytes reading.Audit input a is =
+    subst (λ (a : Answer). IsCaused (Some audit_command) input a.status) (sym is) (caused_audit input (script_of (declarations_in input)) refl)
 
 caused_input : (t : Bool) (r : Reading) (input : List ℕ) (a : Answer) → nat_lt 67108864 (length input) ≡ t → UnlessLarge t a (IsAnswerToBytes r input a)
     → IsCaused (Some (command.Reads r)) input a.status
@@ -112,6 +127,7 @@ caused_made c input (status.TooLarge limit) cause = tt
 caused_made c input status.OutOfMemory cause = absurd cause
 caused_made c input (status.BadState offset rule) cause = tt
 caused_made c input (status.StateVersion number) cause = tt
+caused_made c input (status.AuditRefused event rule) cause = tt
 
 -- ---- a refusal is its line
 abbrev pub IsLine : Status → List ℕ → Type 0
@@ -142,10 +158,19 @@ line_loaded input (Ok x) = line_steps x.0 (schedule_of x.0.scenario.setup (drop 
 line_loaded input (Err (bad_state offset rule)) = refl
 line_loaded input (Err (version number)) = refl
 
+line_judged : (r : Result ℕ RefusedLine) → Lined (answer_to_judged r)
+line_judged (Ok events) = tt
+line_judged (Err r) = refl
+
+line_audit : (trace : List ℕ) (r : Result Script Fault) → Lined (answer_to_audited trace r)
+line_audit trace (Ok n) = line_judged (audit_of n.setup trace)
+line_audit trace (Err f) = refl
+
 line_bytes : (r : Reading) (input : List ℕ) (a : Answer) → IsAnswerToBytes r input a → Lined a
 line_bytes (reading.Script v) input a is = subst Lined (sym is) (line_script v (script_of input))
 line_bytes reading.Save input a is = subst Lined (sym is) (line_save (script_of input))
 line_bytes reading.Resume input a is = subst Lined (sym is.2) (line_loaded input is.0)
+line_bytes reading.Audit input a is = subst Lined (sym is) (line_audit (trace_in input) (script_of (declarations_in input)))
 
 line_input : (t : Bool) (r : Reading) (input : List ℕ) (a : Answer) → UnlessLarge t a (IsAnswerToBytes r input a) → Lined a
 line_input true r input a is = subst Lined (sym is) refl

@@ -1,6 +1,6 @@
 -- How a run of the program ends: in the world of the machine's run, or at the limit that it passes.
 use Rattle.std.proofs.Common.{◌≡◌, ℕ, List, sym, ap, subst, ◌∙◌}
-use Rattle.std.specs.Prelude.{Some, Result, Ok, Err, OnOk}
+use Rattle.std.specs.Prelude.{Some, None, Result, Ok, Err, OnOk}
 use Rattle.geo_base.specs.declared.event.Step.{Step}
 use Rattle.geo_base.specs.Run.{all_limits, run_from, run_under}
 use Rattle.geo_base.specs.Setup.{Setup}
@@ -57,8 +57,8 @@ passed n old new es r f limit opens is comes err large =
 abbrev ok_answer : List ℕ → Answer
 ok_answer bytes = record { status = status.Ok; bytes = bytes }
 
-pub shown_whole : (v : Shown) (n : Script) (b : WorldBook) (bytes : List ℕ) → IsFinished n b → bytes ≡ output_of v n → ok_answer bytes ≡ answer_to_run v n (passed_limit n)
-shown_whole v n b bytes f is = ap ok_answer is ∙ sym (ap (answer_to_run v n) f.unlimited)
+pub shown_whole : (v : Shown) (n : Script) (bytes : List ℕ) → passed_limit n ≡ None → bytes ≡ output_of v n → ok_answer bytes ≡ answer_to_run v n (passed_limit n)
+shown_whole v n bytes within is = ap ok_answer is ∙ sym (ap (answer_to_run v n) within)
 
 pub refused_run : (v : Shown) (n : Script) (limit : ℕ) (a : Answer) → passed_limit n ≡ Some limit → a ≡ refused (status.TooLarge limit) → a ≡ answer_to_run v n (passed_limit n)
 refused_run v n limit a some is = is ∙ sym (ap (answer_to_run v n) some)

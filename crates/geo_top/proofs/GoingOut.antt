@@ -23,6 +23,7 @@ one_bytes : (r : Reading) (input : List ℕ) (a d : Answer) → IsAnswerToBytes 
 one_bytes (reading.Script v) input a d own is = own ∙ sym is
 one_bytes reading.Save input a d own is = own ∙ sym is
 one_bytes reading.Resume input a d own is = one_file input a d own is
+one_bytes reading.Audit input a d own is = own ∙ sym is
 
 one_input : (t : Bool) (r : Reading) (input : List ℕ) (a d : Answer) → UnlessLarge t a (IsAnswerToBytes r input a) → UnlessLarge t d (IsAnswerToBytes r input d) → a ≡ d
 one_input true r input a d own is = own ∙ sym is
@@ -54,6 +55,7 @@ went c due f (status.TooLarge limit) output made is = is
 went c due f status.OutOfMemory output made is = absurd made
 went c due f (status.BadState offset rule) output made is = is
 went c due f (status.StateVersion number) output made is = is
+went c due f (status.AuditRefused event rule) output made is = is
 
 -- and it was that answer
 pub went_is : (c : Option Command) (due : Answer) (f : FaultCounts) (s : Status) (output : List ℕ) → IsMade s → WentOut c due f s output → output ≡ due.bytes
@@ -66,6 +68,7 @@ went_is c due f (status.TooLarge limit) output made is = is
 went_is c due f status.OutOfMemory output made is = absurd made
 went_is c due f (status.BadState offset rule) output made is = is
 went_is c due f (status.StateVersion number) output made is = is
+went_is c due f (status.AuditRefused event rule) output made is = is
 
 pub writes : (s : Status) (output : List ℕ) → IsMade s → IsLine s output → WritesLine s output
 writes status.Ok output made line = tt
@@ -77,3 +80,4 @@ writes (status.TooLarge limit) output made line = line
 writes status.OutOfMemory output made line = absurd made
 writes (status.BadState offset rule) output made line = line
 writes (status.StateVersion number) output made line = line
+writes (status.AuditRefused event rule) output made line = line

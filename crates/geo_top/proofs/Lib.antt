@@ -22,8 +22,11 @@ pub mod OneRun
 pub mod Still
 pub mod ComesNot
 pub mod Again
+pub mod Auditing
+pub mod Accepted
 pub mod Causing
 pub mod Answering
 pub mod GoingOut
 pub mod Answered
 pub mod Inputs
+pub mod TracedRuns

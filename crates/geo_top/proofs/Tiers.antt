@@ -1,6 +1,6 @@
 -- What the topics whose ledgers moved leave of all of them, and that these lines do not show the links.
 use Rattle.std.proofs.Common.{◌≡◌, ℕ, ◌+◌, ◌<◌, List, [], ◌∷◌, ◌++◌, length, drop, get_or, refl, sym, ap, subst, ◌∙◌}
-use Rattle.std.specs.Prelude.{Err, IfOk, Ok, Result, slice_index_or}
+use Rattle.std.specs.Prelude.{slice_index_or}
 use Rattle.std.proofs.lemmas.List.{drop_more}
 use Rattle.geo_base.specs.declared.entry.Entry.{Entry}
 use Rattle.geo_base.specs.Broker.{Broker, Site}
@@ -17,10 +17,8 @@ use Rattle.report_tiers.specs.Tiers.{moved_ledgers, moved_line, tier_lines}
 use Rattle.script_text.specs.Scenario.{IsScenario}
 use Rattle.script_text.specs.Script.{Script}
 use Rattle.world.specs.World.{IsAt, WorldBook, node_at}
-use Rattle.geo_top.specs.declared.top.command.Shown.{Shown}
 use Rattle.geo_top.specs.declared.top.command.Shown.TheVariants as shown
 use Rattle.geo_top.specs.Finished.{IsFinished}
-use Rattle.geo_top.specs.Outputs.{output_of}
 use Rattle.geo_top.specs.Shown.{shown_world}
 use Rattle.geo_top.specs.Tiered.{AreTopicsTellable, tiered, tiers_at, tiers_of}
 use Rattle.geo_top.proofs.Limits.{unlimited}
@@ -98,13 +96,8 @@ same_tiers s w keep t (n ∷ ns) =
     let rest : tiers_of s (unlinked w) keep (t + 1) ns ≡ tiers_of s w keep (t + 1) ns = same_tiers s w keep (t + 1) ns in
     cc (first, rest)
 
-shown_tiered : (keep : ℕ) (n : Script) (b : WorldBook) (bytes : List ℕ) → IsFinished n b → bytes ≡ tiered keep n.setup (shown_world b)
+pub shown_tiered : (keep : ℕ) (n : Script) (b : WorldBook) (bytes : List ℕ) → IsFinished n b → bytes ≡ tiered keep n.setup (shown_world b)
     → bytes ≡ tiered keep n.setup (run n.setup n.steps)
 shown_tiered keep n b bytes f is =
     let w = run n.setup n.steps in
     is ∙ (ap (tiered keep n.setup) (shown_is n.setup b w f.stands) ∙ ap with_line_feeds (same_tiers n.setup w keep 0 n.setup.topics))
-
-pub tiered_made : {E : Type 0} (v : Shown) (keep : ℕ) (n : Script) (b : WorldBook) (r : Result (List ℕ) E) → v ≡ shown.Tiered keep → IsFinished n b
-    → IfOk r (λ bytes. bytes ≡ tiered keep n.setup (shown_world b)) → IfOk r (λ bytes. bytes ≡ output_of v n)
-tiered_made v keep n b (Ok bytes) is f made = subst (λ (w : Shown). bytes ≡ output_of w n) (sym is) (shown_tiered keep n b bytes f made)
-tiered_made v keep n b (Err e) is f made = tt

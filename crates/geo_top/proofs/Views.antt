@@ -1,10 +1,10 @@
 -- What the view of each topic leaves of all views, and that these do not show the links.
 use Rattle.std.proofs.Common.{◌≡◌, ℕ, ◌+◌, ◌<◌, List, [], ◌∷◌, ◌++◌, length, drop, get_or, refl, sym, ap, subst, ◌∙◌}
-use Rattle.std.specs.Prelude.{Err, IfOk, Ok, Result, min, slice_index_or}
+use Rattle.std.specs.Prelude.{IfOk, Result, min, slice_index_or}
 use Rattle.std.proofs.lemmas.List.{drop_more}
 use Rattle.geo_base.specs.declared.entry.Entry.{Entry}
 use Rattle.geo_base.specs.Broker.{Broker}
-use Rattle.geo_base.specs.Report.{report, with_line_feeds}
+use Rattle.geo_base.specs.Report.{with_line_feeds}
 use Rattle.geo_base.specs.Run.{run}
 use Rattle.geo_base.specs.Setup.{Setup}
 use Rattle.geo_base.specs.World.{World, node, topic_at}
@@ -21,7 +21,7 @@ use Rattle.geo_top.specs.Finished.{IsFinished}
 use Rattle.geo_top.specs.Outputs.{output_of}
 use Rattle.geo_top.specs.Shown.{shown_world}
 use Rattle.geo_top.proofs.Lines.{broker_there, here}
-use Rattle.geo_top.proofs.Shown.{shown_is, shown_report, unlinked}
+use Rattle.geo_top.proofs.Shown.{shown_is, unlinked}
 
 -- ---- the views of a topic at each cluster, and those of all topics
 
@@ -99,12 +99,5 @@ shown_compacted horizon n b bytes f is =
 
 -- ---- what a command shows
 
-pub report_made : {E : Type 0} (v : Shown) (n : Script) (b : WorldBook) (r : Result (List ℕ) E) → v ≡ shown.Report → IsFinished n b
-    → IfOk r (λ bytes. bytes ≡ report n.setup (shown_world b)) → IfOk r (λ bytes. bytes ≡ output_of v n)
-report_made v n b (Ok bytes) is f made = subst (λ (w : Shown). bytes ≡ output_of w n) (sym is) (shown_report n b bytes f made)
-report_made v n b (Err e) is f made = tt
-
-pub compacted_made : {E : Type 0} (v : Shown) (horizon : ℕ) (n : Script) (b : WorldBook) (r : Result (List ℕ) E) → v ≡ shown.Compacted horizon → IsFinished n b
-    → IfOk r (λ bytes. bytes ≡ compacted horizon n.setup (shown_world b)) → IfOk r (λ bytes. bytes ≡ output_of v n)
-compacted_made v horizon n b (Ok bytes) is f made = subst (λ (w : Shown). bytes ≡ output_of w n) (sym is) (shown_compacted horizon n b bytes f made)
-compacted_made v horizon n b (Err e) is f made = tt
+pub as_shown : {E : Type 0} (v w : Shown) (n : Script) (r : Result (List ℕ) E) → v ≡ w → IfOk r (λ bytes. bytes ≡ output_of w n) → IfOk r (λ bytes. bytes ≡ output_of v n)
+as_shown v w n r is made = subst (λ (u : Shown). IfOk r (λ bytes. bytes ≡ output_of u n)) (sym is) made

@@ -1,15 +1,18 @@
 -- What is promised of the program's answer, over the bytes of an input and those of the output: once, for the call over bytes and for
 -- the call over a source and a sink.
 use Rattle.std.specs.Prelude.{◌≡◌, ◌⊎◌, ℕ, ◌<◌, ⊤, true, List, [], ◌∷◌, ◌++◌, length, drop, take, Option, Some, None, IfSome, IsOkAnd, Ok}
+use Rattle.audit.specs.AuditOf.{audit_of}
 use Rattle.geo_base.specs.declared.event.Step.{Step}
-use Rattle.geo_base.specs.Run.{is_quiet, run}
+use Rattle.geo_base.specs.Run.{all_limits, is_quiet, run, run_under}
 use Rattle.geo_io.specs.Faults.{Rose, Stood}
 use Rattle.schedule_gen.specs.Generated.{generated_run}
 use Rattle.script_text.specs.Rules.{script_of}
+use Rattle.script_text.specs.Scenario.{IsScenario}
 use Rattle.script_text.specs.Schedule.{schedule_of}
 use Rattle.script_text.specs.Script.{Script}
 use Rattle.state_file.specs.Loading.{IsLoaded, bad_state, version}
 use Rattle.state_file.specs.State.{SavedState}
+use Rattle.trace_inputs.specs.Starts.{declarations_in, trace_in}
 use Rattle.geo_top.specs.declared.top.answer.Answer.{Answer}
 use Rattle.geo_top.specs.declared.top.command.Command.{Command}
 use Rattle.geo_top.specs.declared.top.command.Command.TheVariants as command
@@ -17,13 +20,15 @@ use Rattle.geo_top.specs.declared.top.command.Shown.{Shown}
 use Rattle.geo_top.specs.declared.top.command.Shown.TheVariants as shown
 use Rattle.geo_top.specs.declared.top.status.Status.{Status}
 use Rattle.geo_top.specs.declared.top.status.Status.TheVariants as status
-use Rattle.geo_top.specs.Causes.{HasBadLine, HasBadState, IsPassed}
-use Rattle.geo_top.specs.Commands.{Reads, command_showing, compact_command, resume_command, run_command, save_command, tiered_command}
+use Rattle.geo_top.specs.Audits.{IsAuditedSafe, audit_line}
+use Rattle.geo_top.specs.Causes.{HasBadLine, HasBadState, HasRefusedLine, IsPassed}
+use Rattle.geo_top.specs.Commands.{Reads, audit_command, command_showing, compact_command, resume_command, run_command, save_command, tiered_command, trace_command}
 use Rattle.geo_top.specs.Headline.{IsAlwaysKept, IsAlwaysOnce, IsAlwaysSafe, IsAlwaysSettled, NothingComesAgain}
 use Rattle.geo_top.specs.OneRun.{IsKept, IsSavedWith, IsStillKept, IsStillOnce, IsStillSafe, IsStillSettled, NothingStillComesAgain, counted_on, lines_before, text_on}
-use Rattle.geo_top.specs.Outputs.{IsAnswerFor, answer_to, answer_to_big, compacted_of, output_of, passed_limit, report_of, resumed_limit, resumed_report, summary_of, tiered_of}
+use Rattle.geo_top.specs.Outputs.{IsAnswerFor, answer_to, answer_to_audit, answer_to_big, compacted_of, output_of, passed_limit, report_of, resumed_limit, resumed_report, summary_of, tiered_of}
 use Rattle.geo_top.specs.States.{file_of, gone_on}
 use Rattle.geo_top.specs.Statuses.{IsDue, IsMade, refusal_line}
+use Rattle.geo_top.specs.Traced.{traced_of}
 
 -- how often source and sink had failed before a call, and by its end
 pub record FaultCounts : Type 0 where
@@ -75,6 +80,7 @@ pub record IsAnswered (c : Option Command) (input output : List ℕ) (f : FaultC
   pub compacted : (horizon : ℕ) → s ≡ status.Ok → c ≡ Some (compact_command horizon)
       → IsOkAnd (script_of input) (λ n. (output ≡ compacted_of horizon n) × (passed_limit n ≡ None))
   pub tiered : (keep : ℕ) → s ≡ status.Ok → c ≡ Some (tiered_command keep) → IsOkAnd (script_of input) (λ n. (output ≡ tiered_of keep n) × (passed_limit n ≡ None))
+  pub traced : s ≡ status.Ok → c ≡ Some trace_command → IsOkAnd (script_of input) (λ n. (output ≡ traced_of n) × (passed_limit n ≡ None))
   pub shows : OfScript c input s (λ v n. (output ≡ output_of v n) × (passed_limit n ≡ None))
   -- and at every moment of it, between its events, inside settling and after each single durable write: each topic has its messages
   -- once, per producer in order,
@@ -110,7 +116,14 @@ pub record IsAnswered (c : Option Command) (input output : List ℕ) (f : FaultC
   -- lines behind it (where that is not too long to be read), refusals too, but for the number of the line that is refused;
   pub one_answer : (text lines : List ℕ) (n : Script) → IsMade s → c ≡ Some resume_command → script_of (text ++ 10 ∷ []) ≡ Ok n → IsSavedWith n lines input
       → counted_on (lines_before text) (record { status = s; bytes = output }) s ≡ answer_to shown.Report (script_of (text_on text lines))
-  -- for `big` it is the summary of the machine's run over the generated schedule, which passes no limit, in which nothing comes again
+  -- for `audit` it tells how many events the trace tells that stands behind the declarations: no line of it breaks a rule, and behind
+  -- each of them what the lines so far make of the topics and the subscriptions is safe, with each message once, per producer in order;
+  pub audited : s ≡ status.Ok → c ≡ Some audit_command
+      → IsOkAnd (script_of (declarations_in input)) (λ n. (events : ℕ) × (audit_of n.setup (trace_in input) ≡ Ok events) × (output ≡ audit_line events))
+  pub audited_safe : s ≡ status.Ok → c ≡ Some audit_command → IsOkAnd (script_of (declarations_in input)) (λ n. IsAuditedSafe n.setup (trace_in input))
+  -- and what `trace` writes of any accepted script `audit` accepts, and counts the events of that run.
+  pub accepted : (n : Script) → IsScenario n → answer_to_audit (traced_of n) ≡ record { status = status.Ok; bytes = audit_line (run_under all_limits n.setup n.steps).world.events }
+  -- For `big` it is the summary of the machine's run over the generated schedule, which passes no limit, in which nothing comes again
   -- either, and at whose end all is quiet.
   pub summary : (number : ℕ) → s ≡ status.Ok → c ≡ Some (command.Big number)
       → (output ≡ summary_of number) × (passed_limit (generated_run number) ≡ None)
@@ -124,6 +137,7 @@ pub record IsAnswered (c : Option Command) (input output : List ℕ) (f : FaultC
   pub script : (line rule : ℕ) → s ≡ status.BadScript line rule → HasBadLine c input (record { line = line; rule = rule })
   pub state : (offset rule : ℕ) → s ≡ status.BadState offset rule → HasBadState c input (bad_state offset rule)
   pub version : (number : ℕ) → s ≡ status.StateVersion number → HasBadState c input (version number)
+  pub judged : (event rule : ℕ) → s ≡ status.AuditRefused event rule → HasRefusedLine c input (record { event = event; rule = rule })
   pub write : s ≡ status.WriteFault → Rose f.sink f.sink_now
   -- A fault of the source or the sink is never told as want of memory.
   pub memory : s ≡ status.OutOfMemory → Stood f.source f.source_now × Stood f.sink f.sink_now

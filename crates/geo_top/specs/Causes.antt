@@ -1,15 +1,18 @@
 -- Why the program refuses.
 use Rattle.std.specs.Prelude.{◌≡◌, ◌⊎◌, ℕ, ◌<◌, List, length, drop, Option, Some, None, IsOkAnd, Ok, Err}
+use Rattle.audit.specs.AuditOf.{audit_of}
+use Rattle.geo_base.specs.Audit.{Refusal as RefusedLine}
 use Rattle.script_text.specs.Rules.{script_of}
 use Rattle.script_text.specs.Schedule.{schedule_of}
 use Rattle.script_text.specs.Script.{Fault}
 use Rattle.state_file.specs.Loading.{IsLoaded, Refusal}
 use Rattle.state_file.specs.State.{SavedState}
+use Rattle.trace_inputs.specs.Starts.{declarations_in, trace_in}
 use Rattle.geo_top.specs.declared.top.command.Command.{Command}
 use Rattle.geo_top.specs.declared.top.command.Command.TheVariants as command
 use Rattle.geo_top.specs.declared.top.command.Reading.{Reading}
 use Rattle.geo_top.specs.declared.top.command.Reading.TheVariants as reading
-use Rattle.geo_top.specs.Commands.{Reads, resume_command}
+use Rattle.geo_top.specs.Commands.{Reads, audit_command, resume_command}
 use Rattle.geo_top.specs.Outputs.{passed_limit, resumed_limit}
 use Rattle.geo_top.specs.States.{stopped}
 use Rattle.schedule_gen.specs.Generated.{generated_run}
@@ -20,6 +23,7 @@ HasBadLineIn (reading.Script v) input f = script_of input ≡ Err f
 HasBadLineIn reading.Save input f = script_of input ≡ Err f
 HasBadLineIn reading.Resume input f =
     (s : SavedState) × (used : ℕ) × IsLoaded input (Ok (s, used)) × (schedule_of s.scenario.setup (drop used input) ≡ Err f)
+HasBadLineIn reading.Audit input f = script_of (declarations_in input) ≡ Err f
 
 abbrev pub HasBadLine : Option Command → List ℕ → Fault → Type 0
 HasBadLine None input f = ⊥
@@ -32,6 +36,7 @@ RunPasses (reading.Script v) input limit = IsOkAnd (script_of input) (λ n. pass
 RunPasses reading.Save input limit = IsOkAnd (script_of input) (λ n. passed_limit (stopped n) ≡ Some limit)
 RunPasses reading.Resume input limit = (s : SavedState) × (used : ℕ) × IsLoaded input (Ok (s, used))
     × IsOkAnd (schedule_of s.scenario.setup (drop used input)) (λ es. resumed_limit s es ≡ Some limit)
+RunPasses reading.Audit input limit = ⊥
 
 abbrev pub PassesRunning : Option Command → List ℕ → ℕ → Type 0
 PassesRunning None input limit = ⊥
@@ -45,3 +50,7 @@ IsPassed c input limit =
 -- a state that is refused
 abbrev pub HasBadState : Option Command → List ℕ → Refusal → Type 0
 HasBadState c input r = (c ≡ Some resume_command) × IsLoaded input (Err r)
+
+-- a line of a trace that is refused: behind this event, by this rule
+abbrev pub HasRefusedLine : Option Command → List ℕ → RefusedLine → Type 0
+HasRefusedLine c input r = (c ≡ Some audit_command) × IsOkAnd (script_of (declarations_in input)) (λ n. audit_of n.setup (trace_in input) ≡ Err r)

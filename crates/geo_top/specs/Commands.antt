@@ -1,5 +1,5 @@
--- The commands of the program, by its words: `run`, `save`, `resume`, `big NUMBER`, `compact HORIZON` and `tiered KEEP`. Any other words are
--- none (own).
+-- The commands of the program, by its words: `run`, `save`, `resume`, `audit`, `trace`, `big NUMBER`, `compact HORIZON` and `tiered KEEP`.
+-- Any other words are none (own).
 use Rattle.std.specs.Prelude.{◌≡◌, ℕ, Bool, true, false, if◌then◌else◌, List, [], ◌∷◌, Option, Some, None, codes}
 use Rattle.std.specs.Str.{bytes_eq}
 use Rattle.script_names.specs.Numbers.{number_of}
@@ -25,11 +25,17 @@ command_showing v = command.Reads (reading.Script v)
 abbrev pub run_command : Command
 run_command = command_showing shown.Report
 
+abbrev pub trace_command : Command
+trace_command = command_showing shown.Trace
+
 abbrev pub save_command : Command
 save_command = command.Reads reading.Save
 
 abbrev pub resume_command : Command
 resume_command = command.Reads reading.Resume
+
+abbrev pub audit_command : Command
+audit_command = command.Reads reading.Audit
 
 -- the horizon of a compacted view: no run stores more entries than it has events
 abbrev pub most_horizon : ℕ
@@ -59,6 +65,8 @@ alone_of w =
     if bytes_eq w (codes "run") then Some run_command
     else if bytes_eq w (codes "save") then Some save_command
     else if bytes_eq w (codes "resume") then Some resume_command
+    else if bytes_eq w (codes "audit") then Some audit_command
+    else if bytes_eq w (codes "trace") then Some trace_command
     else None
 
 -- a word with a number

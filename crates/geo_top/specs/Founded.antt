@@ -22,6 +22,7 @@ abbrev pub IsKnown : Reading → List ℕ → Type 0
 IsKnown (reading.Script v) input = IsAccepted (script_of input)
 IsKnown reading.Save input = IsAccepted (script_of input)
 IsKnown reading.Resume input = ⊤
+IsKnown reading.Audit input = ⊤
 
 abbrev pub IsKnownFor : Option Command → List ℕ → Status → Type 0
 IsKnownFor None input s = ⊤

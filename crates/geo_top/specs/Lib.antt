@@ -7,6 +7,8 @@ pub mod Compacted
 pub mod Tiered
 pub mod Summary
 pub mod States
+pub mod Audits
+pub mod Traced
 pub mod Outputs
 pub mod Causes
 pub mod Finished

@@ -1,6 +1,8 @@
 -- What the program answers to words and the bytes of an input: how it ends, and what it writes.
 use Rattle.std.specs.Prelude.{◌≡◌, ℕ, nat_lt, Bool, true, false, List, length, drop, Option, Some, None, Result, Ok, Err}
+use Rattle.audit.specs.AuditOf.{audit_of}
 use Rattle.geo_base.specs.declared.event.Step.{Step}
+use Rattle.geo_base.specs.Audit.{Refusal}
 use Rattle.geo_base.specs.Report.{report}
 use Rattle.geo_base.specs.Run.{all_limits, run, run_under}
 use Rattle.script_text.specs.Rules.{script_of}
@@ -8,6 +10,7 @@ use Rattle.script_text.specs.Schedule.{schedule_of}
 use Rattle.script_text.specs.Script.{Fault, Script}
 use Rattle.state_file.specs.Loading.{IsLoaded, Loaded, bad_state, version}
 use Rattle.state_file.specs.State.{SavedState}
+use Rattle.trace_inputs.specs.Starts.{declarations_in, trace_in}
 use Rattle.geo_top.specs.declared.top.answer.Answer.{Answer}
 use Rattle.geo_top.specs.declared.top.command.Command.{Command}
 use Rattle.geo_top.specs.declared.top.command.Command.TheVariants as command
@@ -17,11 +20,13 @@ use Rattle.geo_top.specs.declared.top.command.Shown.{Shown}
 use Rattle.geo_top.specs.declared.top.command.Shown.TheVariants as shown
 use Rattle.geo_top.specs.declared.top.status.Status.TheVariants as status
 use Rattle.geo_top.specs.declared.top.status.Status.{Status}
+use Rattle.geo_top.specs.Audits.{audit_line}
 use Rattle.geo_top.specs.Compacted.{compacted}
 use Rattle.geo_top.specs.States.{file_of, resumed, resumed_under, stopped}
 use Rattle.geo_top.specs.Statuses.{refusal_line}
 use Rattle.geo_top.specs.Summary.{summary}
 use Rattle.geo_top.specs.Tiered.{tiered}
+use Rattle.geo_top.specs.Traced.{traced_of}
 use Rattle.schedule_gen.specs.Generated.{generated_run}
 
 abbrev pub refused : Status → Answer
@@ -50,6 +55,7 @@ abbrev pub output_of : Shown → Script → List ℕ
 output_of shown.Report n = report_of n
 output_of (shown.Compacted horizon) n = compacted_of horizon n
 output_of (shown.Tiered keep) n = tiered_of keep n
+output_of shown.Trace n = traced_of n
 
 -- the number of the limit that a script's run passes: 2, where events and idle events together would be more than 2,000,000; 3,
 -- where the bytes of all frames would be more than 1 GiB
@@ -94,6 +100,18 @@ answer_to_loaded input (Err (version number)) = refused (status.StateVersion num
 abbrev pub IsAnswerToFile : List ℕ → Answer → Type 0
 IsAnswerToFile input a = (l : Loaded) × IsLoaded input l × (a ≡ answer_to_loaded input l)
 
+-- ---- to a script's declarations with a trace behind them. Steps of the script are read, and not looked at
+abbrev pub answer_to_judged : Result ℕ Refusal → Answer
+answer_to_judged (Ok events) = record { status = status.Ok; bytes = audit_line events }
+answer_to_judged (Err r) = refused (status.AuditRefused r.event r.rule)
+
+abbrev pub answer_to_audited : List ℕ → Result Script Fault → Answer
+answer_to_audited trace (Ok n) = answer_to_judged (audit_of n.setup trace)
+answer_to_audited trace (Err f) = refused (status.BadScript f.line f.rule)
+
+abbrev pub answer_to_audit : List ℕ → Answer
+answer_to_audit input = answer_to_audited (trace_in input) (script_of (declarations_in input))
+
 -- ---- to a number
 -- the bytes of the summary of a number's generated run
 abbrev pub summary_of : ℕ → List ℕ
@@ -111,6 +129,7 @@ abbrev pub IsAnswerToBytes : Reading → List ℕ → Answer → Type 0
 IsAnswerToBytes (reading.Script v) input a = a ≡ answer_to v (script_of input)
 IsAnswerToBytes reading.Save input a = a ≡ answer_to_save (script_of input)
 IsAnswerToBytes reading.Resume input a = IsAnswerToFile input a
+IsAnswerToBytes reading.Audit input a = a ≡ answer_to_audit input
 
 abbrev pub UnlessLarge : Bool → Answer → Type 0 → Type 0
 UnlessLarge true a P = a ≡ refused (status.TooLarge 1)

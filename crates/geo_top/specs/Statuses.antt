@@ -14,11 +14,12 @@ status_number (status.TooLarge limit) = 6
 status_number status.OutOfMemory = 8
 status_number (status.BadState offset rule) = 9
 status_number (status.StateVersion number) = 9
+status_number (status.AuditRefused event rule) = 10
 
 -- the one line that a refusal writes. Want of memory writes nothing, and a write fault has no line of its own
 abbrev pub refusal_line : Status → List ℕ
 refusal_line status.Ok = []
-refusal_line status.Usage = codes "usage: geo run, live WORKERS TURNS, big NUMBER, save, resume, audit, compact HORIZON, tiered KEEP\n"
+refusal_line status.Usage = codes "usage: geo run, live WORKERS TURNS, big NUMBER, save, resume, audit, compact HORIZON, tiered KEEP, trace\n"
 refusal_line (status.BadScript line rule) = codes "bad script line " ++ (decimal line ++ (codes " rule " ++ (decimal rule ++ 10 ∷ [])))
 refusal_line status.ReadFault = codes "read fault\n"
 refusal_line status.WriteFault = []
@@ -26,6 +27,7 @@ refusal_line (status.TooLarge limit) = codes "too large " ++ (decimal limit ++ 1
 refusal_line status.OutOfMemory = []
 refusal_line (status.BadState offset rule) = codes "bad state at " ++ (decimal offset ++ (codes " rule " ++ (decimal rule ++ 10 ∷ [])))
 refusal_line (status.StateVersion number) = codes "bad state version " ++ (decimal number ++ 10 ∷ [])
+refusal_line (status.AuditRefused event rule) = codes "audit refused " ++ (decimal event ++ (codes " rule " ++ (decimal rule ++ 10 ∷ [])))
 
 -- neither source nor sink nor memory failed
 abbrev pub IsMade : Status → Type 0

@@ -10,6 +10,7 @@ mod run;
 mod summary;
 mod tiered;
 mod top;
+mod traced;
 mod world_report;
 
 pub use law::resumed_runs_are_one;

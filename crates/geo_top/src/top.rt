@@ -1,6 +1,7 @@
 //! The program, as one call over bytes, and as one over a source and a sink.
 pub mod alone;
 pub mod answer;
+pub mod auditing;
 pub mod bytes;
 pub mod command;
 pub mod scripts;

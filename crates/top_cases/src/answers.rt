@@ -158,10 +158,19 @@ entry 1:1 a p 3 * data - d\nentry 2:0 a p 4 * data - e\ntiered t at b offloaded 
     Ok(())
 }
 
+/// The words of a command line.
+fn words_of(alloc: Global, line: &[&str]) -> Result<Vec<Word>, Fail> {
+    let mut words = Vec::new(alloc);
+    for word in line {
+        words.push(Word::from_str(alloc, word)?)?;
+    }
+    Ok(words)
+}
+
 /// Nothing is read for them: the source would fail.
 #[test]
 fn words_that_are_no_command(rt: HostRuntime) -> Result<(), Fail> {
-    let lines: [&[&str]; 29] = [
+    let lines: [&[&str]; 32] = [
         &[],
         &["run", "x"],
         &["--help"],
@@ -180,7 +189,8 @@ fn words_that_are_no_command(rt: HostRuntime) -> Result<(), Fail> {
         &["save", "x"],
         &["resume", "x"],
         &["Save"],
-        &["audit"],
+        &["audit", "x"],
+        &["Audit"],
         &["compact"],
         &["compact", "2000001"],
         &["compact", "01"],
@@ -191,19 +201,18 @@ fn words_that_are_no_command(rt: HostRuntime) -> Result<(), Fail> {
         &["tiered", "01"],
         &["tiered", "1", "2"],
         &["Tiered", "1"],
+        &["trace", "x"],
+        &["Trace"],
     ];
     for line in lines {
-        let mut words = Vec::new(rt.alloc());
-        for word in line {
-            words.push(Word::from_str(rt.alloc(), word)?)?;
-        }
+        let words = words_of(rt.alloc(), line)?;
         let mut source = MemSource::new(rt.alloc(), ONE_MESSAGE, 7, &[1])?;
         let mut sink = open_sink(rt.alloc())?;
         let status = geo_alone(rt.alloc(), words.as_slice(), &mut source, &mut sink);
         assert_eq!(rt; status, Status::Usage);
         assert_eq!(rt;
             sink.bytes(),
-            b"usage: geo run, live WORKERS TURNS, big NUMBER, save, resume, audit, compact HORIZON, tiered KEEP\n".as_slice()
+            b"usage: geo run, live WORKERS TURNS, big NUMBER, save, resume, audit, compact HORIZON, tiered KEEP, trace\n".as_slice()
         );
     }
     Ok(())

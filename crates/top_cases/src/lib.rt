@@ -5,3 +5,5 @@
 mod answers;
 #[cfg(test)]
 mod states;
+#[cfg(test)]
+mod traces;

@@ -32,7 +32,7 @@ fn refusal_line(alloc: Global, status: Status) -> Result<String, Memory>
     match status {
         Status::Usage => Ok(String::from_str(
             alloc,
-            "usage: geo run, live WORKERS TURNS, big NUMBER, save, resume, audit, compact HORIZON, tiered KEEP\n",
+            "usage: geo run, live WORKERS TURNS, big NUMBER, save, resume, audit, compact HORIZON, tiered KEEP, trace\n",
         )?),
         Status::BadScript { line, rule } => Ok(format!(in alloc;
             "bad script line {line} rule {rule}\n"
@@ -43,6 +43,9 @@ fn refusal_line(alloc: Global, status: Status) -> Result<String, Memory>
             "bad state at {offset} rule {rule}\n"
         )?),
         Status::StateVersion(number) => Ok(format!(in alloc; "bad state version {number}\n")?),
+        Status::AuditRefused { event, rule } => Ok(format!(in alloc;
+            "audit refused {event} rule {rule}\n"
+        )?),
         Status::Ok | Status::WriteFault | Status::OutOfMemory => Ok(String::new(alloc)),
     }
 }

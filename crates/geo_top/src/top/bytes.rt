@@ -8,6 +8,7 @@ ghost use Rattle.geo_top.specs.Statuses.{IsMade};
 ghost use Rattle.geo_top.specs.declared.top.command.Command.TheVariants as command;
 
 use crate::top::answer::{Answer, refusal};
+use crate::top::auditing::answer_to_audit;
 use crate::top::command::{Command, Reading, Word};
 use crate::top::scripts::{answer_to_number, answer_to_script};
 use crate::top::states::{answer_to_file, answer_to_saving};
@@ -19,13 +20,14 @@ use std::alloc::Global;
 /// The whole program but for the words of `live`, over the bytes of its input: how it ends, and the bytes that it writes. For `run` the
 /// input is a script, and the output the report of its run; for `compact HORIZON` it is the compacted view of each topic at the run's
 /// end; for `tiered KEEP` the entries of each topic there, read back once its closed ledgers but the last ones moved to a tier; for
-/// `save` it is the state file of the run and a stop behind it; for `resume` the input is a state file and a schedule behind it, and
-/// the output the report of the run that goes on from there; for `big NUMBER` it is the summary of the run that the number generates.
-/// Else, and where it refuses, it is one line.
+/// `trace` each event of the run with what it wrote durably; for `save` it is the state file of the run and a stop behind it; for
+/// `resume` the input is a state file and a schedule behind it, and the output the report of the run that goes on from there; for
+/// `audit` the input is what a script declares and a trace behind it, and the output how many events the trace tells; for `big NUMBER`
+/// it is the summary of the run that the number generates. Else, and where it refuses, it is one line.
 ///
 /// The first of these refusals wins: words that are no command; more than 67,108,864 bytes; an item of the state that breaks a rule, or
-/// its version; a line of the script or the schedule that breaks a rule; more than 2,000,000 events and idle events, or more than 1 GiB
-/// of frames. `Memory` comes where a growth of memory is refused.
+/// its version; a line of the script or the schedule that breaks a rule; a line of the trace that does; more than 2,000,000 events and
+/// idle events, or more than 1 GiB of frames. `Memory` comes where a growth of memory is refused.
 #[tactic(auto, using(crate::proofs::Answered::answered_free, crate::proofs::Answered::founded_made))]
 pub fn answer(alloc: Global, words: &[Word], input: &[u8]) -> Result<Answer, Memory>
     // All that is promised of it, of which neither source nor sink fails.
@@ -68,5 +70,6 @@ fn answer_to_bytes(alloc: Global, reading: Reading, bytes: &[u8]) -> Result<Answ
         Reading::Script(shown) => answer_to_script(alloc, shown, bytes),
         Reading::Save => answer_to_saving(alloc, bytes),
         Reading::Resume => answer_to_file(alloc, bytes),
+        Reading::Audit => answer_to_audit(alloc, bytes),
     }
 }

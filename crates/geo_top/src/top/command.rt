@@ -36,6 +36,8 @@ pub enum Reading {
     Save,
     /// A run goes on from a state file with the steps behind it, and is reported.
     Resume,
+    /// The trace of a run that stands behind a script's declarations is judged.
+    Audit,
 }
 
 /// What is shown of the run of a script.
@@ -47,6 +49,8 @@ pub enum Shown {
     Compacted(u64),
     /// The entries of each topic at each cluster, read back once its closed ledgers moved to a tier, but for so many last ones.
     Tiered(u64),
+    /// Each event with what it wrote durably.
+    Trace,
 }
 
 impl Command {
@@ -79,6 +83,10 @@ impl Command {
             Some(Command::Reads(Reading::Save))
         } else if bytes == b"resume".as_slice() {
             Some(Command::Reads(Reading::Resume))
+        } else if bytes == b"audit".as_slice() {
+            Some(Command::Reads(Reading::Audit))
+        } else if bytes == b"trace".as_slice() {
+            Some(Command::Reads(Reading::Script(Shown::Trace)))
         } else {
             None
         }

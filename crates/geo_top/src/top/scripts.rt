@@ -1,12 +1,10 @@
 //! The answers of the commands that show something of a script's run, and of the one that sums up a generated run.
-ghost use Rattle.std.specs.Prelude.{◌≡◌, ◌≤◌, IfOk, OnOk, length};
+ghost use Rattle.std.specs.Prelude.{◌≡◌, ◌≤◌, ℕ, Err, IfOk, None, OnOk, Some, length};
 ghost use Rattle.geo_base.specs.Report.{report};
-ghost use Rattle.geo_top.specs.Compacted.{compacted};
 ghost use Rattle.geo_top.specs.Finished.{IsFinished};
 ghost use Rattle.geo_top.specs.Founded.{IsAccepted};
-ghost use Rattle.geo_top.specs.Outputs.{answer_to, answer_to_big, answer_to_run, output_of, passed_limit, summary_of};
+ghost use Rattle.geo_top.specs.Outputs.{answer_to, answer_to_big, answer_to_run, compacted_of, output_of, passed_limit, report_of, summary_of, tiered_of};
 ghost use Rattle.geo_top.specs.Shown.{shown_world};
-ghost use Rattle.geo_top.specs.Tiered.{tiered};
 ghost use Rattle.world.specs.World.{IsAt};
 ghost use Rattle.schedule_gen.specs.Generated.{generated_run};
 ghost use Rattle.script_text.specs.Rules.{script_of};
@@ -19,6 +17,7 @@ use crate::tiered::append_tiered;
 use crate::top::answer::{Answer, refusal};
 use crate::top::command::Shown;
 use crate::top::status::Status;
+use crate::traced::trace_script;
 use crate::world_report::append_report;
 use geo_base::limits::INPUT_BYTES;
 use geo_base::{Blob, Memory};
@@ -46,27 +45,40 @@ fn answer_to_scenario(alloc: Global, shown: Shown, scenario: &Scenario) -> Resul
     requires { IsScenario scenario.now }
     ensures { IfOk result (λ a. a ≡ answer_to_run shown scenario.now (passed_limit scenario.now)) }
 {
-    match run_script(alloc, scenario) {
-        Ok(world) => Ok(Answer {
+    match output(alloc, shown, scenario) {
+        Ok(bytes) => Ok(Answer {
             status: Status::Ok,
-            bytes: output(alloc, shown, scenario, &world)?,
+            bytes,
         }),
         Err(RunFault::TooLarge(limit)) => refusal(alloc, Status::TooLarge(limit)),
         Err(RunFault::Memory) => Err(Memory),
     }
 }
 
-/// What is shown of the world at the end of a script's run.
-fn output(alloc: Global, shown: Shown, scenario: &Scenario, world: &World) -> Result<Blob, Memory>
-    requires scenario { IsScenario scenario.now }
-    requires finished { IsFinished scenario.now world.now }
-    ensures { IfOk result (λ bytes. bytes ≡ output_of shown scenario.now) }
+/// What is shown of the run of a script: of the world at its end, or the run itself; or the limit that the run passes.
+#[tactic(auto, using(crate::proofs::Views::as_shown))]
+fn output(alloc: Global, shown: Shown, scenario: &Scenario) -> Result<Blob, RunFault>
+    requires { IsScenario scenario.now }
+    ensures done { IfOk result (λ bytes. bytes ≡ output_of shown scenario.now) }
+    ensures within { OnOk result (passed_limit scenario.now ≡ None) }
+    ensures large { (limit : ℕ) → result ≡ Err (RunFault.TooLarge limit) → passed_limit scenario.now ≡ Some limit }
 {
     match shown {
-        Shown::Report => report(alloc, scenario, world),
-        Shown::Compacted(horizon) => compacted(alloc, scenario, world, horizon),
-        Shown::Tiered(keep) => tiered(alloc, scenario, world, keep),
+        Shown::Report => reported(alloc, scenario),
+        Shown::Compacted(horizon) => compacted(alloc, scenario, horizon),
+        Shown::Tiered(keep) => tiered(alloc, scenario, keep),
+        Shown::Trace => trace_script(alloc, scenario),
     }
+}
+
+/// The report of the world at the end of a script's run.
+fn reported(alloc: Global, scenario: &Scenario) -> Result<Blob, RunFault>
+    ensures done { IfOk result (λ bytes. bytes ≡ report_of scenario.now) }
+    ensures within { OnOk result (passed_limit scenario.now ≡ None) }
+    ensures large { (limit : ℕ) → result ≡ Err (RunFault.TooLarge limit) → passed_limit scenario.now ≡ Some limit }
+{
+    let world = run_script(alloc, scenario)?;
+    Ok(report(alloc, scenario, &world)?)
 }
 
 /// The report of a world.
@@ -79,29 +91,28 @@ pub fn report(alloc: Global, scenario: &Scenario, world: &World) -> Result<Blob,
     Ok(bytes)
 }
 
-/// The compacted views of a world.
-fn compacted(
-    alloc: Global,
-    scenario: &Scenario,
-    world: &World,
-    horizon: u64,
-) -> Result<Blob, Memory>
-    requires { IsAt scenario.now.setup world.now }
-    ensures { IfOk result (λ bytes. bytes ≡ compacted horizon scenario.now.setup (shown_world world.now)) }
+/// The compacted views of the world at the end of a script's run.
+fn compacted(alloc: Global, scenario: &Scenario, horizon: u64) -> Result<Blob, RunFault>
+    ensures done { IfOk result (λ bytes. bytes ≡ compacted_of horizon scenario.now) }
+    ensures within { OnOk result (passed_limit scenario.now ≡ None) }
+    ensures large { (limit : ℕ) → result ≡ Err (RunFault.TooLarge limit) → passed_limit scenario.now ≡ Some limit }
 {
+    let world = run_script(alloc, scenario)?;
     let mut bytes = Blob::new(alloc);
-    append_compacted(alloc, &mut bytes, scenario, world, horizon)?;
+    append_compacted(alloc, &mut bytes, scenario, &world, horizon)?;
     Ok(bytes)
 }
 
 /// The topics of the world at the end of a script's run, whose closed ledgers move to tiers.
-fn tiered(alloc: Global, scenario: &Scenario, world: &World, keep: u64) -> Result<Blob, Memory>
-    requires scenario { IsScenario scenario.now }
-    requires finished { IsFinished scenario.now world.now }
-    ensures { IfOk result (λ bytes. bytes ≡ tiered keep scenario.now.setup (shown_world world.now)) }
+fn tiered(alloc: Global, scenario: &Scenario, keep: u64) -> Result<Blob, RunFault>
+    requires { IsScenario scenario.now }
+    ensures done { IfOk result (λ bytes. bytes ≡ tiered_of keep scenario.now) }
+    ensures within { OnOk result (passed_limit scenario.now ≡ None) }
+    ensures large { (limit : ℕ) → result ≡ Err (RunFault.TooLarge limit) → passed_limit scenario.now ≡ Some limit }
 {
+    let world = run_script(alloc, scenario)?;
     let mut bytes = Blob::new(alloc);
-    append_tiered(alloc, &mut bytes, scenario, world, keep)?;
+    append_tiered(alloc, &mut bytes, scenario, &world, keep)?;
     Ok(bytes)
 }
 

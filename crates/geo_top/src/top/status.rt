@@ -25,6 +25,9 @@ pub enum Status {
     BadState { offset: u64, rule: u32 },
     /// A state of a version that is not read.
     StateVersion(u32),
+    /// The first line of a trace that breaks a rule of an audit: the number of the last event that was accepted, 0 before the first
+    /// one, and the lowest rule that the line breaks.
+    AuditRefused { event: u64, rule: u32 },
 }
 
 impl Status {
@@ -41,6 +44,7 @@ impl Status {
             Status::TooLarge(_) => 6,
             Status::OutOfMemory => 8,
             Status::BadState { .. } | Status::StateVersion(_) => 9,
+            Status::AuditRefused { .. } => 10,
         }
     }
 }

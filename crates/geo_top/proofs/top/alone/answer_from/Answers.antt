@@ -15,6 +15,10 @@ returns-in-Ok-clause-ready g c =
     (g.S.Source.faults c.read_all.new.source) c.in-Ok.bytes c.answer.result c.in-Ok.ensures.given c.in-Ok.ensures.whole
     (rw c.as_slice.ensures at c.answer.ensures.answered) c.answer.ensures.made
 
+-- words that have an input are not those that have none
+pub returns-in-Ok-clause-unread : goal.returns-in-Ok-clause-unread
+returns-in-Ok-clause-unread g c = λ unread. absurd (unread (input_some (command_of c.args.words.now) (sym c.has_input.ensures ∙ c.if-has_input.true)))
+
 pub returns-in-Err-Failed-clause-ready : goal.returns-in-Err-Failed-clause-ready
 returns-in-Err-Failed-clause-ready g c =
     failed_ready (command_of c.args.words.now) (g.S.Source.given c.args.source.now c.read_all.new.source) (g.S.Source.left c.args.source.now) (g.S.Source.left c.read_all.new.source)
