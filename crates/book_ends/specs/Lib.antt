@@ -1,0 +1,4 @@
+pub mod Peers
+pub mod Rows
+pub mod Sending
+pub mod Hand
