@@ -1,0 +1,9 @@
+pub mod Tables
+pub mod Walking
+pub mod Agreed
+pub mod Firsts
+pub mod Ends
+pub mod Numbers
+pub mod Known
+pub mod Linked
+pub mod Runs
