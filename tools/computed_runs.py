@@ -7,6 +7,7 @@ over the script's schedule is the report, line by line, and the frames have thes
 
 usage: computed_runs.py write OUT NAME.geo ..   writes OUT/Run_NAME.antt for each script
        computed_runs.py check NAME.geo ..       computes the runs in a copy of the crate, and says which agree
+       computed_runs.py traces NAME.geo ..      the same of the traces that ./geo trace writes of the scripts: the definitions' lines
 """
 import os
 import re
@@ -20,7 +21,7 @@ ROOT = os.path.dirname(os.path.dirname(os.path.abspath(__file__)))
 KINDS = {'exclusive': 'Exclusive', 'shared': 'Shared', 'failover': 'Failover', 'keyshared': 'KeyShared'}
 WORDS = {'produce': 'Produce', 'ackall': 'AckAll', 'unsub': 'Unsub', 'close': 'Close', 'closep': 'CloseProducer', 'ping': 'Ping'}
 UNFOLDED = ('setup schedule shown digits go get reconnect serve drop_client reset take_packet receipt read snap offer seek '
-            'restart planned broker_does broker_halts client_does happens stops settled_world steps report_lines')
+            'restart planned broker_does broker_halts client_does happens stops settled_world steps')
 IMPORTS = '''use Rattle.std.specs.Prelude.{◌≡◌, ℕ, ◌∷◌, [], List, true, false, Some, None, codes, refl}
 use Rattle.std.specs.Fmt.{digits}
 use Rattle.geo_base.specs.Types.{Step}
@@ -152,16 +153,29 @@ same_lines (x ∷ xs) [] = false
 same_lines [] (y ∷ ys) = false
 same_lines (x ∷ xs) (y ∷ ys) = bytes_eq x y && same_lines xs ys
 '''
+TRACE_IMPORTS = '''use Rattle.geo_base.specs.Traced.{event_items, halt_items, step_items, traced}
+use Rattle.geo_base.specs.TraceText.{item_line, trace_lines}
+'''
 TEST_IMPORTS = '''use Rattle.std.specs.Prelude.{Bool, ◌&&◌}
 use Rattle.std.specs.Str.{bytes_eq}
 '''
 
 
-def module(path, as_test=False):
+def trace_of(path):
+    """The lines of a script's trace, from its line `trace` on, as ./geo writes them."""
+    done = subprocess.run([os.path.join(ROOT, 'geo'), 'trace', path], capture_output=True, text=True, check=True)
+    lines = done.stdout.split('\n')[:-1]
+    return lines[lines.index('trace'):]
+
+
+def module(path, as_test=False, as_trace=False):
     """The text of the proof module of a script."""
     script, base = Script(path), path[:-len('.geo')]
-    with open(base + '.report') as file:
-        report = file.read().split('\n')[:-1]
+    if as_trace:
+        report = trace_of(path)
+    else:
+        with open(base + '.report') as file:
+            report = file.read().split('\n')[:-1]
     out = [TEST] if as_test else []
     out += ['setup : Setup', 'setup = record {', '  per_ledger = %d;' % script.per_ledger]
     out += ['  clusters = %s;' % items([text(name) for name in script.clusters])]
@@ -169,17 +183,18 @@ def module(path, as_test=False):
     out += ['    ' + script.declared(client) for client in script.clients] + ['    [];', '}', '']
     out += ['schedule : List Step', 'schedule ='] + ['    %s ∷' % script.step(words) for words in script.events] + ['    []', '']
     out += ['shown : List (List ℕ)', 'shown ='] + ['    %s ∷' % text(line) for line in report] + ['    []', '']
-    report = 'report_lines setup (run setup schedule)'
+    report = 'trace_lines setup (traced all_limits setup schedule)' if as_trace else 'report_lines setup (run setup schedule)'
     equal = 'same_lines (%s) shown ≡ true' % report if as_test else report + ' ≡ shown'
-    unfolded = UNFOLDED + (' same_lines' if as_test else '')
+    unfolded = UNFOLDED + (' item_line event_items halt_items step_items' if as_trace else ' report_lines') + (' same_lines' if as_test else '')
     out += ['reported : ' + equal, 'unfolding ' + unfolded, 'reported = refl']
-    if os.path.exists(base + '.bytes'):
+    if os.path.exists(base + '.bytes') and not as_trace:
         with open(base + '.bytes') as file:
             out += ['', 'sent : (run_under all_limits setup schedule).world.frame_bytes ≡ %s' % file.read().strip()]
-        out += ['unfolding ' + UNFOLDED, 'sent = refl']
+        out += ['unfolding ' + UNFOLDED + ' report_lines', 'sent = refl']
     body = '\n'.join(out) + '\n'
     head = '-- The run %s, computed: the definitions give its report. Written by tools/computed_runs.py.\n' % os.path.basename(base)
-    return head + used(IMPORTS + TEST_IMPORTS if as_test else IMPORTS, body) + '\n' + body
+    imports = IMPORTS + (TRACE_IMPORTS if as_trace else '') + (TEST_IMPORTS if as_test else '')
+    return head + used(imports, body) + '\n' + body
 
 
 def used(imports, body):
@@ -202,13 +217,13 @@ def name_of(path):
     return 'Run_' + os.path.basename(path)[:-len('.geo')]
 
 
-def write(out, paths, as_test=False):
+def write(out, paths, as_test=False, as_trace=False):
     for path in paths:
         with open(os.path.join(out, name_of(path) + '.antt'), 'w') as file:
-            file.write(module(path, as_test))
+            file.write(module(path, as_test, as_trace))
 
 
-def copy_of_crate(where, paths, as_test=False):
+def copy_of_crate(where, paths, as_test=False, as_trace=False):
     """A copy of the repository's lowest crate with these runs in place of its own; gives its folder."""
     crate = os.path.join(where, 'crates', 'geo_base')
     shutil.copytree(os.path.join(ROOT, 'crates', 'geo_base'), crate, symlinks=True)
@@ -219,7 +234,7 @@ def copy_of_crate(where, paths, as_test=False):
     for old in os.listdir(proofs):
         if old.startswith('Run_'):
             os.remove(os.path.join(proofs, old))
-    write(proofs, paths, as_test)
+    write(proofs, paths, as_test, as_trace)
     with open(os.path.join(proofs, 'Lib.antt')) as file:
         kept = [line for line in file.read().split('\n') if line and 'Run_' not in line]
     with open(os.path.join(proofs, 'Lib.antt'), 'w') as file:
@@ -238,10 +253,10 @@ def refused(crate):
     return runs, other, proved
 
 
-def check(paths):
+def check(paths, as_trace=False):
     with tempfile.TemporaryDirectory() as where:
         began = time.time()
-        runs, other, proved = refused(copy_of_crate(where, paths))
+        runs, other, proved = refused(copy_of_crate(where, paths, as_trace, as_trace))
         for path in paths:
             base = os.path.basename(path)[:-len('.geo')]
             print('%s %s' % ('REFUSED' if base in runs else 'agrees', base))
@@ -256,5 +271,7 @@ if __name__ == '__main__':
         write(sys.argv[2], sys.argv[3:])
     elif len(sys.argv) > 2 and sys.argv[1] == 'check':
         sys.exit(check(sys.argv[2:]))
+    elif len(sys.argv) > 2 and sys.argv[1] == 'traces':
+        sys.exit(check(sys.argv[2:], as_trace=True))
     else:
         sys.exit(__doc__)
