@@ -1,8 +1,8 @@
 //! Frames.
-use geo_base::{Blob, Sequence, Text};
-use message_meta::Meta;
+use geo_base::{Blob, Position, Sequence, Text};
+use message_meta::{Meta, MetaView};
 use pb_fields::FieldList;
-use pulsar_commands::Command;
+use pulsar_commands::{Command, CommandView};
 use pulsar_frames::*;
 use std::alloc::{AllocError, Global};
 use std::test::Fail;
@@ -16,6 +16,12 @@ const SEND: [u8; 34] = [
 
 const PING: [u8; 13] = [
     0x00, 0x00, 0x00, 0x09, 0x00, 0x00, 0x00, 0x05, 0x08, 0x12, 0x92, 0x01, 0x00,
+];
+
+/// The receipt of producer 1's message 0, stored at 0:1.
+const RECEIPT: [u8; 22] = [
+    0x00, 0x00, 0x00, 0x12, 0x00, 0x00, 0x00, 0x0e, 0x08, 0x07, 0x3a, 0x0a, 0x08, 0x01, 0x10, 0x00,
+    0x1a, 0x04, 0x08, 0x00, 0x10, 0x01,
 ];
 
 /// That frame with another payload, written.
@@ -252,6 +258,58 @@ fn frames_are_written_byte_for_byte(rt: HostRuntime) -> Result<(), Fail> {
         body: None,
     };
     assert_eq!(rt; write_frame(alloc, &ping)?.as_slice(), PING.as_slice());
+    Ok(())
+}
+
+/// The message of that SEND, of a producer of any name.
+fn message_of<'a>(producer: &'a str, payload: &'a [u8]) -> MessageView<'a> {
+    MessageView {
+        meta: MetaView {
+            producer,
+            seq: 0,
+            publish_time: 0,
+            replicated_from: Some("a"),
+            key: None,
+        },
+        payload,
+    }
+}
+
+#[test]
+fn frames_of_the_usual_form_are_written_byte_for_byte(rt: HostRuntime) -> Result<(), Fail> {
+    let alloc = rt.alloc();
+    let send = CommandView::Send {
+        producer_id: 1,
+        sequence_id: 0,
+        num_messages: 1,
+    };
+    let written = write_usual_message(alloc, send, message_of("p", b"hi"))?.ok_or("no text")?;
+    assert_eq!(rt; written.as_slice(), SEND.as_slice());
+    let receipt = CommandView::SendReceipt {
+        producer_id: 1,
+        sequence_id: 0,
+        message_id: Position {
+            ledger: 0,
+            entry: 1,
+        },
+    };
+    let written = write_usual_command(alloc, receipt)?;
+    assert_eq!(rt; written.as_slice(), RECEIPT.as_slice());
+    let long = vec![in alloc; b'p'; 128]?;
+    let long = str::from_utf8(long.as_slice()).or(Err("no text"))?;
+    assert!(rt; write_usual_message(alloc, send, message_of(long, b"hi"))?.is_none());
+    Ok(())
+}
+
+#[test]
+fn frames_of_the_usual_form_are_seen_where_they_stand(rt: HostRuntime) -> Result<(), Fail> {
+    let view = usual_frame(&SEND).ok_or("no SEND")?;
+    let message = view.message.ok_or("no message")?;
+    assert_eq!(rt; message.meta.producer, "p");
+    assert_eq!(rt; message.meta.replicated_from, Some("a"));
+    assert_eq!(rt; message.payload, b"hi".as_slice());
+    assert!(rt; usual_frame(&RECEIPT).is_some());
+    assert!(rt; usual_frame(&PING).is_none());
     Ok(())
 }
 

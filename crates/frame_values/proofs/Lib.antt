@@ -7,3 +7,4 @@ pub mod Counting
 pub mod Fitting
 pub mod Known
 pub mod Bare
+pub mod UsualValues

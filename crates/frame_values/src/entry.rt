@@ -89,7 +89,10 @@ pub fn known_of<'a>(
 }
 
 /// The name of the cluster that a message was replicated from, where it was.
-fn source_name<'a>(names: &'a [ClusterName], source: &'a Option<Place>) -> Option<&'a str>
+pub(crate) fn source_name<'a>(
+    names: &'a [ClusterName],
+    source: &'a Option<Place>,
+) -> Option<&'a str>
     ensures { option_copied result ≡ option_map (place_name names.entry.now) source.entry.now }
 {
     match source {

@@ -12,6 +12,7 @@ mod laws;
 mod place;
 mod read;
 mod size;
+mod usual;
 mod write;
 
 pub use content::{canonical_payload, content_of, marker_number};

@@ -7,20 +7,34 @@ ghost use Rattle.frame_values.specs.Values.{SaysValue, carrying};
 
 use crate::command::simple_frame;
 use crate::entry::{Carried, entry_of};
+use crate::usual::usual_value;
 use geo_base::limits::CLUSTERS;
 use geo_base::{ClusterName, Entry, Frame, Memory, Place};
 use pulsar_commands::Command;
-use pulsar_frames::{Frame as WireFrame, read_frame};
+use pulsar_frames::{Frame as WireFrame, read_frame, usual_frame};
 use std::alloc::Global;
 
 /// The value that the bytes stand for: that of the frame that they are a text of, and `Unreadable` exactly where they are
 /// a text of none. `names` are those of the clusters, by their numbers. What the machine does not ask of a command is not
 /// kept; the cluster that stored an entry first does not stand in the bytes, and is 0 here.
-#[tactic(auto, using(crate::proofs::Entries::no_rest))]
+#[tactic(auto, using(crate::proofs::UsualValues::viewed_reads))]
 pub fn read_value(alloc: Global, names: &[ClusterName], bytes: &[u8]) -> Result<Frame, Memory>
     requires { length names.now ≤ CLUSTERS }
     ensures value { IfOk result (Reads names.now bytes.now) }
     // The bytes that an entry keeps of fields that nobody reads are their canonical text, so that it can be written again.
+    ensures rest { IfOk result (λ f. IsRest (unread_bytes f)) }
+{
+    match usual_frame(bytes) {
+        Some(view) => usual_value(alloc, names, view),
+        None => any_value(alloc, names, bytes),
+    }
+}
+
+/// The same, by all parts of the frame.
+#[tactic(auto, using(crate::proofs::Entries::no_rest))]
+fn any_value(alloc: Global, names: &[ClusterName], bytes: &[u8]) -> Result<Frame, Memory>
+    requires { length names.now ≤ CLUSTERS }
+    ensures value { IfOk result (Reads names.now bytes.now) }
     ensures rest { IfOk result (λ f. IsRest (unread_bytes f)) }
 {
     match read_frame(alloc, bytes)? {

@@ -4,6 +4,7 @@ ghost use Rattle.geo_base.specs.declared.frame.Frame.TheVariants as frame;
 ghost use Rattle.geo_base.specs.FrameSizes.{frame_size};
 ghost use Rattle.message_meta.specs.Known.{IsRest};
 ghost use Rattle.pulsar_commands.specs.Parts.{kind_of};
+ghost use Rattle.pulsar_commands.specs.Usual.{command_viewed};
 ghost use Rattle.pulsar_frames.specs.Canonical.{IsTooLarge};
 ghost use Rattle.pulsar_frames.specs.Frames.{carries};
 ghost use Rattle.frame_values.specs.Coded.{IsCarriedFault, IsCarriedText, IsWritable, IsWritten, carries_entry};
@@ -12,9 +13,12 @@ ghost use Rattle.frame_values.specs.Texts.{is_readable, unread_bytes};
 use crate::command::command_of;
 use crate::content::canonical_payload;
 use crate::entry::known_of;
+use crate::usual::usual_text;
 use geo_base::{Blob, ClusterName, Entry, Frame, Memory, Place, Position};
-use pulsar_commands::Command;
-use pulsar_frames::{Frame as WireFrame, FrameFault, write_carrying, write_frame};
+use pulsar_commands::{Command, CommandView};
+use pulsar_frames::{
+    Frame as WireFrame, FrameFault, write_carrying, write_frame, write_usual_command,
+};
 use std::alloc::Global;
 
 /// The canonical text of the frame that a value is written as; `names` are those of the clusters, by their numbers. Where
@@ -69,6 +73,9 @@ pub fn try_write_value(
             source,
             entry,
         } => message_text(alloc, names, *id, *position, source, entry),
+        Frame::SendReceipt { id, seq, position } => {
+            receipt_text(alloc, names, *id, *seq, *position)
+        }
         _ => simple_text(alloc, names, frame),
     }
 }
@@ -130,12 +137,12 @@ fn send_text(
     ensures written { IfOk result (IsWritten names.now (frame.Send id seq source.now entry.now)) }
     ensures fault { IfErr result (IsTooLarge (frame_size names.now (frame.Send id seq source.now entry.now) - 4)) }
 {
-    let command = Command::Send {
+    let command = CommandView::Send {
         producer_id: id,
         sequence_id: seq,
         num_messages: 1,
     };
-    carried_text(alloc, names, &command, source, entry)
+    carried_text(alloc, names, command, source, entry)
 }
 
 #[tactic(auto, using(crate::proofs::Writing::message_written, crate::proofs::Writing::message_fault))]
@@ -151,16 +158,35 @@ fn message_text(
     ensures written { IfOk result (IsWritten names.now (frame.Message id position source.now entry.now)) }
     ensures fault { IfErr result (IsTooLarge (frame_size names.now (frame.Message id position source.now entry.now) - 4)) }
 {
-    let command = Command::Message {
+    let command = CommandView::Message {
         consumer_id: id,
         message_id: position,
     };
-    carried_text(alloc, names, &command, source, entry)
+    carried_text(alloc, names, command, source, entry)
 }
 
-/// The text of a frame of a command that carries an entry.
-#[tactic(auto, using(crate::proofs::Writing::carried_is, crate::proofs::Writing::carried_fault))]
+/// The text of a frame of a command that carries an entry: in one pass where it has the usual form.
 fn carried_text(
+    alloc: Global,
+    names: &[ClusterName],
+    command: CommandView,
+    source: &Option<Place>,
+    entry: &Entry,
+) -> Result<Blob, FrameFault>
+    requires carries { carries (kind_of (command_viewed command)) ≡ true }
+    requires rest { IsRest entry.now.meta.rest }
+    ensures text { IfOk result (IsCarriedText names.now (command_viewed command) source.now entry.now) }
+    ensures fault { IfErr result (IsCarriedFault names.now (command_viewed command) source.now entry.now) }
+{
+    match usual_text(alloc, names, command, source, entry)? {
+        Some(text) => Ok(text),
+        None => any_carried_text(alloc, names, &command.to_command(), source, entry),
+    }
+}
+
+/// The same of any entry, from where its parts stand.
+#[tactic(auto, using(crate::proofs::Writing::carried_is, crate::proofs::Writing::carried_fault))]
+fn any_carried_text(
     alloc: Global,
     names: &[ClusterName],
     command: &Command,
@@ -177,6 +203,31 @@ fn carried_text(
     match canonical_payload(alloc, names, &entry.content, &entry.payload)? {
         None => write_carrying(alloc, command, known, rest, entry.payload.as_slice()),
         Some(text) => write_carrying(alloc, command, known, rest, text.as_slice()),
+    }
+}
+
+/// The text of the receipt of a SEND: in one pass where it says a position.
+#[tactic(auto, using(crate::proofs::UsualValues::receipt_written))]
+fn receipt_text(
+    alloc: Global,
+    names: &[ClusterName],
+    id: u64,
+    seq: u64,
+    position: Option<Position>,
+) -> Result<Blob, FrameFault>
+    ensures written { IfOk result (IsWritten names.now (frame.SendReceipt id seq position)) }
+    ensures fault { IfErr result (IsTooLarge (frame_size names.now (frame.SendReceipt id seq position) - 4)) }
+{
+    match position {
+        None => simple_text(alloc, names, &Frame::SendReceipt { id, seq, position }),
+        Some(placed) => {
+            let command = CommandView::SendReceipt {
+                producer_id: id,
+                sequence_id: seq,
+                message_id: placed,
+            };
+            Ok(write_usual_command(alloc, command)?)
+        }
     }
 }
 

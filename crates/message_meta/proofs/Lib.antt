@@ -1,3 +1,4 @@
 pub mod Meaning
 pub mod Written
 pub mod Joined
+pub mod Usual

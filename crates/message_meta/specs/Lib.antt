@@ -2,3 +2,4 @@ pub mod Table
 pub mod Metadata
 pub mod Canonical
 pub mod Known
+pub mod Usual

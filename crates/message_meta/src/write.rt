@@ -73,7 +73,8 @@ fn append_optional(out: &mut ByteList, known: KnownMeta<'_>) -> Result<(), Memor
     write_optional_varint(out, MARKER_TYPE, known.marker)
 }
 
-fn append_text(out: &mut ByteList, number: u32, content: &str) -> Result<(), Memory>
+/// Appends the field of a text.
+pub(crate) fn append_text(out: &mut ByteList, number: u32, content: &str) -> Result<(), Memory>
     requires { IsFieldNumber number }
     ensures ok { OnOk result (out.new ≡ out.old ++ field_text (bytes_field number content.now)) }
     ensures field { OnOk result (IsField (bytes_field number content.now)) }
@@ -82,7 +83,12 @@ fn append_text(out: &mut ByteList, number: u32, content: &str) -> Result<(), Mem
     write_bytes(out, number, content.as_bytes())
 }
 
-fn append_optional_str(out: &mut ByteList, number: u32, content: Option<&str>) -> Result<(), Memory>
+/// The same of a text that may be absent.
+pub(crate) fn append_optional_str(
+    out: &mut ByteList,
+    number: u32,
+    content: Option<&str>,
+) -> Result<(), Memory>
     requires { IsFieldNumber number }
     ensures ok { OnOk result (out.new ≡ out.old ++ text (optional (bytes_field number) (option_copied content.entry))) }
     ensures fields { OnOk result (AllByRecursion IsField (optional (bytes_field number) (option_copied content.entry))) }

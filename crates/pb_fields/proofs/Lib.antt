@@ -10,3 +10,6 @@ pub mod LastValues
 pub mod Parts
 pub mod Order
 pub mod Takes
+pub mod Fronts
+pub mod Sizes
+pub mod Heads

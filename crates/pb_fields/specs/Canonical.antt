@@ -5,6 +5,7 @@ use Rattle.std.specs.Int.{w32, w64, to_le_bytes}
 use Rattle.pb_fields.specs.declared.field.Field.{Field}
 use Rattle.pb_fields.specs.declared.field.Value.{Value}
 use Rattle.pb_fields.specs.declared.field.Value.TheVariants as value
+use Rattle.pb_fields.specs.declared.field.WireType.TheVariants as wire
 use Rattle.pb_fields.specs.Field.{wire_number, wire_type}
 
 -- the groups of a number that has at most so many behind the first
@@ -24,6 +25,10 @@ value_text (value.Fixed32 n) = to_le_bytes w32 n
 
 abbrev pub field_text : Field → List ℕ
 field_text f = varint (8 * f.number + wire_number (wire_type f.value)) ++ value_text f.value
+
+-- what precedes a content of so many bytes in its field's text: the tag and the length
+abbrev pub head_text : ℕ → ℕ → List ℕ
+head_text number len = varint (8 * number + wire_number wire.Bytes) ++ varint len
 
 abbrev pub text : List Field → List ℕ
 text fs = flat_map field_text fs

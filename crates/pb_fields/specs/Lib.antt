@@ -6,3 +6,4 @@ pub mod Canonical
 pub mod Message
 pub mod Embedded
 pub mod Printed
+pub mod Front

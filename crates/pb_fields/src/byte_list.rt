@@ -1,6 +1,6 @@
 //! Bytes that contracts see as a list.
 
-ghost use Rattle.std.specs.Prelude.{◌≡◌, ◌↔◌, [], length, IfOk, IsTrue};
+ghost use Rattle.std.specs.Prelude.{◌≡◌, ◌↔◌, ◌++◌, [], length, IfOk, IsTrue, OnErr, OnOk};
 
 use geo_base::Memory;
 use std::alloc::Global;
@@ -44,6 +44,15 @@ impl ByteList {
         Ok(ByteList {
             bytes: bytes.to_vec(alloc)?,
         })
+    }
+
+    /// More bytes at the end; unchanged where memory is wanting.
+    pub fn append(&mut self, more: &[u8]) -> Result<(), Memory>
+        ensures ok { OnOk result (self.new ≡ self.old ++ more.now) }
+        ensures err { OnErr result (self.new ≡ self.old) }
+    {
+        self.bytes.extend_from_slice(more)?;
+        Ok(())
     }
 
     /// How many bytes there are.

@@ -8,10 +8,12 @@ mod byte_list;
 pub mod embedded;
 mod fault;
 mod field;
+mod front;
 mod laws;
 pub mod message;
 mod pair;
 mod read;
+mod size;
 mod taken;
 mod values;
 mod write;
@@ -19,8 +21,12 @@ mod write;
 pub use byte_list::ByteList;
 pub use fault::{FieldFault, PbFault};
 pub use field::{Field, FieldList, Value, WireType};
+pub use front::{front_bytes, front_optional_text, front_text, front_varint};
 pub use laws::{canonical_text, one_reading};
-pub use pair::{FieldPair, VarintPair, field_pair, varint_pair};
+pub use pair::{FieldPair, field_pair};
 pub use read::read_fields;
+pub use size::{SHORT, SHORT_HEAD, short_field_size, varint_field_size};
 pub use taken::take_last;
-pub use write::{write_bytes, write_field, write_fields, write_optional_varint, write_varint};
+pub use write::{
+    write_bytes, write_field, write_fields, write_head, write_optional_varint, write_varint,
+};

@@ -22,19 +22,6 @@ pub struct FieldPair<'a> {
     pub content: &'a [u8],
 }
 
-/// Two fields with varints, one behind the other.
-#[derive(Clone, Copy, Debug)]
-pub struct VarintPair {
-    /// The number of the first field.
-    pub first: u32,
-    /// The varint in it.
-    pub first_varint: u64,
-    /// The number of the second field.
-    pub second: u32,
-    /// The varint in it.
-    pub second_varint: u64,
-}
-
 /// The number of the field at the front of the bytes, where it is of a wire type, and the bytes behind its tag.
 fn tag_of(bytes: &[u8], wire: WireType) -> Option<(u32, &[u8])>
     ensures { MatchOption result
@@ -95,24 +82,5 @@ pub fn field_pair(bytes: &[u8]) -> Option<FieldPair<'_>>
         varint,
         second,
         content,
-    })
-}
-
-/// The two fields that the bytes are a text of, where both are varints; None for any other bytes.
-pub fn varint_pair(bytes: &[u8]) -> Option<VarintPair>
-    ensures { MatchOption result
-        ((first one second other : ℕ) → IsText bytes.now (varint_field first one ∷ varint_field second other ∷ []) → ⊥)
-        (λ pair. IsText bytes.now (varint_field pair.first pair.first_varint ∷ varint_field pair.second pair.second_varint ∷ [])) }
-{
-    let (first, first_varint, rest) = varint_field_at(bytes)?;
-    let (second, second_varint, rest) = varint_field_at(rest)?;
-    if !rest.is_empty() {
-        return None;
-    }
-    Some(VarintPair {
-        first,
-        first_varint,
-        second,
-        second_varint,
     })
 }

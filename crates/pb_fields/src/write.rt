@@ -3,7 +3,7 @@
 ghost use Rattle.std.specs.Prelude.{◌≡◌, ◌+◌, ◌*◌, ◌<◌, ◌^◌, ◌++◌, ◌∷◌, [], take, length, is_ok, OnOk, OnErr};
 ghost use Rattle.std.specs.List.{AllByRecursion};
 ghost use Rattle.pb_fields.specs.Field.{IsFieldNumber, HasNumber, Fits, IsField, wire_number, varint_field, bytes_field};
-ghost use Rattle.pb_fields.specs.Canonical.{varint, value_text, field_text, text, optional, Extends};
+ghost use Rattle.pb_fields.specs.Canonical.{varint, value_text, field_text, head_text, text, optional, Extends};
 
 use crate::byte_list::ByteList;
 use crate::field::{Field, FieldList, Value, WireType};
@@ -137,6 +137,27 @@ fn push_bytes_field(out: &mut Vec<u8>, number: u32, content: &[u8]) -> Result<()
 {
     push_tag(out, number, WireType::Bytes)?;
     push_bytes(out, content)
+}
+
+/// Appends what precedes the content of a field, its tag and its length, as `write_field` does; so the content of an embedded
+/// message is written behind it, and is not copied.
+pub fn write_head(out: &mut ByteList, number: u32, len: usize) -> Result<(), Memory>
+    requires { IsFieldNumber number }
+    ensures ok { OnOk result (out.new ≡ out.old ++ head_text number len) }
+    ensures err { OnErr result (out.new ≡ out.old) }
+{
+    let before = out.len();
+    let written = push_head(&mut out.bytes, number, len);
+    all_or_nothing(&mut out.bytes, before, written)
+}
+
+fn push_head(out: &mut Vec<u8>, number: u32, len: usize) -> Result<(), AllocError>
+    requires { IsFieldNumber number }
+    ensures ok { OnOk result (out.new.items ≡ out.old.items ++ head_text number len) }
+    ensures begins { Extends out.old.items out.new.items }
+{
+    push_tag(out, number, WireType::Bytes)?;
+    push_varint(out, len as u64)
 }
 
 /// Appends the canonical text of a varint's field, where there is a value.

@@ -10,3 +10,4 @@ pub mod Reading
 pub mod Refused
 pub mod Unique
 pub mod Writing
+pub mod UsualCommands

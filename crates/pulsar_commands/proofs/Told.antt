@@ -111,14 +111,18 @@ module _ (rows : List Row) where
       same_row : (x y : Row) → ◌≡◌ {A = Option Row} (Some x) (Some y) → x ≡ y
       same_row x y e = cc
 
-  held_id : (n : ℕ) (r : Row) (p : Position) → row_of rows n ≡ Some r → r.form ≡ form.Message → IsPosition p → FitsWith IdRight rows (id_field n p)
-  held_id n r p is message h = record {
-    fits = fits_row rows n r (value.Bytes (id_text p)) is (rw message tt);
-    holds = λ content k. subst (λ (c : List ℕ). IdRight 0 c) (same_content (id_text p) content k.value) (id_right p h);
+  -- a field whose content is a text of a position
+  pub held_content : (n : ℕ) (r : Row) (content : List ℕ) → row_of rows n ≡ Some r → r.form ≡ form.Message → IdRight 0 content → FitsWith IdRight rows (bytes_field n content)
+  held_content n r content is message right = record {
+    fits = fits_row rows n r (value.Bytes content) is (rw message tt);
+    holds = λ other k. subst (λ (c : List ℕ). IdRight 0 c) (same_content content other k.value) right;
   }
     where
       same_content : (a b : List ℕ) → ◌≡◌ {A = Value} (value.Bytes a) (value.Bytes b) → a ≡ b
       same_content a b e = cc
+
+  held_id : (n : ℕ) (r : Row) (p : Position) → row_of rows n ≡ Some r → r.form ≡ form.Message → IsPosition p → FitsWith IdRight rows (id_field n p)
+  held_id n r p is message h = held_content n r (id_text p) is message (id_right p h)
 
   text_apart : ◌≢◌ {A = Form} form.Text form.Message
   text_apart e = cc

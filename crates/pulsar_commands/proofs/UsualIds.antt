@@ -1,43 +1,68 @@
 -- A position as writers make it: its two numbers in their order.
-use Rattle.std.proofs.Common.{◌≡◌, ℕ, List, [], ◌∷◌, refl, subst}
+use Rattle.std.proofs.Common.{◌≡◌, ℕ, ◌+◌, List, [], ◌∷◌, ◌++◌, length, refl, sym, ap, subst, ◌∙◌, append_assoc, append-nil, length-append}
 use Rattle.geo_base.specs.declared.position.Position.{Position}
 use Rattle.pb_fields.specs.declared.field.Field.{Field}
 use Rattle.pb_fields.specs.declared.field.Value.TheVariants as value
-use Rattle.pb_fields.specs.Field.{varint_field}
-use Rattle.pb_fields.specs.Text.{IsText}
+use Rattle.pb_fields.specs.Canonical.{field_text, head_text}
+use Rattle.pb_fields.specs.Field.{IsField, varint_field}
+use Rattle.pb_fields.specs.Front.{Fronts}
+use Rattle.pb_fields.specs.Text.{IsText, end}
 use Rattle.pb_fields.specs.Message.{Fits}
 use Rattle.pb_fields.specs.Embedded.{FitsWith, AnyContent}
+use Rattle.pb_fields.proofs.Heads.{head_content}
 use Rattle.pb_fields.proofs.Parts.{fits_row}
+use Rattle.pulsar_commands.specs.Canonical.{WritesPart, id_field, id_text}
 use Rattle.pulsar_commands.specs.Table.{id_rows}
 use Rattle.pulsar_commands.specs.Part.{IsIdText}
+use Rattle.pulsar_commands.specs.Part as part
 use Rattle.pulsar_commands.specs.Text.{IdRight}
+
+-- ---- read
 
 abbrev usual_id : ℕ → ℕ → List Field
 usual_id ledger entry = varint_field 1 ledger ∷ varint_field 2 entry ∷ []
 
-usual_text : (content : List ℕ) (first ledger second entry : ℕ) → IsText content (varint_field first ledger ∷ varint_field second entry ∷ []) → first ≡ 1 → second ≡ 2 → IsText content (usual_id ledger entry)
-usual_text content first ledger second entry text one two = subst (λ (fs : List Field). IsText content fs) same text
-  where
-    same : varint_field first ledger ∷ varint_field second entry ∷ [] ≡ usual_id ledger entry
-    same = rw (one, two) refl
+usual_text : (content after rest : List ℕ) (ledger entry : ℕ) → Fronts content (varint_field 1 ledger ∷ []) after → Fronts after (varint_field 2 entry ∷ []) rest → rest ≡ [] → IsText content (usual_id ledger entry)
+usual_text content after rest ledger entry one two nothing = one.text _ (two.text _ (subst (λ (x : List ℕ). IsText x []) (sym nothing) end))
 
 any_fits : (f : Field) → Fits id_rows f → FitsWith AnyContent id_rows f
 any_fits f h = record { fits = h; holds = λ content k. tt }
 
-pub usual_id_right : (content : List ℕ) (first ledger second entry : ℕ) → IsText content (varint_field first ledger ∷ varint_field second entry ∷ []) → first ≡ 1 → second ≡ 2 → IdRight 0 content
-usual_id_right content first ledger second entry text one two = record {
+pub usual_id_right : (content after rest : List ℕ) (ledger entry : ℕ) → Fronts content (varint_field 1 ledger ∷ []) after → Fronts after (varint_field 2 entry ∷ []) rest → rest ≡ [] → IdRight 0 content
+usual_id_right content after rest ledger entry one two nothing = record {
   fields = usual_id ledger entry;
-  text = usual_text content first ledger second entry text one two;
+  text = usual_text content after rest ledger entry one two nothing;
   message = record {
     fit = (any_fits _ (fits_row id_rows 1 _ (value.Varint ledger) refl tt), (any_fits _ (fits_row id_rows 2 _ (value.Varint entry) refl tt), tt));
     complete = refl;
   };
 }
 
-pub usual_id_said : (content : List ℕ) (first second : ℕ) (p : Position) → IsText content (varint_field first p.ledger ∷ varint_field second p.entry ∷ []) → first ≡ 1 → second ≡ 2 → IsIdText content p
-usual_id_said content first second p text one two = record {
+pub usual_id_said : (content after rest : List ℕ) (p : Position) → Fronts content (varint_field 1 p.ledger ∷ []) after → Fronts after (varint_field 2 p.entry ∷ []) rest → rest ≡ [] → IsIdText content p
+usual_id_said content after rest p one two nothing = record {
   fields = usual_id p.ledger p.entry;
-  text = usual_text content first p.ledger second p.entry text one two;
+  text = usual_text content after rest p.ledger p.entry one two nothing;
   ledger = refl;
   entry = refl;
 }
+
+-- ---- written
+
+-- its text is that of its two numbers
+id_is : (p : Position) → id_text p ≡ field_text (varint_field 1 p.ledger) ++ field_text (varint_field 2 p.entry)
+id_is p = ap (λ (bs : List ℕ). field_text (varint_field 1 p.ledger) ++ bs) (append-nil (field_text (varint_field 2 p.entry)))
+
+pub id_length : (p : Position) → length (id_text p) ≡ length (field_text (varint_field 1 p.ledger)) + length (field_text (varint_field 2 p.entry))
+id_length p = ap (λ (bs : List ℕ). length bs) (id_is p) ∙ length-append (field_text (varint_field 1 p.ledger)) (field_text (varint_field 2 p.entry))
+
+pub id_appended : (old head first new : List ℕ) (n size : ℕ) (p : Position) → head ≡ old ++ head_text n size → size ≡ length (id_text p) → first ≡ head ++ field_text (varint_field 1 p.ledger) → new ≡ first ++ field_text (varint_field 2 p.entry)
+    → IsField (varint_field 1 p.ledger) → IsField (varint_field 2 p.entry) → WritesPart old (part.id n p) new
+id_appended old head first new n size p headed sized one two a b =
+    let before : List ℕ = head_text n (length (id_text p)) in
+    let whole : new ≡ (old ++ before) ++ (field_text (varint_field 1 p.ledger) ++ field_text (varint_field 2 p.entry)) =
+    two ∙ ap (λ (bs : List ℕ). bs ++ field_text (varint_field 2 p.entry)) (one ∙ ap (λ (bs : List ℕ). bs ++ field_text (varint_field 1 p.ledger)) (headed ∙ ap (λ (k : ℕ). old ++ head_text n k) sized))
+    ∙ append_assoc (old ++ before) (field_text (varint_field 1 p.ledger)) (field_text (varint_field 2 p.entry)) in
+    record {
+      appends = whole ∙ ap (λ (bs : List ℕ). (old ++ before) ++ bs) (sym (id_is p)) ∙ append_assoc old before (id_text p) ∙ ap (λ (bs : List ℕ). old ++ bs) (head_content n (id_text p) ∙ sym (append-nil (field_text (id_field n p))));
+      writable = record { ledger = a.value; entry = b.value };
+    }

@@ -6,3 +6,4 @@ pub mod Text
 pub mod Faults
 pub mod Canonical
 pub mod Printed
+pub mod Usual

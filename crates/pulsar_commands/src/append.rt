@@ -1,9 +1,9 @@
 //! Appending the fields of a command's own message.
 
-mod broker;
+pub(crate) mod broker;
 mod connection;
 mod consumer;
-mod producer;
+pub(crate) mod producer;
 
 ghost use Rattle.std.specs.Prelude.{OnOk};
 ghost use Rattle.pulsar_commands.specs.Parts.{parts};
@@ -16,14 +16,9 @@ use consumer::append_of_consumer;
 use geo_base::Memory;
 use pb_fields::ByteList;
 use producer::append_of_producer;
-use std::alloc::Global;
 
 /// Appends the fields of a command's own message, in the order of their numbers.
-pub(crate) fn append_body(
-    alloc: Global,
-    out: &mut ByteList,
-    command: &Command,
-) -> Result<(), Memory>
+pub(crate) fn append_body(out: &mut ByteList, command: &Command) -> Result<(), Memory>
     ensures { OnOk result (Writes out.old (parts command.now) out.new) }
 {
     match command {
@@ -37,12 +32,12 @@ pub(crate) fn append_body(
         | Command::Ack { .. }
         | Command::Flow { .. }
         | Command::Unsubscribe { .. }
-        | Command::CloseConsumer { .. } => append_of_consumer(alloc, out, command),
+        | Command::CloseConsumer { .. } => append_of_consumer(out, command),
         Command::SendReceipt { .. }
         | Command::SendError { .. }
         | Command::Message { .. }
         | Command::Success { .. }
         | Command::Error { .. }
-        | Command::ProducerSuccess { .. } => append_of_broker(alloc, out, command),
+        | Command::ProducerSuccess { .. } => append_of_broker(out, command),
     }
 }

@@ -1,6 +1,6 @@
 //! Positions in commands (MessageIdData in PulsarApi.proto).
 
-ghost use Rattle.std.specs.Prelude.{◌≡◌, ◌++◌, ◌∷◌, [], Some, true, false, IfOk, IfErr, OnOk, IfSome};
+ghost use Rattle.std.specs.Prelude.{◌≡◌, ◌<◌, ◌++◌, ◌∷◌, [], length, Some, true, false, IfOk, IfErr, OnOk, IfSome};
 ghost use Rattle.std.specs.List.{AllByRecursion};
 ghost use Rattle.pb_fields.specs.declared.message.Form.TheVariants as form;
 ghost use Rattle.pb_fields.specs.Field.{IsFieldNumber};
@@ -9,7 +9,7 @@ ghost use Rattle.pb_fields.specs.Embedded.{IsMessageWith};
 ghost use Rattle.pulsar_commands.specs.Part as part;
 ghost use Rattle.pulsar_commands.specs.Part.{IsIdText, AreIds, Says};
 ghost use Rattle.pulsar_commands.specs.Text.{IdRight, IdWrong};
-ghost use Rattle.pulsar_commands.specs.Canonical.{WritesPart, IsPosition, id_text};
+ghost use Rattle.pulsar_commands.specs.Canonical.{WritesPart, id_text};
 
 use crate::command::PositionList;
 use crate::table::{ENTRY, ID_ROWS, LEDGER};
@@ -18,7 +18,7 @@ use pb_fields::embedded::{
     Embedded, Unread, optional_message, read_message_with, required_message,
 };
 use pb_fields::message::{MessageFault, Row, required_varint};
-use pb_fields::{ByteList, Field, varint_pair, write_bytes, write_varint};
+use pb_fields::{ByteList, Field, front_varint, varint_field_size, write_head, write_varint};
 use std::alloc::Global;
 
 /// The embedded messages of a command are ids.
@@ -47,23 +47,19 @@ fn judge_fields(alloc: Global, content: &[u8]) -> Result<(), MessageFault>
     Ok(())
 }
 
-/// The position of an id whose content is its two fields in their order and nothing more, as writers make it.
-#[tactic(auto, using(crate::proofs::UsualIds::usual_id_right, crate::proofs::UsualIds::usual_id_said))]
-fn usual_id(content: &[u8]) -> Option<Position>
+/// The position of an id whose content is its two fields in their order and nothing more, as writers make it; None says nothing
+/// of the content.
+pub(crate) fn usual_id(content: &[u8]) -> Option<Position>
     ensures right { IfSome result (λ p. IdRight 0 content.now) }
     ensures said { IfSome result (IsIdText content.now) }
 {
-    let pair = varint_pair(content)?;
-    if pair.first != LEDGER {
-        return None;
+    let (ledger, rest) = front_varint(LEDGER, content)?;
+    let (entry, rest) = front_varint(ENTRY, rest)?;
+    if rest.is_empty() {
+        Some(Position { ledger, entry })
+    } else {
+        None
     }
-    if pair.second != ENTRY {
-        return None;
-    }
-    Some(Position {
-        ledger: pair.first_varint,
-        entry: pair.second_varint,
-    })
 }
 
 /// The position that the content of an id says.
@@ -146,33 +142,28 @@ pub(crate) fn all_ids(
     Ok(positions)
 }
 
-/// The canonical text of a position.
-fn id_content(alloc: Global, position: Position) -> Result<ByteList, Memory>
-    ensures { IfOk result (λ bytes. (bytes ≡ id_text position) × IsPosition position) }
+/// The bytes of the canonical text of a position; at most eleven for each number.
+#[tactic(auto, using(crate::proofs::UsualIds::id_length))]
+pub(crate) fn id_size(position: Position) -> usize
+    ensures size { result ≡ length (id_text position) }
+    ensures few { result < 23 }
 {
-    let mut out = ByteList::new(alloc);
-    write_varint(&mut out, LEDGER, position.ledger)?;
-    write_varint(&mut out, ENTRY, position.entry)?;
-    Ok(out)
+    varint_field_size(LEDGER, position.ledger) + varint_field_size(ENTRY, position.entry)
 }
 
 /// Appends an id.
-pub(crate) fn append_id(
-    alloc: Global,
-    out: &mut ByteList,
-    number: u32,
-    position: Position,
-) -> Result<(), Memory>
+#[tactic(auto, using(crate::proofs::UsualIds::id_appended))]
+pub(crate) fn append_id(out: &mut ByteList, number: u32, position: Position) -> Result<(), Memory>
     requires { IsFieldNumber number }
     ensures { OnOk result (WritesPart out.old (part.id number position) out.new) }
 {
-    let content = id_content(alloc, position)?;
-    write_bytes(out, number, content.as_slice())
+    write_head(out, number, id_size(position))?;
+    write_varint(out, LEDGER, position.ledger)?;
+    write_varint(out, ENTRY, position.entry)
 }
 
 /// Appends an id where there is one.
 pub(crate) fn append_optional_id(
-    alloc: Global,
     out: &mut ByteList,
     number: u32,
     position: Option<Position>,
@@ -182,13 +173,12 @@ pub(crate) fn append_optional_id(
 {
     match position {
         None => Ok(()),
-        Some(position) => append_id(alloc, out, number, position),
+        Some(position) => append_id(out, number, position),
     }
 }
 
 /// Appends a repeated id.
 pub(crate) fn append_ids(
-    alloc: Global,
     out: &mut ByteList,
     number: u32,
     positions: &PositionList,
@@ -197,7 +187,7 @@ pub(crate) fn append_ids(
     ensures { OnOk result (WritesPart out.old (part.ids number positions.now) out.new) }
 {
     for position in positions.as_slice() {
-        append_id(alloc, out, number, *position)?;
+        append_id(out, number, *position)?;
     }
     Ok(())
 }

@@ -11,9 +11,11 @@ mod laws;
 mod parts;
 mod read;
 mod table;
+mod view;
 mod write;
 
 pub use command::{Command, PositionList};
 pub use fault::CommandFault;
 pub use kind::Kind;
 pub use laws::{canonical_command, one_meaning};
+pub use view::{CommandView, usual_command};

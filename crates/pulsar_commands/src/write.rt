@@ -31,7 +31,7 @@ fn written(alloc: Global, command: &Command) -> Result<ByteList, Memory>
     ensures writable { IfOk result (λ bytes. IsWritable command.now) }
 {
     let mut body = ByteList::from_vec(Vec::with_capacity(alloc, COMMON_BYTES)?);
-    append_body(alloc, &mut body, command)?;
+    append_body(&mut body, command)?;
     let number = command.kind().number();
     let mut out = ByteList::from_vec(Vec::with_capacity(alloc, COMMON_BYTES)?);
     write_varint(&mut out, TYPE, u64::from(number))?;

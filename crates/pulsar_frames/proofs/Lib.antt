@@ -10,3 +10,4 @@ pub mod Sizes
 pub mod Complete
 pub mod Whole
 pub mod Carrying
+pub mod UsualFrames

@@ -6,3 +6,4 @@ pub mod Streams
 pub mod Canonical
 pub mod Carrying
 pub mod Printed
+pub mod Usual

@@ -10,6 +10,9 @@ use geo_base::limits::FRAME_BYTES;
 /// What precedes a checksum (Pulsar binary protocol, "Payload commands").
 const CHECKSUM: [u8; 2] = [0x0e, 0x01];
 
+/// Bytes of a size (Pulsar binary protocol, "Framing").
+pub(crate) const SIZE_BYTES: usize = 4;
+
 /// The parts of a frame.
 #[derive(Clone, Copy, Debug)]
 pub(crate) struct FrameParts<'a> {

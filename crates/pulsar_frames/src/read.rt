@@ -24,7 +24,14 @@ use std::alloc::Global;
 pub fn carries_message(command: &Command) -> bool
     ensures { result ≡ carries (kind_of command.now) }
 {
-    matches!(command.kind(), Kind::Send | Kind::Message)
+    carries(command.kind())
+}
+
+/// Whether commands of a type carry a message.
+pub(crate) fn carries(kind: Kind) -> bool
+    ensures { result ≡ carries kind }
+{
+    matches!(kind, Kind::Send | Kind::Message)
 }
 
 /// What the parts of a frame say.

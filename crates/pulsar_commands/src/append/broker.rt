@@ -11,14 +11,9 @@ use crate::ids::{append_id, append_optional_id};
 use crate::parts::{append_number, append_text};
 use geo_base::{Memory, Position, Text};
 use pb_fields::ByteList;
-use std::alloc::Global;
 
 /// Appends the fields of a command of a broker.
-pub(super) fn append_of_broker(
-    alloc: Global,
-    out: &mut ByteList,
-    command: &Command,
-) -> Result<(), Memory>
+pub(super) fn append_of_broker(out: &mut ByteList, command: &Command) -> Result<(), Memory>
     requires { IsOfBroker (kind_of command.now) }
     ensures { OnOk result (Writes out.old (parts command.now) out.new) }
 {
@@ -27,7 +22,7 @@ pub(super) fn append_of_broker(
             producer_id,
             sequence_id,
             message_id,
-        } => append_send_receipt(alloc, out, *producer_id, *sequence_id, *message_id),
+        } => append_send_receipt(out, *producer_id, *sequence_id, *message_id),
         Command::SendError {
             producer_id,
             sequence_id,
@@ -37,7 +32,7 @@ pub(super) fn append_of_broker(
         Command::Message {
             consumer_id,
             message_id,
-        } => append_message(alloc, out, *consumer_id, *message_id),
+        } => append_message(out, *consumer_id, *message_id),
         Command::Success { request_id } => append_success(out, *request_id),
         Command::Error {
             request_id,
@@ -52,8 +47,8 @@ pub(super) fn append_of_broker(
     }
 }
 
-fn append_send_receipt(
-    alloc: Global,
+/// Appends the fields of the receipt of a SEND.
+pub(crate) fn append_send_receipt(
     out: &mut ByteList,
     producer_id: u64,
     sequence_id: u64,
@@ -63,7 +58,7 @@ fn append_send_receipt(
 {
     append_number(out, 1, producer_id)?;
     append_number(out, 2, sequence_id)?;
-    append_optional_id(alloc, out, 3, message_id)
+    append_optional_id(out, 3, message_id)
 }
 
 fn append_send_error(
@@ -81,8 +76,8 @@ fn append_send_error(
     append_text(out, 4, message)
 }
 
-fn append_message(
-    alloc: Global,
+/// Appends the fields of a MESSAGE.
+pub(crate) fn append_message(
     out: &mut ByteList,
     consumer_id: u64,
     message_id: Position,
@@ -90,7 +85,7 @@ fn append_message(
     ensures { OnOk result (Writes out.old (parts (command.Message consumer_id message_id)) out.new) }
 {
     append_number(out, 1, consumer_id)?;
-    append_id(alloc, out, 2, message_id)
+    append_id(out, 2, message_id)
 }
 
 fn append_success(out: &mut ByteList, request_id: u64) -> Result<(), Memory>

@@ -11,14 +11,9 @@ use crate::ids::append_ids;
 use crate::parts::{append_flag, append_number, append_optional_text, append_text};
 use geo_base::{AckKind, Memory, SubKind, Text};
 use pb_fields::ByteList;
-use std::alloc::Global;
 
 /// Appends the fields of a command of a consumer.
-pub(super) fn append_of_consumer(
-    alloc: Global,
-    out: &mut ByteList,
-    command: &Command,
-) -> Result<(), Memory>
+pub(super) fn append_of_consumer(out: &mut ByteList, command: &Command) -> Result<(), Memory>
     requires { IsOfConsumer (kind_of command.now) }
     ensures { OnOk result (Writes out.old (parts command.now) out.new) }
 {
@@ -49,7 +44,7 @@ pub(super) fn append_of_consumer(
             consumer_id,
             ack_type,
             message_id,
-        } => append_ack(alloc, out, *consumer_id, *ack_type, message_id),
+        } => append_ack(out, *consumer_id, *ack_type, message_id),
         Command::Flow {
             consumer_id,
             message_permits,
@@ -93,7 +88,6 @@ fn append_subscribe(out: &mut ByteList, subscribe: Subscribe<'_>) -> Result<(), 
 }
 
 fn append_ack(
-    alloc: Global,
     out: &mut ByteList,
     consumer_id: u64,
     ack_type: AckKind,
@@ -103,7 +97,7 @@ fn append_ack(
 {
     append_number(out, 1, consumer_id)?;
     append_number(out, 2, ack_type_number(ack_type))?;
-    append_ids(alloc, out, 3, message_id)
+    append_ids(out, 3, message_id)
 }
 
 fn append_flow(out: &mut ByteList, consumer_id: u64, message_permits: u64) -> Result<(), Memory>

@@ -51,7 +51,8 @@ fn append_producer(
     append_optional_text(out, 4, producer_name)
 }
 
-fn append_send(
+/// Appends the fields of a SEND.
+pub(crate) fn append_send(
     out: &mut ByteList,
     producer_id: u64,
     sequence_id: u64,
