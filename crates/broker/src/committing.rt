@@ -9,10 +9,10 @@ ghost use Rattle.broker.specs.Input.{StandsForInput};
 ghost use Rattle.broker.specs.Node.{IsDone, IsReady, SameNode};
 
 use crate::node::TopicNode;
-use crate::packet::LinkPacket;
 use broker_state::Prepared;
 use geo_base::{Event, Memory, WireOut};
 use std::alloc::Global;
+use wire_ends::WirePacket;
 
 /// What an event did: whether it was not enabled, and the packets to send.
 #[derive(Debug, Drop)]
@@ -40,7 +40,7 @@ impl TopicNode {
         &mut self,
         alloc: Global,
         event: &Event,
-        input: Option<&LinkPacket>,
+        input: Option<&WirePacket>,
     ) -> Result<Acted, Memory>
         requires node { IsOfNode self.old event.now }
         requires numbers { NumbersRise self.old event.now }
@@ -64,7 +64,7 @@ impl TopicNode {
         alloc: Global,
         writes: u32,
         event: &Event,
-        input: Option<&LinkPacket>,
+        input: Option<&WirePacket>,
     ) -> Result<(), Memory>
         requires node { IsOfNode self.old event.now }
         requires numbers { NumbersRise self.old event.now }

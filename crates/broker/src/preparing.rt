@@ -13,7 +13,6 @@ ghost use Rattle.broker.specs.Input.{IsSaid, StandsForInput};
 ghost use Rattle.broker.specs.Node.{IsReady, SameNode};
 
 use crate::node::TopicNode;
-use crate::packet::LinkPacket;
 use crate::reading::read_input;
 use broker_links::{prepare_receipt, prepare_reset, prepare_take};
 use broker_offers::{prepare_offer, prepare_restart, prepare_seek};
@@ -22,6 +21,7 @@ use broker_serving::{prepare_drop, prepare_serve};
 use broker_state::{Book, Prepared};
 use geo_base::{Event, Memory, Packet, SubName};
 use std::alloc::Global;
+use wire_ends::WirePacket;
 
 impl TopicNode {
     /// What an event will do, with the next packet of the link that it takes from, whatever its bytes are: it fills a plan. All memory
@@ -31,7 +31,7 @@ impl TopicNode {
         &mut self,
         alloc: Global,
         event: &Event,
-        input: Option<&LinkPacket>,
+        input: Option<&WirePacket>,
         plan: &mut Prepared,
     ) -> Result<(), Memory>
         requires node { IsOfNode self.old event.now }

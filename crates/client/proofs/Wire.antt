@@ -14,7 +14,8 @@ use Rattle.pulsar_frames.specs.Frames.{IsFrameText}
 use Rattle.frame_values.proofs.Bare.{reads_stand}
 use Rattle.frame_values.proofs.One.{value_one}
 use Rattle.frame_values.specs.Standing.{Reads, text, no_text, bare}
-use Rattle.client.specs.Packets.{BytePacket, IsDiscarded, IsSaid, of_another, unread, StandsFor, StandsForNext}
+use Rattle.wire_ends.specs.declared.packet.WirePacket.{WirePacket}
+use Rattle.client.specs.Packets.{IsDiscarded, IsSaid, of_another, unread, StandsFor, StandsForNext}
 
 got_bare : (d : Declared) (k : Client) (f : Frame) → got_frame d k (bare f) ≡ got_frame d k f
 got_bare d k frame.Connect = refl
@@ -40,17 +41,17 @@ got_bare d k frame.Pong = refl
 got_bare d k frame.Unreadable = refl
 
 -- the frame that was read is acted on as any that the bytes stand for
-pub read_acts : (names ns : List (List ℕ)) (d : Declared) (k j : Client) (b : BytePacket) (bytes : List ℕ) (f : Frame) → ns ≡ names → bytes ≡ b.bytes → b.session ≡ k.connection
+pub read_acts : (names ns : List (List ℕ)) (d : Declared) (k j : Client) (b : WirePacket) (bytes : List ℕ) (f : Frame) → ns ≡ names → bytes ≡ b.frame → b.session ≡ k.connection
     → Reads ns bytes f → j ≡ got_frame d k f → (p : Packet) → StandsFor names b p → j ≡ (get d k (Some p)).client
 unfolding get
 read_acts names ns d k j b bytes f same_names same_bytes here reads is p stands =
-    let reads' : Reads names b.bytes f = subst (λ (bs : List ℕ). Reads names bs f) same_bytes (subst (λ (ms : List (List ℕ)). Reads ms bytes f) same_names reads) in
-    let value : f ≡ bare p.frame = value_one names b.bytes f (bare p.frame) reads' stands.frame in
+    let reads' : Reads names b.frame f = subst (λ (bs : List ℕ). Reads names bs f) same_bytes (subst (λ (ms : List (List ℕ)). Reads ms bytes f) same_names reads) in
+    let value : f ≡ bare p.frame = value_one names b.frame f (bare p.frame) reads' stands.frame in
     let same : (p.session == k.connection) ≡ true = let e : p.session ≡ k.connection = stands.session ∙ here in grind (arith, nat_tests, e) in
     rw same (is ∙ ap (λ (g : Frame). got_frame d k g) value ∙ got_bare d k p.frame)
 
 -- what is of another connection changes nothing
-pub other_stays : (names : List (List ℕ)) (d : Declared) (k : Client) (b : BytePacket) → (b.session ≡ k.connection → ⊥)
+pub other_stays : (names : List (List ℕ)) (d : Declared) (k : Client) (b : WirePacket) → (b.session ≡ k.connection → ⊥)
     → (p : Packet) → StandsFor names b p → k ≡ (get d k (Some p)).client
 unfolding get
 other_stays names d k b other p stands = by (p.session == k.connection) refl
@@ -64,19 +65,19 @@ reads_none : (names : List (List ℕ)) (bytes : List ℕ) (f : Frame) → Reads 
 reads_none names bytes f (text w is says) none = absurd (none w is)
 reads_none names bytes f (no_text not e) none = e
 
-pub discarded_stays : (ns : List (List ℕ)) (d : Declared) (k j : Client) (b : BytePacket) (bytes : List ℕ) (f : Frame) → bytes ≡ b.bytes → b.session ≡ k.connection
+pub discarded_stays : (ns : List (List ℕ)) (d : Declared) (k j : Client) (b : WirePacket) (bytes : List ℕ) (f : Frame) → bytes ≡ b.frame → b.session ≡ k.connection
     → Reads ns bytes f → j ≡ got_frame d k f → IsDiscarded k b → j ≡ k
 discarded_stays ns d k j b bytes f same_bytes here reads is (of_another other) = absurd (other here)
 discarded_stays ns d k j b bytes f same_bytes here reads is (unread none) =
     is ∙ ap (λ (g : Frame). got_frame d k g) (reads_none ns bytes f reads (λ w t. none w (subst (λ (bs : List ℕ). IsFrameText bs w) same_bytes t)))
 
 -- the next packet, where the client took one and where it found none
-pub next_acts : (names : List (List ℕ)) (d : Declared) (k j : Client) (b : BytePacket) → ((p : Packet) → StandsFor names b p → j ≡ (get d k (Some p)).client)
+pub next_acts : (names : List (List ℕ)) (d : Declared) (k j : Client) (b : WirePacket) → ((p : Packet) → StandsFor names b p → j ≡ (get d k (Some p)).client)
     → (v : Option Packet) → StandsForNext names (Some b) v → j ≡ (get d k v).client
 next_acts names d k j b each None h = absurd h
 next_acts names d k j b each (Some p) h = each p h
 
-pub next_taken : (names : List (List ℕ)) (d : Declared) (k : Client) (b : BytePacket) → (v : Option Packet) → StandsForNext names (Some b) v → false ≡ (get d k v).idle
+pub next_taken : (names : List (List ℕ)) (d : Declared) (k : Client) (b : WirePacket) → (v : Option Packet) → StandsForNext names (Some b) v → false ≡ (get d k v).idle
 unfolding get
 next_taken names d k b None h = absurd h
 next_taken names d k b (Some p) h = refl
@@ -92,10 +93,10 @@ none_taken names d k None h = refl
 none_taken names d k (Some p) h = absurd h
 
 -- what was read is what its bytes stand for
-pub said_of : (names clusters : List (List ℕ)) (b : BytePacket) (bytes : List ℕ) (f : Frame) → clusters ≡ names → bytes ≡ b.bytes → Reads clusters bytes f → IsSaid names (Some b)
+pub said_of : (names clusters : List (List ℕ)) (b : WirePacket) (bytes : List ℕ) (f : Frame) → clusters ≡ names → bytes ≡ b.frame → Reads clusters bytes f → IsSaid names (Some b)
 said_of names clusters b bytes f named same reads =
-    let here : Reads names b.bytes f = subst (λ (ns : List (List ℕ)). Reads ns b.bytes f) named (subst (λ (bs : List ℕ). Reads clusters bs f) same reads) in
-    record { said = Some (record { session = b.session; stamp = 0; frame = f }); stands = record { session = refl; frame = reads_stand names b.bytes f here } }
+    let here : Reads names b.frame f = subst (λ (ns : List (List ℕ)). Reads ns b.frame f) named (subst (λ (bs : List ℕ). Reads clusters bs f) same reads) in
+    record { said = Some (record { session = b.session; stamp = b.stamp; frame = f }); stands = record { session = refl; frame = reads_stand names b.frame f here } }
 
-pub said_none : (names : List (List ℕ)) (o : Option BytePacket) → o ≡ None → IsSaid names o
+pub said_none : (names : List (List ℕ)) (o : Option WirePacket) → o ≡ None → IsSaid names o
 said_none names o is = rw is (record { said = None; stands = tt })

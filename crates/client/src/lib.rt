@@ -4,11 +4,9 @@
 mod client;
 mod held;
 mod laws;
-mod packet;
 mod site;
 
 pub use client::{Client, ClientState, ClientView, Prepared};
 pub use held::HeldTable;
 pub use laws::{law_known_names, law_short_lines};
-pub use packet::Incoming;
 pub use site::ClientSite;

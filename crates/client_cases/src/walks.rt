@@ -8,11 +8,12 @@ ghost use Rattle.client.specs.Counted.{CanConnect, CanCount};
 ghost use Rattle.client.specs.Site.{is_short_line};
 
 use crate::story::{Act, ROWS, Row, lines};
-use client::{Client, ClientSite, Incoming, Prepared};
+use client::{Client, ClientSite, Prepared};
 use geo_base::limits::{CLUSTERS, TEXT_BYTES};
-use geo_base::{ClusterName, Line, Memory, ProducerName, Text, TopicName, name_text};
+use geo_base::{Blob, ClusterName, Line, Memory, ProducerName, Stamp, Text, TopicName, name_text};
 use std::alloc::Global;
 use std::test::Fail;
+use wire_ends::WirePacket;
 
 fn is_cluster_name(name: &ClusterName) -> bool
     ensures { result ≡ is_name name.now }
@@ -77,7 +78,12 @@ fn happens(alloc: Global, site: &ClientSite, client: &mut Client, act: Act) -> R
             Ok(done(alloc, client, prepared))
         }
         Act::Get(session, bytes) => {
-            client.get(alloc, site, Some(&Incoming::new(session, bytes)))?;
+            let packet = WirePacket {
+                session,
+                stamp: Stamp::new(1),
+                frame: Blob::from_slice(alloc, bytes)?,
+            };
+            client.get(alloc, site, Some(&packet))?;
             Ok(0)
         }
     }

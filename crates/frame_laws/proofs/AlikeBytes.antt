@@ -8,7 +8,8 @@ use Rattle.geo_base.specs.History.{RecordedEvent}
 use Rattle.geo_base.specs.Setup.{Setup}
 use Rattle.frame_values.proofs.One.{value_one}
 use Rattle.frame_values.specs.Standing.{bare}
-use Rattle.frame_laws.specs.BytePackets.{BytePacket, StandsForPacket}
+use Rattle.wire_ends.specs.declared.packet.WirePacket.{WirePacket}
+use Rattle.frame_laws.specs.BytePackets.{StandsForPacket}
 use Rattle.world_laws.proofs.ByteHistories.{bytes_are_histories}
 use Rattle.world_laws.proofs.Origins.{alike_without_origin}
 use Rattle.world_laws.specs.ByteHistories.{AreByteHistories, ByteEvent}
@@ -35,11 +36,11 @@ bare_is frame.Ping = refl
 bare_is frame.Pong = refl
 bare_is frame.Unreadable = refl
 
-pub alike_bytes : (s : Setup) (b : BytePacket) (p q : Packet) → StandsForPacket s.clusters b p → StandsForPacket s.clusters b q → IsAlike s p q
+pub alike_bytes : (s : Setup) (b : WirePacket) (p q : Packet) → StandsForPacket s.clusters b p → StandsForPacket s.clusters b q → IsAlike s p q
 alike_bytes s b p q h k =
     alike_without_origin s p q (h.session ∙ sym k.session) (h.stamp ∙ sym k.stamp)
     (sym (bare_is p.frame) ∙ (value_one s.clusters b.frame (bare p.frame) (bare q.frame) h.frame k.frame ∙ bare_is q.frame))
 
-pub byte_histories : (s : Setup) (kept : ℕ → List (ByteEvent BytePacket)) (hs : List (List RecordedEvent))
+pub byte_histories : (s : Setup) (kept : ℕ → List (ByteEvent WirePacket)) (hs : List (List RecordedEvent))
     → AreByteHistories (StandsForPacket s.clusters) s kept hs → AreHistories s hs
 byte_histories s kept hs are = bytes_are_histories (StandsForPacket s.clusters) s kept hs (λ b p q h k. alike_bytes s b p q h k) are

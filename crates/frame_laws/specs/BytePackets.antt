@@ -2,16 +2,11 @@
 use Rattle.std.specs.Prelude.{◌≡◌, ℕ, List}
 use Rattle.geo_base.specs.declared.packet.Packet.{Packet}
 use Rattle.frame_values.specs.Standing.{StandFor, bare}
+use Rattle.wire_ends.specs.declared.packet.WirePacket.{WirePacket}
 
--- a packet as it is on a link: session and stamp are the link's own, the frame is its bytes
-pub record BytePacket : Type 0 where
-  pub session : ℕ
-  pub stamp : ℕ
-  pub frame : List ℕ
-
--- it stands for a packet of the machine: the same session and stamp, and the bytes stand for the frame, whichever cluster
--- that says stored its entry first; names are those of the clusters, by their numbers
-pub record StandsForPacket (names : List (List ℕ)) (b : BytePacket) (p : Packet) : Type 0 where
+-- a packet as it is on a link stands for one of the machine: the same session and stamp, and the bytes stand for the frame,
+-- whichever cluster that says stored its entry first; names are those of the clusters, by their numbers
+pub record StandsForPacket (names : List (List ℕ)) (b : WirePacket) (p : Packet) : Type 0 where
   pub session : p.session ≡ b.session
   pub stamp : p.stamp ≡ b.stamp
   pub frame : StandFor names b.frame p.frame

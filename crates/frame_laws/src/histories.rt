@@ -11,12 +11,13 @@ ghost use Rattle.geo_base.specs.History.{RecordedEvent};
 ghost use Rattle.geo_base.specs.Serving.{serve};
 ghost use Rattle.geo_base.specs.Setup.{Declared, Setup};
 ghost use Rattle.world_laws.specs.ByteHistories.{AreByteHistories, ByteEvent};
-ghost use Rattle.frame_laws.specs.BytePackets.{BytePacket, StandsForPacket, bare_packet};
+ghost use Rattle.wire_ends.specs.declared.packet.WirePacket.{WirePacket};
+ghost use Rattle.frame_laws.specs.BytePackets.{StandsForPacket, bare_packet};
 
 /// Two packets that the same packet of bytes stands for are alike: no event at any state tells them apart. They may differ in
 /// the origin of an entry, which bytes do not say, and in nothing else.
 pub fn law_alike_bytes()
-    ensures { (s : Setup) (b : BytePacket) (p q : Packet) → StandsForPacket s.clusters b p → StandsForPacket s.clusters b q → IsAlike s p q }
+    ensures { (s : Setup) (b : WirePacket) (p q : Packet) → StandsForPacket s.clusters b p → StandsForPacket s.clusters b q → IsAlike s p q }
 {}
 
 /// An event that takes a packet does with it just what it does with the packet that its bytes say: none looks at which
@@ -32,6 +33,6 @@ pub fn law_bare()
 /// each link are a beginning of the bytes sent on it, stand for histories that agree: `law_merge` of `world_laws` holds of
 /// what they stand for.
 pub fn law_byte_histories()
-    ensures { (s : Setup) (kept : ℕ → List (ByteEvent BytePacket)) (hs : List (List RecordedEvent))
+    ensures { (s : Setup) (kept : ℕ → List (ByteEvent WirePacket)) (hs : List (List RecordedEvent))
         → AreByteHistories (StandsForPacket s.clusters) s kept hs → AreHistories s hs }
 {}

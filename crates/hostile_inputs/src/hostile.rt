@@ -3,10 +3,11 @@ ghost use Rattle.std.specs.Prelude.{◌≡◌, IfOk};
 ghost use Rattle.hostile_inputs.specs.Setting.{setting};
 
 use anyhow::{Result, bail};
-use broker::{LinkPacket, TopicNode};
+use broker::TopicNode;
 use broker_state::Site;
-use geo_base::{ClusterName, EntryStore, Event, Fate, Stamp, TopicName, WireOut};
+use geo_base::{Blob, ClusterName, EntryStore, Event, Fate, Stamp, TopicName, WireOut};
 use std::alloc::Global;
+use wire_ends::WirePacket;
 
 /// Cluster b takes the next packet of the link from cluster a.
 const TAKE: Event = Event::Take {
@@ -41,6 +42,17 @@ pub fn node(alloc: Global) -> Result<TopicNode>
     Ok(TopicNode::new(alloc, 0, site, Vec::new(alloc), 0)?)
 }
 
+/// The next packet of the link.
+fn packet(alloc: Global, session: u64, frame: &[u8]) -> Result<WirePacket>
+    ensures { IfOk result (λ p. p ≡ record { session = session; stamp = 1; frame = frame.now }) }
+{
+    Ok(WirePacket {
+        session,
+        stamp: Stamp::new(1),
+        frame: Blob::from_slice(alloc, frame)?,
+    })
+}
+
 /// The packets that answer a packet of a session.
 pub fn take(alloc: Global, node: &mut TopicNode, session: u64, frame: &[u8]) -> Result<Vec<WireOut>>
     ensures { node.new.site ≡ node.old.site }
@@ -48,7 +60,7 @@ pub fn take(alloc: Global, node: &mut TopicNode, session: u64, frame: &[u8]) -> 
     if !node.accepts(&TAKE) {
         bail!("the broker does not accept the event");
     }
-    let packet = LinkPacket::new(session, Stamp::new(1), frame);
+    let packet = packet(alloc, session, frame)?;
     let acted = node.act(alloc, &TAKE, Some(&packet))?;
     Ok(acted.sent)
 }
@@ -60,7 +72,7 @@ pub fn stop(alloc: Global, node: &mut TopicNode, session: u64, frame: &[u8]) -> 
     if !node.accepts(&TAKE) {
         bail!("the broker does not accept the event");
     }
-    let packet = LinkPacket::new(session, Stamp::new(1), frame);
+    let packet = packet(alloc, session, frame)?;
     node.halt(alloc, WRITES, &TAKE, Some(&packet))?;
     Ok(())
 }

@@ -3,7 +3,7 @@ use Rattle.std.proofs.Common.{◌≡◌, ℕ, ◌+◌, ◌^◌, ◌<◌, ◌≤�
 use Rattle.std.proofs.lemmas.Bool.{false≢true}
 use Rattle.std.proofs.lemmas.List.{set-get_or}
 use Rattle.std.specs.Prelude.{Option, Some, None, Result, Ok, Err, IfOk, OnErr, OnOk, nat_lt, not, slice_set}
-use Rattle.client.specs.Packets.{BytePacket, StandsForNext}
+use Rattle.client.specs.Packets.{StandsForNext}
 use Rattle.client.specs.Site.{Site, known_setup}
 use Rattle.geo_base.specs.declared.event.Event.TheVariants as event
 use Rattle.geo_base.specs.declared.memory.Memory.{Memory}
@@ -14,6 +14,7 @@ use Rattle.geo_base.specs.Happening.{happens}
 use Rattle.geo_base.specs.Run.{all_limits}
 use Rattle.geo_base.specs.Setup.{Declared, Setup, declared_at}
 use Rattle.geo_base.specs.World.{ToClient, World, client_at, packet_at}
+use Rattle.frame_laws.specs.BytePackets.{StandsForPacket}
 use Rattle.links.specs.declared.name.LinkName.{LinkName}
 use Rattle.links.specs.declared.name.LinkName.TheVariants as name
 use Rattle.links.specs.declared.name.Node.TheVariants as wire_node
@@ -22,7 +23,7 @@ use Rattle.links.specs.Each.{Both, both, neither}
 use Rattle.links.specs.Queues.{packet_on}
 use Rattle.world_kept.proofs.Keeping.{client_gets, client_waits, counts, input}
 use Rattle.world_kept.specs.Kept.{Kept, client_acted, idled, stamp_at}
-use Rattle.world_kept.specs.Standing.{IsInput, Stands, limit_of}
+use Rattle.world_kept.specs.Standing.{Stands, limit_of}
 use Rattle.world_kept.proofs.Reaching.{told_frames}
 use Rattle.world_kept.specs.Reached.{Reached}
 use Rattle.world.specs.ClientSteps.{IsGot, after_got, client_in, no_client}
@@ -37,47 +38,24 @@ use Rattle.world.proofs.Limits.{by_tests}
 
 -- ---- at the client
 
-abbrev as_packet : WirePacket → BytePacket
-as_packet p = record { session = p.session; bytes = p.frame }
-
-abbrev as_next : Option WirePacket → Option BytePacket
-as_next None = None
-as_next (Some p) = Some (as_packet p)
-
-next_is : (names : List (List ℕ)) (o : Option WirePacket) (v : Option Packet) → Both (IsInput names) o v → StandsForNext names (as_next o) v
+next_is : (names : List (List ℕ)) (o : Option WirePacket) (v : Option Packet) → Both (StandsForPacket names) o v → StandsForNext names o v
 next_is names _ _ neither = tt
 next_is names (Some p) (Some q) (both r) = record { session = r.session; frame = r.frame }
 
-got : (old new : WorldBook) (names : List (List ℕ)) (d : Declared) (c : ℕ) (link : LinkName) (m : Client) (r : Result Bool Memory) (i : Option BytePacket)
-    → i ≡ as_next (packet_on old.links (Some link)) → new ≡ record old { clients = slice_set old.clients c m }
+pub got : (old new : WorldBook) (names : List (List ℕ)) (d : Declared) (c : ℕ) (link : LinkName) (m : Client) (r : Result Bool Memory) (i : Option WirePacket)
+    → i ≡ packet_on old.links (Some link) → new ≡ record old { clients = slice_set old.clients c m }
     → ((v : Option Packet) → StandsForNext names i v → OnOk r (m ≡ (get d (client_in old.clients c) v).client))
     → ((v : Option Packet) → StandsForNext names i v → IfOk r (λ took. not took ≡ (get d (client_in old.clients c) v).idle))
     → IfOk r (IsGot names d c link old new)
 got old new names d c link m (Err e) i taken is client idle = tt
 got old new names d c link m (Ok took) i taken is client idle =
-    let stands : (v : Option Packet) → Both (IsInput names) (packet_on old.links (Some link)) v → StandsForNext names i v =
-    λ v both. subst (λ (j : Option BytePacket). StandsForNext names j v) (sym taken) (next_is names (packet_on old.links (Some link)) v both) in
+    let stands : (v : Option Packet) → Both (StandsForPacket names) (packet_on old.links (Some link)) v → StandsForNext names i v =
+    λ v both. subst (λ (j : Option WirePacket). StandsForNext names j v) (sym taken) (next_is names (packet_on old.links (Some link)) v both) in
     rw is (record {
       client = λ v both. ap (λ (n : Client). slice_set old.clients c n) (client v (stands v both));
       idle = λ v both. idle v (stands v both);
       rest = refl;
     })
-
-pub got_none : (old new : WorldBook) (names : List (List ℕ)) (d : Declared) (c : ℕ) (link : LinkName) (m : Client) (r : Result Bool Memory)
-    → packet_on old.links (Some link) ≡ None → new ≡ record old { clients = slice_set old.clients c m }
-    → ((v : Option Packet) → StandsForNext names None v → OnOk r (m ≡ (get d (client_in old.clients c) v).client))
-    → ((v : Option Packet) → StandsForNext names None v → IfOk r (λ took. not took ≡ (get d (client_in old.clients c) v).idle))
-    → IfOk r (IsGot names d c link old new)
-got_none old new names d c link m r taken is client idle = got old new names d c link m r None (ap as_next (sym taken)) is client idle
-
-pub got_some : (old new : WorldBook) (names : List (List ℕ)) (d : Declared) (c : ℕ) (link : LinkName) (m : Client) (r : Result Bool Memory) (p : WirePacket) (i : BytePacket) (f : List ℕ)
-    → Some p ≡ packet_on old.links (Some link) → i ≡ record { session = p.session; bytes = f } → f ≡ p.frame → new ≡ record old { clients = slice_set old.clients c m }
-    → ((v : Option Packet) → StandsForNext names (Some i) v → OnOk r (m ≡ (get d (client_in old.clients c) v).client))
-    → ((v : Option Packet) → StandsForNext names (Some i) v → IfOk r (λ took. not took ≡ (get d (client_in old.clients c) v).idle))
-    → IfOk r (IsGot names d c link old new)
-got_some old new names d c link m r p i f taken packet bytes is client idle =
-    got old new names d c link m r (Some i)
-    (ap (λ (j : BytePacket). Some j) (packet ∙ ap (λ (b : List ℕ). record { session = p.session; bytes = b }) bytes) ∙ ap as_next taken) is client idle
 
 pub not_got : (old new : WorldBook) (c : ℕ) (m : Client) (r : Result Bool Memory) → new ≡ record old { clients = slice_set old.clients c m } → OnErr r (m ≡ client_in old.clients c)
     → OnErr r (new ≡ old)
@@ -183,8 +161,8 @@ leads_get s old mid new w c site link took unit h lt reached stands setup declar
     let same : client_in old.clients c ≡ client_at s w c = client_is s old w c h lt stands in
     let link_is : link ≡ name.ToClient c (client_at s w c).cluster = is ∙ ap (λ (k : Client). name.ToClient c k.cluster) same in
     let v = taken_by w c (client_at s w c).cluster in
-    let taken : Both (IsInput s.clusters) (packet_on old.links (Some link)) v =
-    subst (λ (l : LinkName). Both (IsInput s.clusters) (packet_on old.links (Some l)) v) (sym link_is)
+    let taken : Both (StandsForPacket s.clusters) (packet_on old.links (Some link)) v =
+    subst (λ (l : LinkName). Both (StandsForPacket s.clusters) (packet_on old.links (Some l)) v) (sym link_is)
     (input s (kept_of old) w (Some (name.ToClient c (client_at s w c).cluster)) (told_frames s w h.setup reached) stands) in
     let there : IsGot s.clusters (declared_at s c) c link old mid took =
     subst (λ (d : Declared). IsGot s.clusters d c link old mid took) declared (subst (λ (u : Setup). IsGot u.clusters site.declared c link old mid took) setup got_it) in

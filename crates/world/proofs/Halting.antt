@@ -14,7 +14,6 @@ use Rattle.geo_base.specs.World.{World}
 use Rattle.script_text.specs.Scenario.{IsEvent}
 use Rattle.broker.specs.Input.{StandsForInput}
 use Rattle.broker.specs.Node.{NodeBook, SameNode}
-use Rattle.frame_laws.specs.BytePackets.{BytePacket}
 use Rattle.links.specs.declared.name.LinkName.{LinkName}
 use Rattle.wire_ends.specs.declared.packet.WirePacket.{WirePacket}
 use Rattle.links.specs.Queues.{packet_on, taken_from}
@@ -30,7 +29,7 @@ use Rattle.world.specs.Steps.{IsHalted, IsStopped, Leads, halted_at, place_at}
 use Rattle.world.specs.World.{IsAt, SameWorld, WorldBook, brokers_of, kept_of, node_at}
 use Rattle.world.proofs.After.{after_halt}
 use Rattle.world.proofs.Leading.{failed, plan_is, takes_stands}
-use Rattle.world.proofs.Nodes.{are_set, next_is, same_world, sent_of}
+use Rattle.world.proofs.Nodes.{are_set, next_is, same_world}
 use Rattle.world.proofs.Places.{broker_is, in_range_is, node_below, node_is}
 
 abbrev pub IsErr : Result (Unit {0}) RunFault → Type 0
@@ -42,8 +41,8 @@ ok_err unit f is = subst (λ (r : Result (Unit {0}) RunFault). IsErr r) (sym is)
 
 -- ---- at the broker
 
-halts : (old new : WorldBook) (n : ℕ) (takes : Option LinkName) (e : Event) (k : ℕ) (u : NodeBook) (r : Result (Unit {0}) Memory) (i : Option BytePacket)
-    → i ≡ sent_of (packet_on old.links takes) → SameNode (node_at old.nodes n) u → new ≡ record old { nodes = slice_set old.nodes n u }
+pub halts : (old new : WorldBook) (n : ℕ) (takes : Option LinkName) (e : Event) (k : ℕ) (u : NodeBook) (r : Result (Unit {0}) Memory) (i : Option WirePacket)
+    → i ≡ packet_on old.links takes → SameNode (node_at old.nodes n) u → new ≡ record old { nodes = slice_set old.nodes n u }
     → ((v : Option Packet) → StandsForInput (node_at old.nodes n).site.clusters i v → OnOk r (u.broker ≡ halted_at (node_at old.nodes n) e k v))
     → OnOk r (IsHalted n takes e k old new)
 halts old new n takes e k u (Err m) i taken same is f = tt
@@ -53,25 +52,10 @@ halts old new n takes e k u (Ok unit) i taken same is f =
       broker = λ v both.
           map-set (λ (c : NodeBook). c.broker) old.nodes n u
           ∙ ap (λ (c : Broker). slice_set (brokers_of old.nodes) n c)
-          (f v (subst (λ (j : Option BytePacket). StandsForInput names j v) (sym taken) (next_is names (packet_on old.links takes) v both)));
+          (f v (subst (λ (j : Option WirePacket). StandsForInput names j v) (sym taken) (next_is names (packet_on old.links takes) v both)));
       same = λ s h. are_set s old.nodes n u same h;
       rest = refl;
     })
-
-pub halted_none : (old new : WorldBook) (n : ℕ) (takes : Option LinkName) (e : Event) (k : ℕ) (u : NodeBook) (r : Result (Unit {0}) Memory)
-    → packet_on old.links takes ≡ None → SameNode (node_at old.nodes n) u → new ≡ record old { nodes = slice_set old.nodes n u }
-    → ((v : Option Packet) → StandsForInput (node_at old.nodes n).site.clusters None v → OnOk r (u.broker ≡ halted_at (node_at old.nodes n) e k v))
-    → OnOk r (IsHalted n takes e k old new)
-halted_none old new n takes e k u r taken same is f = halts old new n takes e k u r None (ap sent_of (sym taken)) same is f
-
-pub halted_some : (old new : WorldBook) (n : ℕ) (takes : Option LinkName) (e : Event) (k : ℕ) (u : NodeBook) (r : Result (Unit {0}) Memory) (p : WirePacket) (i : BytePacket) (f : List ℕ)
-    → Some p ≡ packet_on old.links takes → i ≡ record { session = p.session; stamp = p.stamp; frame = f } → f ≡ p.frame
-    → SameNode (node_at old.nodes n) u → new ≡ record old { nodes = slice_set old.nodes n u }
-    → ((v : Option Packet) → StandsForInput (node_at old.nodes n).site.clusters (Some i) v → OnOk r (u.broker ≡ halted_at (node_at old.nodes n) e k v))
-    → OnOk r (IsHalted n takes e k old new)
-halted_some old new n takes e k u r p i f taken packet bytes same is stands =
-    halts old new n takes e k u r (Some i)
-    (ap (λ (j : BytePacket). Some j) (packet ∙ ap (λ (b : List ℕ). record { session = p.session; stamp = p.stamp; frame = b }) bytes) ∙ ap sent_of taken) same is stands
 
 pub halt_same : (old new : WorldBook) (n : ℕ) (u : NodeBook) (r : Result (Unit {0}) Memory) → SameNode (node_at old.nodes n) u
     → new ≡ record old { nodes = slice_set old.nodes n u } → OnErr r (u.broker ≡ (node_at old.nodes n).broker) → OnErr r (SameWorld old new)

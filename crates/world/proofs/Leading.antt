@@ -22,7 +22,8 @@ use Rattle.links.specs.Standing.{OutsStand}
 use Rattle.world_kept.proofs.Keeping.{broker_done, broker_idle, counts, input}
 use Rattle.world_kept.specs.Events.{IsBrokers, cluster_of, node_of, plan_in, sender_of, taken_in, takes_of, topic_of}
 use Rattle.world_kept.specs.Kept.{Kept, broker_acted, idled}
-use Rattle.world_kept.specs.Standing.{IsInput, Stands, limit_of}
+use Rattle.frame_laws.specs.BytePackets.{StandsForPacket}
+use Rattle.world_kept.specs.Standing.{Stands, limit_of}
 use Rattle.world_kept.proofs.Reaching.{ground, told_frames}
 use Rattle.world_kept.specs.Reached.{Reached}
 use Rattle.world.specs.declared.fault.RunFault.{RunFault}
@@ -67,9 +68,9 @@ plan_is s b w e h brokers here stands =
     ∙ ap (λ (c : Broker). broker_plan s c e v_in) (stands_at s b w (node_of s e) stands (node_below s b e h brokers here))
 
 pub takes_stands : (s : Setup) (b : WorldBook) (w : World) (e : Event) → IsAt s b → IsBrokers e → IsEvent s e → Reached s w → Stands s (kept_of b) w
-    → Both (IsInput (node_at b.nodes (node_of s e)).site.clusters) (packet_on b.links (takes_of e)) (taken_in s w e)
+    → Both (StandsForPacket (node_at b.nodes (node_of s e)).site.clusters) (packet_on b.links (takes_of e)) (taken_in s w e)
 takes_stands s b w e h brokers here reached stands =
-    subst (λ (g : Site). Both (IsInput g.clusters) (packet_on b.links (takes_of e)) (taken_in s w e)) (sym (node_is s b e h brokers here).site)
+    subst (λ (g : Site). Both (StandsForPacket g.clusters) (packet_on b.links (takes_of e)) (taken_in s w e)) (sym (node_is s b e h brokers here).site)
     (input s (kept_of b) w (takes_of e) (told_frames s w h.setup reached) stands)
 
 pub prepared_plan : (s : Setup) (b : WorldBook) (w : World) (e : Event) (p : PreparedBook) → IsAt s b → IsBrokers e → IsEvent s e → Reached s w → Stands s (kept_of b) w

@@ -2,7 +2,7 @@
 use Rattle.std.proofs.Common.{◌≡◌, ℕ, ◌<◌, List, length, sym, ◌∙◌, ap, subst}
 use Rattle.std.proofs.lemmas.List.{get_or-set_same, length-set, map-set}
 use Rattle.std.proofs.Math.Seq.{map-set_same}
-use Rattle.std.specs.Prelude.{Option, Some, None, Result, Ok, Err, OnOk, slice_set}
+use Rattle.std.specs.Prelude.{Option, Some, Result, Ok, Err, OnOk, slice_set}
 use Rattle.geo_base.specs.declared.event.Event.{Event}
 use Rattle.geo_base.specs.declared.memory.Memory.{Memory}
 use Rattle.geo_base.specs.declared.packet.Packet.{Packet}
@@ -14,12 +14,11 @@ use Rattle.broker_plans.specs.Prepared.{IsPrepared}
 use Rattle.broker.specs.Events.{IsNodeOf, plan_at_node}
 use Rattle.broker.specs.Input.{StandsForInput}
 use Rattle.broker.specs.Node.{IsReady, NodeBook, SameNode}
-use Rattle.frame_laws.specs.BytePackets.{BytePacket}
+use Rattle.frame_laws.specs.BytePackets.{StandsForPacket}
 use Rattle.links.specs.declared.name.LinkName.{LinkName}
 use Rattle.wire_ends.specs.declared.packet.WirePacket.{WirePacket}
 use Rattle.links.specs.Each.{Both, both, neither}
 use Rattle.links.specs.Queues.{packet_on}
-use Rattle.world_kept.specs.Standing.{IsInput}
 use Rattle.world_laws.proofs.Frames.{at_set}
 use Rattle.world.specs.Steps.{IsSetNode, PreparesAt}
 use Rattle.world.specs.World.{AreNodes, SameWorld, WorldBook, brokers_of, kept_of, no_node, node_at}
@@ -55,40 +54,18 @@ flips : (A P : Option Packet → Type 0) (r : Result (Unit {0}) Memory) → ((v 
 flips A P (Ok u) f = λ v a. f v a
 flips A P (Err m) f = tt
 
-abbrev pub sent_packet : WirePacket → BytePacket
-sent_packet p = record { session = p.session; stamp = p.stamp; frame = p.frame }
-
-abbrev pub sent_of : Option WirePacket → Option BytePacket
-sent_of None = None
-sent_of (Some p) = Some (sent_packet p)
-
-pub next_is : (names : List (List ℕ)) (o : Option WirePacket) (v : Option Packet) → Both (IsInput names) o v → StandsForInput names (sent_of o) v
+pub next_is : (names : List (List ℕ)) (o : Option WirePacket) (v : Option Packet) → Both (StandsForPacket names) o v → StandsForInput names o v
 next_is names _ _ neither = tt
 next_is names (Some w) (Some p) (both r) = r
 
-prepares : (old : WorldBook) (n : ℕ) (takes : Option LinkName) (e : Event) (p : PreparedBook) (r : Result (Unit {0}) Memory) (i : Option BytePacket) → i ≡ sent_of (packet_on old.links takes)
+pub prepares : (old : WorldBook) (n : ℕ) (takes : Option LinkName) (e : Event) (p : PreparedBook) (r : Result (Unit {0}) Memory) (i : Option WirePacket) → i ≡ packet_on old.links takes
     → ((v : Option Packet) → StandsForInput (node_at old.nodes n).site.clusters i v
     → OnOk r (IsPrepared (node_at old.nodes n).site (node_at old.nodes n).broker (plan_at_node (node_at old.nodes n) e v) p))
     → OnOk r (PreparesAt old n takes e p)
 prepares old n takes e p r i is f =
     let u = node_at old.nodes n in
-    flips (λ (v : Option Packet). Both (IsInput u.site.clusters) (packet_on old.links takes) v) (λ v. IsPrepared u.site u.broker (plan_at_node u e v) p) r
-    (λ v both. f v (subst (λ (j : Option BytePacket). StandsForInput u.site.clusters j v) (sym is) (next_is u.site.clusters (packet_on old.links takes) v both)))
-
-pub prepares_none : (old : WorldBook) (n : ℕ) (takes : Option LinkName) (e : Event) (p : PreparedBook) (r : Result (Unit {0}) Memory) → packet_on old.links takes ≡ None
-    → ((v : Option Packet) → StandsForInput (node_at old.nodes n).site.clusters None v
-    → OnOk r (IsPrepared (node_at old.nodes n).site (node_at old.nodes n).broker (plan_at_node (node_at old.nodes n) e v) p))
-    → OnOk r (PreparesAt old n takes e p)
-prepares_none old n takes e p r is f = prepares old n takes e p r None (ap sent_of (sym is)) f
-
-pub prepares_some : (old : WorldBook) (n : ℕ) (takes : Option LinkName) (e : Event) (p : PreparedBook) (r : Result (Unit {0}) Memory) (w : WirePacket) (i : BytePacket) (f : List ℕ)
-    → Some w ≡ packet_on old.links takes → i ≡ record { session = w.session; stamp = w.stamp; frame = f } → f ≡ w.frame
-    → ((v : Option Packet) → StandsForInput (node_at old.nodes n).site.clusters (Some i) v
-    → OnOk r (IsPrepared (node_at old.nodes n).site (node_at old.nodes n).broker (plan_at_node (node_at old.nodes n) e v) p))
-    → OnOk r (PreparesAt old n takes e p)
-prepares_some old n takes e p r w i f is same bytes stands =
-    prepares old n takes e p r (Some i)
-    (ap (λ (j : BytePacket). Some j) (same ∙ ap (λ (b : List ℕ). record { session = w.session; stamp = w.stamp; frame = b }) bytes) ∙ ap sent_of is) stands
+    flips (λ (v : Option Packet). Both (StandsForPacket u.site.clusters) (packet_on old.links takes) v) (λ v. IsPrepared u.site u.broker (plan_at_node u e v) p) r
+    (λ v both. f v (subst (λ (j : Option WirePacket). StandsForInput u.site.clusters j v) (sym is) (next_is u.site.clusters (packet_on old.links takes) v both)))
 
 ready_at : (vs : List NodeBook) (n : ℕ) (v : NodeBook) (p : PreparedBook) → n < length vs → IsReady v p → IsReady (node_at (slice_set vs n v) n) p
 ready_at vs n v p lt ready = rw (get_or-set_same vs n v no_node lt) ready

@@ -12,7 +12,7 @@ use Rattle.links.specs.declared.name.Node.TheVariants as wire_node
 use Rattle.links.specs.Each.{Both}
 use Rattle.links.specs.Queues.{packet_on, taken_from}
 use Rattle.world_kept.specs.Kept.{client_acted, stamp_at}
-use Rattle.world_kept.specs.Standing.{IsInput}
+use Rattle.frame_laws.specs.BytePackets.{StandsForPacket}
 
 abbrev pub no_client : Client
 no_client = new_client nobody
@@ -28,8 +28,8 @@ pub record IsSent (c : ℕ) (p : PreparedClient) (old new : WorldBook) : Type 0 
 -- client c did what the next packet of a link says, which still is there; whatever the packet stands for, it is the machine's get.
 -- took says whether there was one
 pub record IsGot (names : List (List ℕ)) (d : Declared) (c : ℕ) (link : LinkName) (old new : WorldBook) (took : Bool) : Type 0 where
-  pub client : (v : Option Packet) → Both (IsInput names) (packet_on old.links (Some link)) v → new.clients ≡ slice_set old.clients c (get d (client_in old.clients c) v).client
-  pub idle : (v : Option Packet) → Both (IsInput names) (packet_on old.links (Some link)) v → not took ≡ (get d (client_in old.clients c) v).idle
+  pub client : (v : Option Packet) → Both (StandsForPacket names) (packet_on old.links (Some link)) v → new.clients ≡ slice_set old.clients c (get d (client_in old.clients c) v).client
+  pub idle : (v : Option Packet) → Both (StandsForPacket names) (packet_on old.links (Some link)) v → not took ≡ (get d (client_in old.clients c) v).idle
   pub rest : new ≡ record old { clients = new.clients }
 
 -- and then the packet is taken, and the event counted, or the idle one

@@ -21,7 +21,8 @@ use Rattle.links.specs.Each.{Both}
 use Rattle.links.specs.Queues.{packet_on, taken_from}
 use Rattle.world_kept.specs.Events.{cluster_of, takes_of, topic_of}
 use Rattle.world_kept.specs.Kept.{broker_acted, broker_stopped, idled}
-use Rattle.world_kept.specs.Standing.{IsInput, Stands}
+use Rattle.frame_laws.specs.BytePackets.{StandsForPacket}
+use Rattle.world_kept.specs.Standing.{Stands}
 
 -- the broker of an event, and the link that it takes from
 abbrev pub place_at : Setup → Event → Place
@@ -29,7 +30,7 @@ place_at s e = record { topic = topic_of s e; cluster = cluster_of e; takes = ta
 
 -- an event is prepared at broker n: whatever the packet that it takes stands for, it is the machine's plan of it there
 abbrev pub PreparesAt : WorldBook → ℕ → Option LinkName → Event → PreparedBook → Type 0
-PreparesAt b n takes e p = (v : Option Packet) → Both (IsInput (node_at b.nodes n).site.clusters) (packet_on b.links takes) v
+PreparesAt b n takes e p = (v : Option Packet) → Both (StandsForPacket (node_at b.nodes n).site.clusters) (packet_on b.links takes) v
     → IsPrepared (node_at b.nodes n).site (node_at b.nodes n).broker (plan_at_node (node_at b.nodes n) e v) p
 
 -- A step that leads the machine from w to next: where it ends well, the world stands for the machine's after it, which is within the
@@ -84,13 +85,13 @@ pub record IsFinished (place : Place) (n : ℕ) (p : PreparedBook) (old new : Wo
 -- a stop behind the first k durable writes of an event: broker n is halted in the machine's plan of it, whatever the packet that it
 -- takes stands for, and nothing else has changed
 pub record IsHalted (n : ℕ) (takes : Option LinkName) (e : Event) (k : ℕ) (old new : WorldBook) : Type 0 where
-  pub broker : (v : Option Packet) → Both (IsInput (node_at old.nodes n).site.clusters) (packet_on old.links takes) v
+  pub broker : (v : Option Packet) → Both (StandsForPacket (node_at old.nodes n).site.clusters) (packet_on old.links takes) v
       → brokers_of new.nodes ≡ slice_set (brokers_of old.nodes) n (halted_at (node_at old.nodes n) e k v)
   pub same : (s : Setup) → AreNodes s old.nodes → AreNodes s new.nodes
   pub rest : new ≡ record old { nodes = new.nodes }
 
 -- and then its packet is taken, and it is counted
 pub record IsStopped (n : ℕ) (takes : Option LinkName) (e : Event) (k : ℕ) (old new : WorldBook) : Type 0 where
-  pub kept : (v : Option Packet) → Both (IsInput (node_at old.nodes n).site.clusters) (packet_on old.links takes) v
+  pub kept : (v : Option Packet) → Both (StandsForPacket (node_at old.nodes n).site.clusters) (packet_on old.links takes) v
       → kept_of new ≡ broker_stopped (kept_of old) n takes (halted_at (node_at old.nodes n) e k v)
   pub same : (s : Setup) → AreNodes s old.nodes → AreNodes s new.nodes

@@ -18,7 +18,6 @@ ghost use Rattle.world_kept.specs.Reached.{Reached};
 use crate::fault::RunFault;
 use crate::place::{Place, place_of};
 use crate::world::{World, node_number};
-use broker::LinkPacket;
 use broker_state::Prepared;
 use geo_base::limits::{EVENTS, SENT_BYTES};
 use geo_base::{Event, Memory, Stamp, WireOut};
@@ -125,7 +124,7 @@ impl World {
     }
 
     /// What an event will do at a broker, with the packet that it takes.
-    #[tactic(auto, using(crate::proofs::Nodes::same_world, crate::proofs::Nodes::ready_there, crate::proofs::Nodes::prepares_none, crate::proofs::Nodes::prepares_some))]
+    #[tactic(auto, using(crate::proofs::Nodes::same_world, crate::proofs::Nodes::ready_there, crate::proofs::Nodes::prepares))]
     pub(crate) fn prepare_at(
         &mut self,
         alloc: Global,
@@ -142,13 +141,7 @@ impl World {
         ensures ready { OnOk result (IsReady (node_at self.new.nodes number) plan.new) }
         ensures same { SameWorld self.old self.new }
     {
-        match self.links.next(takes) {
-            None => self.nodes[number].prepare(alloc, event, None, plan),
-            Some(packet) => {
-                let input = LinkPacket::new(packet.session, packet.stamp, packet.frame.as_slice());
-                self.nodes[number].prepare(alloc, event, Some(&input), plan)
-            }
-        }
+        self.nodes[number].prepare(alloc, event, self.links.next(takes), plan)
     }
 
     /// An event that is not enabled: it is counted.

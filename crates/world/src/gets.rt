@@ -13,7 +13,7 @@ ghost use Rattle.world_kept.specs.Reached.{Reached};
 
 use crate::fault::RunFault;
 use crate::world::World;
-use client::{ClientSite, Incoming};
+use client::ClientSite;
 use geo_base::Memory;
 use links::LinkName;
 use node_starts::site_of;
@@ -46,7 +46,7 @@ impl World {
     }
 
     /// What a packet does at a client, which stays on its link; whether there was one.
-    #[tactic(auto, using(crate::proofs::Getting::got_none, crate::proofs::Getting::got_some, crate::proofs::Getting::not_got))]
+    #[tactic(auto, using(crate::proofs::Getting::got, crate::proofs::Getting::not_got))]
     fn get_at(
         &mut self,
         alloc: Global,
@@ -59,13 +59,7 @@ impl World {
         ensures ok { IfOk result (IsGot site.now.setup.clusters site.now.declared client link self.old self.new) }
         ensures err { OnErr result (self.new ≡ self.old) }
     {
-        match self.links.next(Some(link)) {
-            None => self.clients[client as usize].get(alloc, site, None),
-            Some(packet) => {
-                let input = Incoming::new(packet.session, packet.frame.as_slice());
-                self.clients[client as usize].get(alloc, site, Some(&input))
-            }
-        }
+        self.clients[client as usize].get(alloc, site, self.links.next(Some(link)))
     }
 
     /// The packet is taken, and the event counted, or the idle one.

@@ -16,7 +16,6 @@ use crate::brokers::EVENT_LIMIT;
 use crate::fault::RunFault;
 use crate::place::place_of;
 use crate::world::{World, node_number};
-use broker::LinkPacket;
 use geo_base::limits::EVENTS;
 use geo_base::{Event, Memory};
 use links::LinkName;
@@ -88,7 +87,7 @@ impl World {
     }
 
     /// Halts the broker.
-    #[tactic(auto, using(crate::proofs::Halting::halted_none, crate::proofs::Halting::halted_some, crate::proofs::Halting::halt_same))]
+    #[tactic(auto, using(crate::proofs::Halting::halts, crate::proofs::Halting::halt_same))]
     fn halt_at(
         &mut self,
         alloc: Global,
@@ -103,12 +102,6 @@ impl World {
         ensures ok { OnOk result (IsHalted number takes event.now writes self.old self.new) }
         ensures err { OnErr result (SameWorld self.old self.new) }
     {
-        match self.links.next(takes) {
-            None => self.nodes[number].halt(alloc, writes, event, None),
-            Some(packet) => {
-                let input = LinkPacket::new(packet.session, packet.stamp, packet.frame.as_slice());
-                self.nodes[number].halt(alloc, writes, event, Some(&input))
-            }
-        }
+        self.nodes[number].halt(alloc, writes, event, self.links.next(takes))
     }
 }

@@ -22,6 +22,7 @@ use Rattle.geo_base.specs.Setup.{Declared, Setup, declared_at}
 use Rattle.geo_base.specs.World.{LinkName as MachineLink, Links, ToClient, World, client_at, delivered as machine_delivered, from_broker, from_client, link_at, node, opening_world, packet_at, taken_from as machine_taken}
 use Rattle.std.proofs.lemmas.Bool.{false≢true}
 use Rattle.std.proofs.lemmas.Option.{none-some}
+use Rattle.frame_laws.specs.BytePackets.{StandsForPacket}
 use Rattle.frame_values.proofs.One.{written_stands}
 use Rattle.frame_values.specs.Told.{IsTold}
 use Rattle.frame_values.specs.Texts.{is_readable}
@@ -37,7 +38,7 @@ use Rattle.links.specs.Queues.{bytes_of, delivered, packet_on, taken_from}
 use Rattle.links.specs.Standing.{IsReadableOut, LinksStand, OutsStand, PacketStands}
 use Rattle.world_kept.specs.Events.{IsBrokers, cluster_of, node_of, plan_in, sender_of, takes_of, topic_of}
 use Rattle.world_kept.specs.Kept.{Kept, all_stopped, broker_acted, broker_stopped, client_acted, idled, opening_kept, stamp_at}
-use Rattle.world_kept.specs.Standing.{IsInput, Stands, limit_of}
+use Rattle.world_kept.specs.Standing.{Stands, limit_of}
 use Rattle.world_laws.specs.Frames.{AllFrames, IsReadable}
 use Rattle.world_laws.specs.Reached.{AreReadable, IsGround}
 
@@ -106,14 +107,14 @@ both_with : {A B : Type 0} (R S : A → B → Type 0) (T : B → Type 0) (x : Op
 both_with R S T _ _ has f neither = neither
 both_with R S T (Some a) (Some b) has f (both r) = both (f a b r (has b refl))
 
-input_stands : (names : List (List ℕ)) (p : WirePacket) (v : Packet) → PacketStands names p v → IsTold names v.frame → IsInput names p v
+input_stands : (names : List (List ℕ)) (p : WirePacket) (v : Packet) → PacketStands names p v → IsTold names v.frame → StandsForPacket names p v
 input_stands names p v h is = record { session = sym h.session; stamp = sym h.stamp; frame = written_stands names v.frame p.frame h.frame is }
 
 pub input : (s : Setup) (k : Kept) (w : World) (takes : Option LinkName) → AllFrames (IsTold s.clusters) w → Stands s k w
-    → Both (IsInput s.clusters) (packet_on k.links takes) (packet_at w.links (taken_name (length s.clusters) takes))
+    → Both (StandsForPacket s.clusters) (packet_on k.links takes) (packet_at w.links (taken_name (length s.clusters) takes))
 input s k w takes told h =
     let names = s.clusters in let o = taken_name (length names) takes in
-    both_with (PacketStands names) (IsInput names) (λ (v : Packet). IsTold names v.frame) (packet_on k.links takes) (packet_at w.links o)
+    both_with (PacketStands names) (StandsForPacket names) (λ (v : Packet). IsTold names v.frame) (packet_on k.links takes) (packet_at w.links o)
     (λ v at. told_at s w told o v at) (input_stands names) (packet_stands names takes k.links w.links h.links)
 
 -- EVENTS OF BROKERS

@@ -1,12 +1,9 @@
 -- What a kept world stands for of the machine's.
-use Rattle.std.specs.Prelude.{◌≡◌, ℕ, ◌+◌, nat_lt, if◌then◌else◌, List, Option, Some, None}
-use Rattle.geo_base.specs.declared.packet.Packet.{Packet}
+use Rattle.std.specs.Prelude.{◌≡◌, ℕ, ◌+◌, nat_lt, if◌then◌else◌, Option, Some, None}
 use Rattle.geo_base.specs.Run.{most_events, most_sent_bytes}
 use Rattle.geo_base.specs.Setup.{Setup}
 use Rattle.geo_base.specs.World.{World}
 use Rattle.world_kept.specs.Kept.{Kept}
-use Rattle.frame_laws.specs.BytePackets.{StandsForPacket}
-use Rattle.wire_ends.specs.declared.packet.WirePacket.{WirePacket}
 use Rattle.links.specs.Standing.{LinksStand}
 
 -- all but the links are the machine's; on each link the packets that are not taken yet are, as their canonical texts
@@ -25,8 +22,3 @@ pub record Stands (s : Setup) (k : Kept) (w : World) : Type 0 where
 abbrev pub limit_of : (events idle frame_bytes : ℕ) → Option ℕ
 limit_of events idle frame_bytes =
     if nat_lt most_events (events + idle) then Some 2 else if nat_lt most_sent_bytes frame_bytes then Some 3 else None
-
--- a packet that is kept stands for one of the machine's, whichever cluster that says stored an entry first; names are those of
--- the clusters
-abbrev pub IsInput : List (List ℕ) → WirePacket → Packet → Type 0
-IsInput names p v = StandsForPacket names (record { session = p.session; stamp = p.stamp; frame = p.frame }) v

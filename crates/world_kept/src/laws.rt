@@ -27,7 +27,7 @@ ghost use Rattle.links.specs.Standing.{OutsStand};
 ghost use Rattle.world_kept.specs.Events.{IsBrokers, node_of, plan_in, sender_of, takes_of, taken_in};
 ghost use Rattle.world_kept.specs.Kept.{Kept, all_stopped, broker_acted, broker_stopped, client_acted, idled, opening_kept};
 ghost use Rattle.world_kept.specs.Reached.{Reached, started_kept};
-ghost use Rattle.world_kept.specs.Standing.{IsInput, Stands, limit_of};
+ghost use Rattle.world_kept.specs.Standing.{Stands, limit_of};
 ghost use Rattle.world_laws.specs.Frames.{AllFrames};
 ghost use Rattle.world_laws.specs.Reached.{IsGround};
 ghost use Rattle.world_laws.specs.Starts.{IsStart};
@@ -55,7 +55,7 @@ pub fn law_reached()
 /// first, which no event looks at. So it is where texts tell what is on the links.
 pub fn law_input()
     ensures { (s : Setup) (k : Kept) (w : World) (takes : Option LinkName) → AllFrames (IsTold s.clusters) w → Stands s k w
-        → Both (IsInput s.clusters) (packet_on k.links takes) (packet_at w.links (taken_name (length s.clusters) takes)) }
+        → Both (StandsForPacket s.clusters) (packet_on k.links takes) (packet_at w.links (taken_name (length s.clusters) takes)) }
 {}
 
 /// An event of a broker whose numbers are in range: done by its plan, idle, or stopped behind its first `n` durable writes.

@@ -8,11 +8,11 @@ ghost use Rattle.client.specs.Counted.{CanCount};
 ghost use Rattle.client.specs.Packets.{IsDiscarded, IsSaid, StandsFor, StandsForNext};
 
 use crate::client::Client;
-use crate::packet::Incoming;
 use crate::site::ClientSite;
 use frame_values::read_value;
 use geo_base::{Entry, Frame, Held, Ident, Line, Memory, Place, Position};
 use std::alloc::Global;
+use wire_ends::WirePacket;
 
 impl Client {
     /// A client takes a packet, or finds none, which is idle; the answer is whether it took one. What was sent on another
@@ -22,7 +22,7 @@ impl Client {
         &mut self,
         alloc: Global,
         site: &ClientSite,
-        input: Option<&Incoming>,
+        input: Option<&WirePacket>,
     ) -> Result<bool, Memory>
         requires { CanCount self.old }
         // For each packet of the machine that the next packet stands for, the client is the machine's after it.
@@ -42,15 +42,15 @@ impl Client {
     }
 
     /// A packet came. Also one of another connection is read, so that it is known to have a value.
-    fn take(&mut self, alloc: Global, site: &ClientSite, packet: &Incoming) -> Result<(), Memory>
+    fn take(&mut self, alloc: Global, site: &ClientSite, packet: &WirePacket) -> Result<(), Memory>
         requires { CanCount self.old }
         ensures client { (p : Packet) → StandsFor site.now.setup.clusters packet.now p → OnOk result (self.new ≡ (get site.now.declared self.old (Some p)).client) }
         ensures discarded { IsDiscarded self.old packet.now → OnOk result (self.new ≡ self.old) }
         ensures said { OnOk result (IsSaid site.now.setup.clusters (Some packet.now)) }
         ensures err { OnErr result (self.new ≡ self.old) }
     {
-        let frame = read_value(alloc, site.clusters(), packet.bytes())?;
-        if packet.session() != self.connection {
+        let frame = read_value(alloc, site.clusters(), packet.frame.as_slice())?;
+        if packet.session != self.connection {
             return Ok(());
         }
         self.get_frame(alloc, site, &frame)?;
