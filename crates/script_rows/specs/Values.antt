@@ -1,6 +1,6 @@
 -- What the values of a row make: an event, a step, or a client's line. A value is read by its place in the row; one of
 -- another sort than the row has there is read as nothing, which never comes.
-use Rattle.std.specs.Prelude.{ℕ, zero, suc, ◌==◌, List, [], ◌∷◌, slice_index_or, Option, None}
+use Rattle.std.specs.Prelude.{ℕ, zero, suc, ◌==◌, List, [], ◌∷◌, slice_index_or, Option, None, ⊤}
 use Rattle.geo_base.specs.declared.client.Line.{Line}
 use Rattle.geo_base.specs.declared.client.Line.TheVariants as line
 use Rattle.geo_base.specs.declared.entry.Ident.{Ident}
@@ -107,6 +107,21 @@ event_of event_kind.Snap vs = event.Snap (item_at vs 0) (item_at vs 1)
 event_of event_kind.Offer vs = event.Offer (item_at vs 0) (item_at vs 1) (item_at vs 2)
 event_of event_kind.Seek vs = event.Seek (item_at vs 0) (item_at vs 1) (item_at vs 2) (place_at vs 3)
 event_of event_kind.Restart vs = event.Restart (item_at vs 0) (item_at vs 1)
+
+-- the kinds of events between two clusters, and of those at a topic's broker alone
+abbrev pub IsAtLink : EventKind → Type 0
+IsAtLink event_kind.Reset = ⊤
+IsAtLink event_kind.Read = ⊤
+IsAtLink event_kind.Take = ⊤
+IsAtLink event_kind.Receipt = ⊤
+IsAtLink k = ⊥
+
+abbrev pub IsAtBroker : EventKind → Type 0
+IsAtBroker event_kind.Snap = ⊤
+IsAtBroker event_kind.Offer = ⊤
+IsAtBroker event_kind.Seek = ⊤
+IsAtBroker event_kind.Restart = ⊤
+IsAtBroker k = ⊥
 
 -- the step of a line that schedules one; a line of another kind schedules none, and is given `settle`
 abbrev pub step_of : Kind → List Value → Step

@@ -1,6 +1,6 @@
 //! What the values of a row make.
 ghost use Rattle.std.specs.Prelude.{◌≡◌, ◌==◌, IfOk};
-ghost use Rattle.script_rows.specs.Values.{event_of, fate_numbered, ident_of, item_at, key_at, line_of, name_at, place_at, rest, seq_at, step_of, sub_kind_numbered, text_at, to_at};
+ghost use Rattle.script_rows.specs.Values.{IsAtBroker, IsAtLink, event_of, fate_numbered, ident_of, item_at, key_at, line_of, name_at, place_at, rest, seq_at, step_of, sub_kind_numbered, text_at, to_at};
 
 use crate::act_kind::ActKind;
 use crate::event_kind::EventKind;
@@ -27,65 +27,85 @@ pub fn step_of(kind: Kind, values: &[Value<'_>]) -> Step
 fn event_of(kind: EventKind, values: &[Value<'_>]) -> Event
     ensures { result ≡ event_of kind values.now }
 {
+    let first = item_at(values, 0);
     match kind {
-        EventKind::Go => Event::Go {
-            client: item_at(values, 0),
-        },
-        EventKind::Get => Event::Get {
-            client: item_at(values, 0),
-        },
-        EventKind::Reconnect => Event::Reconnect {
-            client: item_at(values, 0),
-        },
+        EventKind::Go => Event::Go { client: first },
+        EventKind::Get => Event::Get { client: first },
+        EventKind::Reconnect => Event::Reconnect { client: first },
         EventKind::Serve => Event::Serve {
-            cluster: item_at(values, 0),
+            cluster: first,
             client: item_at(values, 1),
         },
         EventKind::Drop => Event::Drop {
-            cluster: item_at(values, 0),
+            cluster: first,
             client: item_at(values, 1),
         },
+        EventKind::Reset | EventKind::Read | EventKind::Take | EventKind::Receipt => {
+            link_event_of(kind, values)
+        }
+        EventKind::Snap | EventKind::Offer | EventKind::Seek | EventKind::Restart => {
+            broker_event_of(kind, values)
+        }
+    }
+}
+
+/// The event between two clusters.
+fn link_event_of(kind: EventKind, values: &[Value<'_>]) -> Event
+    requires { IsAtLink kind }
+    ensures { result ≡ event_of kind values.now }
+{
+    let topic = item_at(values, 0);
+    let source = item_at(values, 1);
+    let target = item_at(values, 2);
+    match kind {
         EventKind::Reset => Event::Reset {
-            topic: item_at(values, 0),
-            source: item_at(values, 1),
-            target: item_at(values, 2),
+            topic,
+            source,
+            target,
         },
         EventKind::Read => Event::Read {
-            topic: item_at(values, 0),
-            source: item_at(values, 1),
-            target: item_at(values, 2),
+            topic,
+            source,
+            target,
         },
         EventKind::Take => Event::Take {
-            topic: item_at(values, 0),
-            source: item_at(values, 1),
-            target: item_at(values, 2),
+            topic,
+            source,
+            target,
             fate: fate_at(values, 3),
         },
         EventKind::Receipt => Event::Receipt {
-            topic: item_at(values, 0),
-            source: item_at(values, 1),
-            target: item_at(values, 2),
+            topic,
+            source,
+            target,
             fate: fate_at(values, 3),
         },
-        EventKind::Snap => Event::Snap {
-            topic: item_at(values, 0),
-            cluster: item_at(values, 1),
-        },
+        _ => unreachable!(),
+    }
+}
+
+/// The event at a topic's broker alone.
+fn broker_event_of(kind: EventKind, values: &[Value<'_>]) -> Event
+    requires { IsAtBroker kind }
+    ensures { result ≡ event_of kind values.now }
+{
+    let topic = item_at(values, 0);
+    let cluster = item_at(values, 1);
+    match kind {
+        EventKind::Snap => Event::Snap { topic, cluster },
         EventKind::Offer => Event::Offer {
-            topic: item_at(values, 0),
-            cluster: item_at(values, 1),
+            topic,
+            cluster,
             sub: item_at(values, 2),
         },
         EventKind::Seek => Event::Seek {
-            topic: item_at(values, 0),
-            cluster: item_at(values, 1),
+            topic,
+            cluster,
             sub: item_at(values, 2),
             to: place_at(values, 3),
         },
-        EventKind::Restart => Event::Restart {
-            topic: item_at(values, 0),
-            cluster: item_at(values, 1),
-        },
+        EventKind::Restart => Event::Restart { topic, cluster },
+        _ => unreachable!(),
     }
 }
 

@@ -4,7 +4,7 @@ ghost use Rattle.std.specs.Fmt.{decimal};
 ghost use Rattle.script_names.specs.Names.{name_at};
 ghost use Rattle.script_rows.specs.declared.column.Column.TheVariants as kind;
 ghost use Rattle.script_rows.specs.Names.{nothing_seen};
-ghost use Rattle.script_rows.specs.Values.{item, key, name, place, seq, text, to};
+ghost use Rattle.script_rows.specs.Values.{IsAtLink, item, key, name, place, seq, text, to};
 ghost use Rattle.script_rows.specs.Written.{choice_word, event_values, event_words, fate_number, items, key_word, kind_of, place_word, spaced, step_line, targets_word, word_of, words_in};
 ghost use Rattle.std.specs.List.{join_with_byte};
 
@@ -269,34 +269,18 @@ fn event_values(alloc: Global, event: &Event) -> Result<Sequence<Value<'static>>
     ensures { IfOk result (λ vs. vs ≡ event_values event.now) }
 {
     match event {
-        Event::Go { client } => one(alloc, *client),
-        Event::Get { client } => one(alloc, *client),
-        Event::Reconnect { client } => one(alloc, *client),
-        Event::Serve { cluster, client } => two(alloc, *cluster, *client),
-        Event::Drop { cluster, client } => two(alloc, *cluster, *client),
-        Event::Reset {
-            topic,
-            source,
-            target,
-        } => three(alloc, *topic, *source, *target),
-        Event::Read {
-            topic,
-            source,
-            target,
-        } => three(alloc, *topic, *source, *target),
-        Event::Take {
-            topic,
-            source,
-            target,
-            fate,
-        } => four(alloc, *topic, *source, *target, fate_number(*fate)),
-        Event::Receipt {
-            topic,
-            source,
-            target,
-            fate,
-        } => four(alloc, *topic, *source, *target, fate_number(*fate)),
-        Event::Snap { topic, cluster } => two(alloc, *topic, *cluster),
+        Event::Go { client } | Event::Get { client } | Event::Reconnect { client } => {
+            one(alloc, *client)
+        }
+        Event::Serve { cluster, client } | Event::Drop { cluster, client } => {
+            two(alloc, *cluster, *client)
+        }
+        Event::Reset { .. } | Event::Read { .. } | Event::Take { .. } | Event::Receipt { .. } => {
+            link_event_values(alloc, event)
+        }
+        Event::Snap { topic, cluster } | Event::Restart { topic, cluster } => {
+            two(alloc, *topic, *cluster)
+        }
         Event::Offer {
             topic,
             cluster,
@@ -312,7 +296,38 @@ fn event_values(alloc: Global, event: &Event) -> Result<Sequence<Value<'static>>
             values.push(Value::Place(*to))?;
             Ok(values)
         }
-        Event::Restart { topic, cluster } => two(alloc, *topic, *cluster),
+    }
+}
+
+/// The values of an event's row that is between two clusters.
+fn link_event_values(alloc: Global, event: &Event) -> Result<Sequence<Value<'static>>, Memory>
+    requires { IsAtLink (kind_of event.now) }
+    ensures { IfOk result (λ vs. vs ≡ event_values event.now) }
+{
+    match event {
+        Event::Reset {
+            topic,
+            source,
+            target,
+        }
+        | Event::Read {
+            topic,
+            source,
+            target,
+        } => three(alloc, *topic, *source, *target),
+        Event::Take {
+            topic,
+            source,
+            target,
+            fate,
+        }
+        | Event::Receipt {
+            topic,
+            source,
+            target,
+            fate,
+        } => four(alloc, *topic, *source, *target, fate_number(*fate)),
+        _ => unreachable!(),
     }
 }
 

@@ -1,7 +1,8 @@
 //! Which broker an event is of, and which link it takes from.
-ghost use Rattle.std.specs.Prelude.{◌≡◌, None};
+ghost use Rattle.std.specs.Prelude.{◌≡◌, None, Some};
 ghost use Rattle.world.specs.Steps.{place_at};
 ghost use Rattle.script_text.specs.Scenario.{IsEvent};
+ghost use Rattle.links.specs.declared.name.LinkName.TheVariants as link;
 ghost use Rattle.links.specs.declared.name.Node.TheVariants as node;
 ghost use Rattle.world_kept.specs.Events.{IsBrokers};
 
@@ -36,46 +37,62 @@ pub(crate) fn place_of(scenario: &Scenario, event: &Event) -> Place
     ensures { result ≡ place_at scenario.now.setup event.now }
 {
     match *event {
-        Event::Serve { cluster, client } => Place {
-            topic: scenario.clients()[client as usize].topic(),
-            cluster,
-            takes: Some(LinkName::ToBroker { client, cluster }),
-        },
+        Event::Serve { cluster, client } => {
+            let topic = scenario.clients()[client as usize].topic();
+            taking(topic, cluster, LinkName::ToBroker { client, cluster })
+        }
         Event::Drop { cluster, client } => at(scenario.clients()[client as usize].topic(), cluster),
         Event::Take {
             topic,
             source,
             target,
             ..
-        } => Place {
-            topic,
-            cluster: target,
-            takes: Some(LinkName::Forward {
-                topic,
-                source,
-                target,
-            }),
-        },
+        } => taking(topic, target, forward(topic, source, target)),
         Event::Receipt {
             topic,
             source,
             target,
             ..
-        } => Place {
-            topic,
-            cluster: source,
-            takes: Some(LinkName::Back {
-                topic,
-                source,
-                target,
-            }),
-        },
+        } => taking(topic, source, back(topic, source, target)),
         Event::Reset { topic, source, .. } | Event::Read { topic, source, .. } => at(topic, source),
         Event::Snap { topic, cluster }
         | Event::Offer { topic, cluster, .. }
         | Event::Seek { topic, cluster, .. }
         | Event::Restart { topic, cluster } => at(topic, cluster),
         Event::Go { .. } | Event::Get { .. } | Event::Reconnect { .. } => unreachable!(),
+    }
+}
+
+/// The link from a cluster's broker to another's.
+fn forward(topic: u32, source: u32, target: u32) -> LinkName
+    ensures { result ≡ link.Forward topic source target }
+{
+    LinkName::Forward {
+        topic,
+        source,
+        target,
+    }
+}
+
+/// The link on which the answers come back.
+fn back(topic: u32, source: u32, target: u32) -> LinkName
+    ensures { result ≡ link.Back topic source target }
+{
+    LinkName::Back {
+        topic,
+        source,
+        target,
+    }
+}
+
+/// An event that takes from a link.
+fn taking(topic: u32, cluster: u32, link: LinkName) -> Place
+    ensures { result ≡ record { topic = topic; cluster = cluster; takes = Some link } }
+{
+    Place {
+        topic,
+        cluster,
+        takes: Some(link),
     }
 }
 
