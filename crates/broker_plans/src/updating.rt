@@ -16,11 +16,12 @@ use crate::marking::{appending, own_marker};
 use broker_state::{Book, BookWrite, Prepared};
 use broker_subs::{Sub, SubWrite};
 use cursor_acks::Cursor;
-use geo_base::{EntryStore, Memory, Sequence, Targets};
+use geo_base::{EntryStore, Memory, Sequence, SubName, Targets};
 use snapshot_cache::SnapshotCache;
 use std::alloc::Global;
 
-/// The update that follows a write of the cursor of the subscription at a place, which has these snapshots then.
+/// The update that follows a write of the cursor of the subscription at a place, which has these snapshots then. The cursor is
+/// copied, to see how far it comes, only where there is a snapshot that it may pass.
 pub fn update_after(
     alloc: Global,
     book: &Book,
@@ -34,8 +35,11 @@ pub fn update_after(
     ensures { IfOk result (λ o. o ≡ update_after book.now.site book.now.broker place write.now cache.now) }
 {
     let sub = sub_at(book, place);
+    if !sub.is_replicated() || cache.is_empty() {
+        return Ok(None);
+    }
     let mark = mark_after(alloc, sub, write, book.store())?;
-    update_at(alloc, book, sub, mark, cache)
+    update_at(alloc, book, sub.name(), mark, cache)
 }
 
 /// An event that begins with a write of the cursor of the subscription at a place and the update that follows it, with room for
@@ -112,25 +116,22 @@ fn acks_needed(write: &SubWrite) -> usize
     }
 }
 
-/// The write of the update that tells the other clusters of a subscription whose mark-delete has come so far, if it is replicated
-/// and passes one of these snapshots.
+/// The write of the update that tells the other clusters of a replicated subscription whose mark-delete has come so far, if it
+/// passes one of these snapshots.
 fn update_at(
     alloc: Global,
     book: &Book,
-    sub: &Sub,
+    name: &SubName,
     mark: u64,
     cache: &SnapshotCache,
 ) -> Result<Option<BookWrite>, Memory>
     requires number { MarkerFits book.now.site book.now.broker }
-    ensures { IfOk result (λ o. o ≡ update_at book.now.site book.now.broker sub.now.sub.name sub.now.sub.replicated mark cache.now) }
+    ensures { IfOk result (λ o. o ≡ update_at book.now.site book.now.broker name.now true mark cache.now) }
 {
-    if !sub.is_replicated() {
-        return Ok(None);
-    }
     match cache.passed(mark) {
         None => Ok(None),
         Some(cut) => {
-            let marker = sub_update::make(alloc, sub.name(), cut)?;
+            let marker = sub_update::make(alloc, name, cut)?;
             let names = Sequence::new(alloc);
             let entry = own_marker(alloc, book, marker, Targets::All, names)?;
             Ok(Some(appending(alloc, entry)?))

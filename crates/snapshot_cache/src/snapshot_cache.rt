@@ -1,5 +1,5 @@
 //! The cache of a subscription.
-ghost use Rattle.std.specs.Prelude.{◌≡◌, ◌≤◌, ◌<◌, ◌+◌, ◌^◌, [], ◌++◌, nat_lt, if◌then◌else◌, drop, IfOk, OnOk};
+ghost use Rattle.std.specs.Prelude.{◌≡◌, ◌↔◌, ◌≤◌, ◌<◌, ◌+◌, ◌^◌, [], ◌++◌, nat_lt, if◌then◌else◌, drop, IfOk, IsTrue, OnOk};
 ghost use Rattle.std.specs.Option.{option_copied};
 ghost use Rattle.std.specs.VecDeque.{deque_capacity, deque_len};
 ghost use Rattle.geo_base.specs.Cache.{cached, last_passed, not_passed};
@@ -72,6 +72,13 @@ impl SnapshotCache {
             return None;
         }
         Some(&self.items[count - 1].cut)
+    }
+
+    /// Whether no snapshot is kept.
+    pub fn is_empty(&self) -> bool
+        ensures { IsTrue result ↔ (self.now ≡ []) }
+    {
+        self.items.is_empty()
     }
 
     /// No snapshot is kept: what a seek and a restart leave.
