@@ -58,7 +58,7 @@ fn too_long_is_above_the_limit(rt: HostRuntime) -> Result<(), Fail> {
     for (max, len) in [(3, None), (4, Some(4)), (5, Some(4)), (0, None)] {
         let mut source = MemSource::new(rt.alloc(), b"abcd", 2, &[])?;
         match read_all(rt.alloc(), &mut source, max) {
-            Ok(bytes) => assert_eq!(rt; Some(bytes.len()), len, "max {max}"),
+            Ok(bytes) => assert_eq!(rt; Some(bytes.as_slice().len()), len, "max {max}"),
             Err(fault) => {
                 assert_eq!(rt; fault, ReadFault::TooLong, "max {max}");
                 assert_eq!(rt; None, len, "max {max}");
@@ -67,7 +67,7 @@ fn too_long_is_above_the_limit(rt: HostRuntime) -> Result<(), Fail> {
     }
     let mut source = MemSource::new(rt.alloc(), b"", 1, &[])?;
     let bytes = read_all(rt.alloc(), &mut source, 0)?;
-    assert!(rt; bytes.is_empty());
+    assert!(rt; bytes.as_slice().is_empty());
     Ok(())
 }
 

@@ -13,11 +13,10 @@
 //! - [`MemSource`] and [`MemSink`] are for tests: they move few bytes in a call and fail at stated
 //!   calls.
 //!
-//! Want of memory is [`Memory`], as everywhere. The traits and their rules are this project's
+//! Bytes that are read are a [`geo_base::Blob`], want of memory is [`geo_base::Memory`], as everywhere. The traits and their rules are this project's
 //! own, after `std::io::{Read, Write}`.
 #![tactic(auto)]
 
-mod byte_buf;
 mod fault;
 mod mem_sink;
 mod mem_source;
@@ -28,7 +27,6 @@ mod std_ends;
 mod steady;
 mod whole;
 
-pub use byte_buf::ByteBuf;
 pub use fault::Failed;
 pub use mem_sink::MemSink;
 pub use mem_source::MemSource;

@@ -5,11 +5,10 @@ ghost use Rattle.geo_io.specs.Faults.{Rose, Stood};
 ghost use Rattle.geo_io.specs.Source.{ConsumesWithin, GivesOver, GivesSome, LongerThan};
 ghost use Rattle.geo_io.specs.Sink.{Gains};
 
-use crate::byte_buf::ByteBuf;
 use crate::fault::Failed;
 use crate::sink::Sink;
 use crate::source::Source;
-use geo_base::Memory;
+use geo_base::{Blob, Memory};
 use std::alloc::Global;
 use std::error::Error;
 use std::fmt;
@@ -70,7 +69,7 @@ const CHUNK: usize = 16_384;
 /// Reads all bytes to the end of the input, `max` at most. `Failed` comes only where the source
 /// failed in this call, `TooLong` exactly where more than `max` bytes came, and `Memory` only where no
 /// more than `max` did and the source did not fail.
-pub fn read_all<S: Source>(alloc: Global, source: &mut S, max: usize) -> Result<ByteBuf, ReadFault>
+pub fn read_all<S: Source>(alloc: Global, source: &mut S, max: usize) -> Result<Blob, ReadFault>
     // On Ok these are all the bytes that were left, those that the source gave, and they are at most `max`.
     ensures whole { IfOk result (λ bytes. IfSome (S.left source.old) (λ input. bytes ≡ input)) }
     ensures given { IfOk result (S.given source.old source.new) }
@@ -91,17 +90,17 @@ pub fn read_all<S: Source>(alloc: Global, source: &mut S, max: usize) -> Result<
         (λ fault. fault ≢ ReadFault.Failed → Stood (S.faults source.old) (S.faults source.new)) }
     ensures later { S.faults source.old ≤ S.faults source.new }
 {
-    let mut bytes = ByteBuf::new(alloc);
+    let mut bytes = Blob::new(alloc);
     let mut chunk = [0u8; CHUNK];
     loop {
         let n = source.read(&mut chunk)?;
         if n == 0 {
             return Ok(bytes);
         }
-        if n > max - bytes.len() {
+        if n > max - bytes.as_slice().len() {
             return Err(ReadFault::TooLong);
         }
-        bytes.extend_from_slice(&chunk[..n])?;
+        bytes.append(&chunk[..n])?;
     }
 }
 

@@ -4,8 +4,8 @@ ghost use Rattle.geo_io.specs.Faults.{Rose, Stood, one_more};
 ghost use Rattle.tier_store.specs.Kept.{IsRead, KeepsAll, MayPut, Puts, kept_in};
 
 use crate::tier::{Failed, Held, Tier, TierGet};
-use geo_base::Memory;
-use geo_io::{ByteBuf, PlannedFaults};
+use geo_base::{Blob, Memory};
+use geo_io::PlannedFaults;
 use std::alloc::Global;
 use std::collections::BTreeMap;
 use std::marker::Model;
@@ -14,7 +14,7 @@ use std::marker::Model;
 #[derive(Debug, Drop)]
 pub struct MemTier {
     alloc: Global,
-    kept: BTreeMap<u64, ByteBuf>,
+    kept: BTreeMap<u64, Blob>,
     plan: PlannedFaults,
 }
 
@@ -72,7 +72,7 @@ impl Tier for MemTier {
         if self.plan.next_fails() {
             return Err(Failed);
         }
-        match copy_of(self.alloc, bytes) {
+        match Blob::from_slice(self.alloc, bytes) {
             Ok(copy) => match self.kept.insert(ledger, copy) {
                 Ok(_) => Ok(()),
                 Err(_) => {
@@ -87,7 +87,7 @@ impl Tier for MemTier {
         }
     }
 
-    fn get(&mut self, ledger: u64, out: &mut ByteBuf) -> Result<Held, TierGet>
+    fn get(&mut self, ledger: u64, out: &mut Blob) -> Result<Held, TierGet>
         ensures ok { IfOk result (IsRead (kept_in self.old ledger) out.old out.new) }
         ensures err { OnErr result (out.new ≡ out.old) }
         ensures kept { KeepsAll (kept_in self.old) (kept_in self.new) }
@@ -104,19 +104,10 @@ impl Tier for MemTier {
         }
         match self.kept.get(&ledger) {
             Some(bytes) => {
-                out.extend_from_slice(bytes.as_slice())?;
+                out.append(bytes.as_slice())?;
                 Ok(Held::Yes)
             }
             None => Ok(Held::No),
         }
     }
-}
-
-/// A copy of bytes.
-fn copy_of(alloc: Global, bytes: &[u8]) -> Result<ByteBuf, Memory>
-    ensures { IfOk result (λ b. b ≡ bytes.now) }
-{
-    let mut copy = ByteBuf::new(alloc);
-    copy.extend_from_slice(bytes)?;
-    Ok(copy)
 }

@@ -13,7 +13,6 @@ use crate::fault::{OffloadFault, TierFault};
 use crate::part::{Part, Recalled};
 use geo_base::limits::CLUSTERS;
 use geo_base::{Blob, ClusterName, Entry, EntryStore, Memory, Sequence};
-use geo_io::ByteBuf;
 use ledger_texts::{put_ledger, read_ledger};
 use state_items::ItemFault;
 use std::alloc::Global;
@@ -204,7 +203,7 @@ impl<T: Tier + Drop> TieredLedger<T> {
         ensures calls { OnOk result (T.calls self.new.tier ≡ one_more (T.calls self.old.tier)) }
         ensures value { self.new ≡ record self.old { tier = self.new.tier } }
     {
-        let mut bytes = ByteBuf::new(alloc);
+        let mut bytes = Blob::new(alloc);
         match self.tier.get(ledger, &mut bytes)? {
             Held::Yes => match read_ledger(alloc, names, bytes.as_slice()) {
                 Ok(entries) => Ok(Sequence::from_vec(entries)),

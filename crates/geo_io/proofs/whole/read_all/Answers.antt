@@ -11,17 +11,17 @@ returns-then-n-max-clause-rest g c = (
   Consumes-more _ _ _ _ _ c.loop-bytes.invariant.so_far c.in_ok-n.ensures.bytes.0,
 )
 
-pub returns-in_err-extend_from_slice-clause-rest : goal.returns-in_err-extend_from_slice-clause-rest
-returns-in_err-extend_from_slice-clause-rest g c =
-    OnErr-from c.from_residual-in_err-extend_from_slice.result (
+pub returns-in_err-append-clause-rest : goal.returns-in_err-append-clause-rest
+returns-in_err-append-clause-rest g c =
+    OnErr-from c.from_residual-in_err-append.result (
       c.loop-bytes.bytes ++ take c.in_ok-n.n c.read.new.buf,
       g.met.S.Source.given_more c.args.source.now c.loop-bytes.source c.read.new.self _ _ c.loop-bytes.invariant.given c.in_ok-n.ensures.given,
       Consumes-more _ _ _ _ _ c.loop-bytes.invariant.so_far c.in_ok-n.ensures.bytes.0,
     )
 
-pub returns-in_err-extend_from_slice-clause-memory : goal.returns-in_err-extend_from_slice-clause-memory
-returns-in_err-extend_from_slice-clause-memory g c = λ _.
-    let room : c.in_ok-n.n ≤ c.args.max - length c.loop-bytes.bytes = grind (arith, nat_tests, c.if-n-max.false, c.len.ensures) in (
+pub returns-in_err-append-clause-memory : goal.returns-in_err-append-clause-memory
+returns-in_err-append-clause-memory g c = λ _.
+    let room : c.in_ok-n.n ≤ c.args.max - length c.loop-bytes.bytes = grind (arith, nat_tests, c.if-n-max.false, c.as_slice.ensures) in (
       c.loop-bytes.bytes ++ take c.in_ok-n.n c.read.new.buf,
       Consumes-more _ _ _ _ _ c.loop-bytes.invariant.so_far c.in_ok-n.ensures.bytes.0,
       within c.loop-bytes.bytes c.read.new.buf c.in_ok-n.n c.args.max c.loop-bytes.invariant.short room,
@@ -45,7 +45,7 @@ returns-then-n-eq0-clause-given g c =
 
 pub returns-then-n-max-clause-over : goal.returns-then-n-max-clause-over
 returns-then-n-max-clause-over g c = λ _.
-    let more : c.args.max - length c.loop-bytes.bytes < c.in_ok-n.n = grind (arith, nat_tests, c.if-n-max.true, c.len.ensures) in (
+    let more : c.args.max - length c.loop-bytes.bytes < c.in_ok-n.n = grind (arith, nat_tests, c.if-n-max.true, c.as_slice.ensures) in (
       c.loop-bytes.bytes ++ take c.in_ok-n.n c.read.new.buf,
       g.met.S.Source.given_more c.args.source.now c.loop-bytes.source c.read.new.self _ _ c.loop-bytes.invariant.given c.in_ok-n.ensures.given,
       Consumes-more _ _ _ _ _ c.loop-bytes.invariant.so_far c.in_ok-n.ensures.bytes.0,
