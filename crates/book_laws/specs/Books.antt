@@ -9,18 +9,14 @@ use Rattle.geo_base.specs.NodeState.{NodeState, acts, takes_from}
 use Rattle.geo_base.specs.Nodes.{Node, is_event, is_peer, node_count, node_number, node_of}
 use Rattle.geo_base.specs.Scripted.{IsScripted}
 use Rattle.geo_base.specs.Setup.{Setup}
-use Rattle.frame_laws.specs.BytePackets.{BytePacket, StandsForPacket}
+use Rattle.frame_laws.specs.BytePackets.{StandsForPacket}
 use Rattle.frame_values.specs.Coded.{IsWritten}
 use Rattle.wire_ends.specs.declared.packet.WirePacket.{WirePacket}
 use Rattle.world_laws.specs.ByteHistories.{ByteEvent, ByteSent, IsBook, TakenStands}
 
--- a packet as it crosses a link
-abbrev pub byte_packet : WirePacket → BytePacket
-byte_packet p = record { session = p.session; stamp = p.stamp; frame = p.frame }
-
--- it stands for one of the machine; names are those of the clusters
+-- a packet as it crosses a link stands for one of the machine; names are those of the clusters
 abbrev pub StandsAs : List (List ℕ) → WirePacket → Packet → Type 0
-StandsAs names b p = StandsForPacket names (byte_packet b) p
+StandsAs names b p = StandsForPacket names b p
 
 -- the history of a node that keeps such packets: it stands for one of values that replays to this state and this last stamp
 abbrev pub IsBookOf : Setup → ℕ → List (ByteEvent WirePacket) → NodeState → ℕ → Type 0

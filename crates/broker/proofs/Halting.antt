@@ -6,7 +6,7 @@ use Rattle.geo_base.specs.Broker.{Broker, Site, written}
 use Rattle.broker_subs.specs.Table.{names_of, room_at}
 use Rattle.broker_subs.specs.declared.writing.SubWrite.TheVariants as sub_write
 use Rattle.broker_state.specs.Fits.{AllWritesFit, NamedFits, WritesNamed, names_after}
-use Rattle.broker_state.specs.Prepared.{PreparedBook, halted_book, name_in, name_of}
+use Rattle.broker_state.specs.Plan.{PlanBook, halted_book, name_in, name_of}
 use Rattle.broker_state.specs.Room.{AllAcksFit, HasRoom, Room, acks_left, entries_of, places_of, senders_of, streams_of, total}
 use Rattle.broker_state.specs.Writes.{machine_write}
 use Rattle.broker_state.specs.declared.change.BookChange.TheVariants as book_change
@@ -14,7 +14,7 @@ use Rattle.broker_state.specs.declared.write.BookWrite.{BookWrite}
 use Rattle.broker_state.specs.declared.write.BookWrite.TheVariants as book_write
 use Rattle.broker_state.proofs.Halts.{same_name}
 use Rattle.broker_plans.specs.Storable.{WritesStorable}
-use Rattle.broker.specs.Node.{IsReady, NodeBook}
+use Rattle.broker.specs.Node.{IsReady, BrokerBook}
 
 -- the first k writes, and the ledger that opens
 abbrev pub halted_writes : ℕ → List BookWrite → List BookWrite
@@ -50,7 +50,7 @@ writes_fit_too per n es place b (suc k) [] ok = (tt, tt)
 writes_fit_too per n es place b (suc k) (w ∷ ws) ok = (ok.0, writes_fit_too per n es place (written per b (machine_write n es w)) k ws ok.1)
 
 -- the stop of an event about the subscription at a place
-abbrev halted_at : ℕ → ℕ → List BookWrite → PreparedBook
+abbrev halted_at : ℕ → ℕ → List BookWrite → PlanBook
 halted_at place k ws = record { idle = false; sub = place; writes = halted_writes k ws; changes = book_change.Forget ∷ []; sent = [] }
 
 -- a ledger alone fits under any name; behind the first write at least, the stop is about the event's subscription
@@ -104,7 +104,7 @@ acks_too acks (suc k) [] ok = (tt, tt)
 acks_too acks (suc k) (w ∷ ws) ok = (ok.0, acks_too (acks_left acks w) k ws ok.1)
 
 -- each write that stays takes an entry or a ledger at most, and the ledger that opens one more
-room_too : (old new : Room) (k n : ℕ) (p : PreparedBook) → HasRoom old p → n ≡ min (length p.writes) k + 1 → n ≤ new.entries → n ≤ new.streams
+room_too : (old new : Room) (k n : ℕ) (p : PlanBook) → HasRoom old p → n ≡ min (length p.writes) k + 1 → n ≤ new.entries → n ≤ new.streams
     → new ≡ record old { entries = new.entries; streams = new.streams } → HasRoom new (halted_book k p)
 room_too old new k n p room count entries streams rest =
     let e : total entries_of (halted_writes k p.writes) ≤ new.entries = omega (arith, few_each entries_of one_entry k p.writes) in
@@ -121,7 +121,7 @@ room_too old new k n p room count entries streams rest =
       senders = omega (arith, few_too senders_of k p.writes, room.senders);
     })
 
-pub halted_ready : (v w : NodeBook) (k n : ℕ) (p : PreparedBook) → IsReady v p → n ≡ min (length p.writes) k + 1 → n ≤ w.room.entries → n ≤ w.room.streams
+pub halted_ready : (v w : BrokerBook) (k n : ℕ) (p : PlanBook) → IsReady v p → n ≡ min (length p.writes) k + 1 → n ≤ w.room.entries → n ≤ w.room.streams
     → w.room ≡ record v.room { entries = w.room.entries; streams = w.room.streams } → w.broker ≡ v.broker → w.site ≡ v.site → IsReady w (halted_book k p)
 halted_ready v w k n p is count entries streams rest broker site = record {
   room = room_too v.room w.room k n p is.room count entries streams rest;

@@ -14,7 +14,7 @@ use Rattle.frame_values.proofs.One.{value_one}
 use Rattle.frame_laws.specs.BytePackets.{StandsForPacket, bare_packet}
 use Rattle.frame_laws.proofs.Bare.{receipt_bare, serve_bare, take_bare}
 use Rattle.wire_ends.specs.declared.packet.WirePacket.{WirePacket}
-use Rattle.broker_state.specs.Prepared.{PreparedBook}
+use Rattle.broker_state.specs.Plan.{PlanBook}
 use Rattle.broker_plans.specs.Prepared.{IsPrepared}
 use Rattle.broker.specs.Events.{plan_at}
 use Rattle.broker.specs.Input.{IsSaid, ReadsInput, ReadsPacket, StandsForInput}
@@ -55,7 +55,7 @@ read_plan h names b e (Some k) (Some q) None reads stands = absurd stands
 read_plan h names b e (Some k) (Some q) (Some p) reads stands =
     rw (is_bare h.clusters k q p reads stands) (bare_plan h names b e p)
 
-pub prepared_for : (h : Site) (names : List (List ℕ)) (b : Broker) (e : Event) (i : Option WirePacket) (q v : Option Packet) (p : PreparedBook) (r : Result (Unit {0}) Memory)
+pub prepared_for : (h : Site) (names : List (List ℕ)) (b : Broker) (e : Event) (i : Option WirePacket) (q v : Option Packet) (p : PlanBook) (r : Result (Unit {0}) Memory)
     → ReadsInput h.clusters i q → StandsForInput h.clusters i v → OnOk r (IsPrepared h b (plan_at h names b e q) p) → OnOk r (IsPrepared h b (plan_at h names b e v) p)
 prepared_for h names b e i q v p (Ok u) reads stands is = subst (λ (plan : Plan). IsPrepared h b plan p) (read_plan h names b e i q v reads stands) is
 prepared_for h names b e i q v p (Err m) reads stands is = tt

@@ -8,13 +8,13 @@ use Rattle.durable_parts.specs.declared.durable.Durable.{Durable}
 use Rattle.durable_parts.specs.declared.durable.DurableSub.{DurableSub}
 use Rattle.durable_parts.specs.Durable.{broker_of, durable_part}
 use Rattle.durable_parts.specs.Parts.{sub_of, subs_of}
-use Rattle.broker_state.specs.Book.{BrokerBook, no_room}
+use Rattle.broker_state.specs.State.{StateBook, no_room}
 use Rattle.broker_plans.specs.Storable.{AreStorable}
 use Rattle.broker.specs.Node.{IsDurableOf, NodeHolds}
 use Rattle.broker.proofs.Keeps.{HasSnapshots}
 
 -- an empty topic
-pub new_holds : (h : Site) (clients : ℕ) (b : BrokerBook) → 2 ≤ length h.clusters → b ≡ record { site = h; broker = new_broker (length h.clusters) clients; room = no_room } → NodeHolds b
+pub new_holds : (h : Site) (clients : ℕ) (b : StateBook) → 2 ≤ length h.clusters → b ≡ record { site = h; broker = new_broker (length h.clusters) clients; room = no_room } → NodeHolds b
 new_holds h clients b several is = rw is (record { several = several; writable = record { entries = tt; caches = tt; builder = tt } })
 
 -- what survives
@@ -22,7 +22,7 @@ lengths : {X Y : Type 0} (f : X → Y) (xs : List X) → length (map f xs) ≡ l
 lengths f [] = refl
 lengths f (x ∷ xs) = ap suc (lengths f xs)
 
-pub durable_is : (b : BrokerBook) (d : Durable) → NodeHolds b → length b.broker.senders ≡ length b.site.clusters → broker_of d ≡ durable_part b.broker → d.own ≡ b.site.own → d.store.per_ledger ≡ b.site.per_ledger
+pub durable_is : (b : StateBook) (d : Durable) → NodeHolds b → length b.broker.senders ≡ length b.site.clusters → broker_of d ≡ durable_part b.broker → d.own ≡ b.site.own → d.store.per_ledger ≡ b.site.per_ledger
     → IsDurableOf b.site d
 durable_is b d holds many is own per = record {
   own = own;
@@ -36,7 +36,7 @@ no_snapshots h [] = tt
 no_snapshots h (d ∷ ds) = (tt, no_snapshots h ds)
 
 -- what it is again
-pub restored_holds : (h : Site) (d : Durable) (ds : List DurableSub) (clients : ℕ) (b : BrokerBook) → 2 ≤ length h.clusters → IsDurableOf h d → subs_of ds ≡ d.subs
+pub restored_holds : (h : Site) (d : Durable) (ds : List DurableSub) (clients : ℕ) (b : StateBook) → 2 ≤ length h.clusters → IsDurableOf h d → subs_of ds ≡ d.subs
     → b.broker ≡ record (broker_of d) { receivers = replicate (length d.senders) None; sessions = replicate clients None } → b.site ≡ h → NodeHolds b
 restored_holds h d ds clients b several of subs is site = record {
   several = rw site several;

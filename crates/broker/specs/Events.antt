@@ -15,7 +15,7 @@ use Rattle.geo_base.specs.Setup.{Setup, declared_at, sub_names}
 use Rattle.geo_base.specs.Topic.{next_marker}
 use Rattle.geo_base.specs.World.{site}
 use Rattle.broker_offers.specs.Seeking.{SeekFits}
-use Rattle.broker.specs.Node.{NodeBook}
+use Rattle.broker.specs.Node.{BrokerBook}
 
 -- the name that an event's number of a subscription stands for; past the end it is empty, which no subscription's name is
 abbrev pub name_at : List (List ℕ) → ℕ → List ℕ
@@ -38,28 +38,28 @@ plan_at h names b (event.Go c) p = idle_plan
 plan_at h names b (event.Get c) p = idle_plan
 plan_at h names b (event.Reconnect c) p = idle_plan
 
-abbrev pub plan_at_node : NodeBook → Event → Option Packet → Plan
+abbrev pub plan_at_node : BrokerBook → Event → Option Packet → Plan
 plan_at_node v e p = plan_at v.site v.names v.broker e p
 
 -- ---- whose event it is
 
 -- at this broker: of its topic at its cluster
-pub record IsHere (v : NodeBook) (t x : ℕ) : Type 0 where
+pub record IsHere (v : BrokerBook) (t x : ℕ) : Type 0 where
   pub topic : t ≡ v.topic
   pub cluster : x ≡ v.site.own
 
 -- at this broker, with another cluster's number
-pub record IsLink (v : NodeBook) (t x y : ℕ) : Type 0 where
+pub record IsLink (v : BrokerBook) (t x y : ℕ) : Type 0 where
   pub here : IsHere v t x
   pub other : y < length v.site.clusters
 
 -- of a client and this broker
-pub record IsClients (v : NodeBook) (x c : ℕ) : Type 0 where
+pub record IsClients (v : BrokerBook) (x c : ℕ) : Type 0 where
   pub cluster : x ≡ v.site.own
   pub client : c < length v.broker.sessions
 
 -- An event of this broker, whose numbers of clusters and clients are in range.
-abbrev pub IsOfNode : NodeBook → Event → Type 0
+abbrev pub IsOfNode : BrokerBook → Event → Type 0
 IsOfNode v (event.Serve x c) = IsClients v x c
 IsOfNode v (event.Drop x c) = IsClients v x c
 IsOfNode v (event.Reset t x y) = IsLink v t x y
@@ -116,20 +116,20 @@ MarkerRises h b e = ⊤
 
 -- The numbers that an event raises still have room to rise: that of a session which begins, the count of a subscription's seeks,
 -- and the number of the cluster's next own marker.
-pub record NumbersRise (v : NodeBook) (e : Event) : Type 0 where
+pub record NumbersRise (v : BrokerBook) (e : Event) : Type 0 where
   pub session : SessionRises v.broker e
   pub seeks : SeekRises v.names v.broker e
   pub marker : MarkerRises v.site v.broker e
 
 -- it is the broker's, and its numbers have room to rise
-pub record CanHappen (v : NodeBook) (e : Event) : Type 0 where
+pub record CanHappen (v : BrokerBook) (e : Event) : Type 0 where
   pub node : IsOfNode v e
   pub numbers : NumbersRise v e
 
 -- ---- the broker of a setup
 
 -- the broker of topic t at cluster x of a setup
-pub record IsNodeOf (s : Setup) (t x : ℕ) (v : NodeBook) : Type 0 where
+pub record IsNodeOf (s : Setup) (t x : ℕ) (v : BrokerBook) : Type 0 where
   pub topic : v.topic ≡ t
   pub site : v.site ≡ site s t x
   pub names : v.names ≡ sub_names s t

@@ -3,13 +3,13 @@ ghost use Rattle.std.specs.Prelude.{◌≡◌, IfOk, OnErr, OnOk, Option};
 ghost use Rattle.std.specs.Option.{option_copied};
 ghost use Rattle.geo_base.specs.declared.packet.Packet.{Packet};
 ghost use Rattle.geo_base.specs.Plan.{done, halted};
-ghost use Rattle.broker_state.specs.Prepared.{IsEmptyPlan, plan_in};
+ghost use Rattle.broker_state.specs.Plan.{IsEmptyPlan, plan_in};
 ghost use Rattle.broker.specs.Events.{IsOfNode, NumbersRise, plan_at_node};
 ghost use Rattle.broker.specs.Input.{StandsForInput};
 ghost use Rattle.broker.specs.Node.{IsDone, IsReady, SameNode};
 
-use crate::node::TopicNode;
-use broker_state::Prepared;
+use crate::broker::Broker;
+use broker_state::Plan;
 use geo_base::{Event, Memory, WireOut};
 use std::alloc::Global;
 use wire_ends::WirePacket;
@@ -21,10 +21,10 @@ pub struct Acted {
     pub sent: Vec<WireOut>,
 }
 
-impl TopicNode {
+impl Broker {
     /// Does what was prepared: its durable writes in order, and then its changes in memory. It takes no memory and can't fail. The
     /// plan is empty then.
-    pub fn commit(&mut self, plan: &mut Prepared)
+    pub fn commit(&mut self, plan: &mut Plan)
         requires { IsReady self.old plan.old }
         ensures broker { self.new.broker ≡ done self.old.site.per_ledger self.old.broker (plan_in self.old.broker plan.old) }
         ensures node { SameNode self.old self.new }
@@ -49,7 +49,7 @@ impl TopicNode {
         ensures err { OnErr result (self.new.broker ≡ self.old.broker) }
         ensures node { SameNode self.old self.new }
     {
-        let mut plan = Prepared::new(alloc);
+        let mut plan = Plan::new(alloc);
         self.prepare(alloc, event, input, &mut plan)?;
         let idle = plan.is_idle();
         let sent = plan.take_sent(alloc);
@@ -73,7 +73,7 @@ impl TopicNode {
         ensures err { OnErr result (self.new.broker ≡ self.old.broker) }
         ensures node { SameNode self.old self.new }
     {
-        let mut plan = Prepared::new(alloc);
+        let mut plan = Plan::new(alloc);
         self.prepare(alloc, event, input, &mut plan)?;
         self.prepare_stop(writes, &mut plan)?;
         self.commit(&mut plan);
@@ -81,7 +81,7 @@ impl TopicNode {
     }
 
     /// The stop, as an event of its own. Only room is made, for the writes that stay and the ledger that opens.
-    fn prepare_stop(&mut self, writes: u32, plan: &mut Prepared) -> Result<(), Memory>
+    fn prepare_stop(&mut self, writes: u32, plan: &mut Plan) -> Result<(), Memory>
         requires { IsReady self.old plan.old }
         ensures halted { OnOk result (done self.old.site.per_ledger self.old.broker (plan_in self.old.broker plan.new) ≡ halted self.old.site.per_ledger self.old.broker writes (plan_in self.old.broker plan.old)) }
         ensures ready { OnOk result (IsReady self.new plan.new) }

@@ -3,7 +3,7 @@ ghost use Rattle.std.specs.Prelude.{◌↔◌, IsTrue};
 ghost use Rattle.broker_offers.specs.Seeking.{SeekFits};
 ghost use Rattle.broker.specs.Events.{CanHappen, HasNextMarker, IsClients, IsHere, IsLink, IsOfNode, MarkerRises, SeekRises, SessionRises};
 
-use crate::node::TopicNode;
+use crate::broker::Broker;
 use crate::preparing::name_at;
 use broker_plans::{place_named, sub_at};
 use geo_base::Event;
@@ -11,7 +11,7 @@ use geo_base::Event;
 /// How far a session's number may rise.
 const SESSIONS: u64 = 9_223_372_036_854_775_808;
 
-impl TopicNode {
+impl Broker {
     /// Whether an event is one of this broker, with its numbers of clusters and clients in range, and the numbers that it raises
     /// still have room to rise. Every event of a run has.
     pub fn accepts(&self, event: &Event) -> bool

@@ -5,14 +5,14 @@
 //! done is the machine's plan of the event, for each packet that the bytes stand for.
 #![tactic(auto)]
 
+mod broker;
 mod committing;
 mod judging;
 mod law;
-mod node;
 mod preparing;
 mod reading;
 mod starting;
 
+pub use broker::Broker;
 pub use committing::Acted;
 pub use law::law_node_plan;
-pub use node::TopicNode;

@@ -3,8 +3,8 @@ ghost use Rattle.std.specs.Prelude.{◌≡◌, ◌≤◌, IfSome, List, OnOk, Op
 ghost use Rattle.std.specs.Option.{option_copied};
 ghost use Rattle.geo_base.specs.declared.packet.Packet.{Packet};
 ghost use Rattle.geo_base.specs.Plan.{idle_plan};
-ghost use Rattle.broker_state.specs.Book.{SameState};
-ghost use Rattle.broker_state.specs.Prepared.{IsEmptyPlan};
+ghost use Rattle.broker_state.specs.State.{SameState};
+ghost use Rattle.broker_state.specs.Plan.{IsEmptyPlan};
 ghost use Rattle.broker_state.specs.Room.{HasRoom, Room};
 ghost use Rattle.broker_plans.specs.Prepared.{IsPrepared};
 ghost use Rattle.broker_plans.specs.Storable.{IsReadFrame, IsWritable};
@@ -12,18 +12,18 @@ ghost use Rattle.broker.specs.Events.{IsInRange, IsOfNode, MarkerRises, NumbersR
 ghost use Rattle.broker.specs.Input.{IsSaid, StandsForInput};
 ghost use Rattle.broker.specs.Node.{IsReady, SameNode};
 
-use crate::node::TopicNode;
+use crate::broker::Broker;
 use crate::reading::read_input;
 use broker_links::{prepare_receipt, prepare_reset, prepare_take};
 use broker_offers::{prepare_offer, prepare_restart, prepare_seek};
 use broker_reading::{prepare_read, prepare_snap};
 use broker_serving::{prepare_drop, prepare_serve};
-use broker_state::{Book, Prepared};
+use broker_state::{BrokerState, Plan};
 use geo_base::{Event, Memory, Packet, SubName};
 use std::alloc::Global;
 use wire_ends::WirePacket;
 
-impl TopicNode {
+impl Broker {
     /// What an event will do, with the next packet of the link that it takes from, whatever its bytes are: it fills a plan. All memory
     /// is taken here; an `Err` is want of it, and then the plan is given up, for its owner to clear. The state is as it was.
     #[tactic(auto, using(crate::proofs::Inputs::prepared_for, crate::proofs::Inputs::said_for, crate::proofs::Prepares::ready_for, crate::proofs::Prepares::same_holds))]
@@ -32,7 +32,7 @@ impl TopicNode {
         alloc: Global,
         event: &Event,
         input: Option<&WirePacket>,
-        plan: &mut Prepared,
+        plan: &mut Plan,
     ) -> Result<(), Memory>
         requires node { IsOfNode self.old event.now }
         requires numbers { NumbersRise self.old event.now }
@@ -54,11 +54,11 @@ impl TopicNode {
 #[tactic(auto, using(crate::proofs::Ready::idle_prepared, crate::proofs::Ready::idle_room, crate::proofs::Prepares::can_write))]
 fn prepare(
     alloc: Global,
-    book: &mut Book,
+    book: &mut BrokerState,
     names: &[SubName],
     event: &Event,
     packet: Option<Packet>,
-    plan: &mut Prepared,
+    plan: &mut Plan,
 ) -> Result<(), Memory>
     requires several { 2 ≤ length book.old.site.clusters }
     requires range { IsInRange book.old.site book.old.broker event.now }

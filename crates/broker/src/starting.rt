@@ -3,13 +3,13 @@ ghost use Rattle.std.specs.Prelude.{◌≡◌, ◌≤◌, length, replicate, IfO
 ghost use Rattle.durable_parts.specs.Durable.{broker_of, durable_part};
 ghost use Rattle.broker.specs.Node.{IsDurableOf};
 
-use crate::node::TopicNode;
-use broker_state::{Book, Site};
+use crate::broker::Broker;
+use broker_state::{BrokerState, Site};
 use durable_parts::Durable;
 use geo_base::{Memory, SubName};
 use std::alloc::Global;
 
-impl TopicNode {
+impl Broker {
     /// What survives a stop. An `Err` is want of memory.
     #[tactic(auto, using(crate::proofs::Restarts::durable_is))]
     pub fn durable(&self, alloc: Global) -> Result<Durable, Memory>
@@ -28,7 +28,7 @@ impl TopicNode {
         names: Vec<SubName>,
         durable: Durable,
         clients: usize,
-    ) -> Result<TopicNode, Memory>
+    ) -> Result<Broker, Memory>
         requires durable { IsDurableOf site durable }
         requires clusters { 2 ≤ length site.clusters }
         ensures topic { IfOk result (λ v. v.topic ≡ topic) }
@@ -37,7 +37,7 @@ impl TopicNode {
         ensures broker { IfOk result (λ v. v.broker ≡ record (broker_of durable) { receivers = replicate (length durable.senders) None; sessions = replicate clients None }) }
     {
         let _parts = durable.subs.as_slice();
-        let book = Book::from_durable(alloc, site, durable, clients)?;
-        Ok(TopicNode { topic, names, book })
+        let book = BrokerState::from_durable(alloc, site, durable, clients)?;
+        Ok(Broker { topic, names, book })
     }
 }

@@ -8,7 +8,7 @@ use Rattle.geo_base.specs.Broker.{Broker, Site, sender_at}
 use Rattle.geo_base.specs.Cursor.{with_index}
 use Rattle.geo_base.specs.Forwarding.{receives}
 use Rattle.geo_base.specs.Plan.{idle_plan, plan_of, quiet_plan}
-use Rattle.broker_state.specs.Prepared.{PreparedBook, idle_book, quiet_book}
+use Rattle.broker_state.specs.Plan.{PlanBook, idle_book, quiet_book}
 use Rattle.broker_state.specs.Room.{HasRoom, Room}
 use Rattle.broker_state.specs.declared.change.BookChange.TheVariants as book_change
 use Rattle.broker_state.specs.declared.write.BookWrite.TheVariants as book_write
@@ -16,28 +16,28 @@ use Rattle.broker_plans.specs.Prepared.{IsPrepared}
 
 -- ---- nothing is done
 
-pub idle : (h : Site) (b : Broker) (p : PreparedBook) → p ≡ idle_book → IsPrepared h b idle_plan p
+pub idle : (h : Site) (b : Broker) (p : PlanBook) → p ≡ idle_book → IsPrepared h b idle_plan p
 idle h b p is =
     rw is (record { steps = refl; sent = tt; fits = record { writes_named = tt; changes_named = tt; writes = tt; changes = tt }; stored = record { writes = tt; changes = tt } })
 
-pub quiet : (h : Site) (b : Broker) (p : PreparedBook) → p ≡ quiet_book 0 → IsPrepared h b (quiet_plan []) p
+pub quiet : (h : Site) (b : Broker) (p : PlanBook) → p ≡ quiet_book 0 → IsPrepared h b (quiet_plan []) p
 quiet h b p is =
     rw is (record { steps = refl; sent = tt; fits = record { writes_named = tt; changes_named = tt; writes = tt; changes = tt }; stored = record { writes = tt; changes = tt } })
 
-pub idle_room : (room : Room) (p : PreparedBook) → p ≡ idle_book → HasRoom room p
+pub idle_room : (room : Room) (p : PlanBook) → p ≡ idle_book → HasRoom room p
 idle_room room p is =
     rw is (record { writes = record { entries = omega arith; streams = omega arith; places = omega arith; acks = tt; senders = omega arith }; given = omega arith; senders = omega arith })
 
-pub quiet_room : (room : Room) (p : PreparedBook) → p ≡ quiet_book 0 → HasRoom room p
+pub quiet_room : (room : Room) (p : PlanBook) → p ≡ quiet_book 0 → HasRoom room p
 quiet_room room p is =
     rw is (record { writes = record { entries = omega arith; streams = omega arith; places = omega arith; acks = tt; senders = omega arith }; given = omega arith; senders = omega arith })
 
 -- ---- a session to a cluster begins
 
-abbrev pub begins : ℕ → ℕ → PreparedBook
+abbrev pub begins : ℕ → ℕ → PlanBook
 begins y session = record (quiet_book 0) { writes = book_write.SessionNumber y session ∷ []; changes = book_change.Opening y ∷ [] }
 
-pub begins_prepared : (h : Site) (b : Broker) (y session : ℕ) (p : PreparedBook) → y < length b.senders → p ≡ begins y session
+pub begins_prepared : (h : Site) (b : Broker) (y session : ℕ) (p : PlanBook) → y < length b.senders → p ≡ begins y session
     → IsPrepared h b (plan_of (write.SessionNumber y session ∷ []) (change.Opening y ∷ []) []) p
 begins_prepared h b y session p within is =
     rw is (record {
@@ -52,25 +52,25 @@ begins_prepared h b y session p within is =
       stored = record { writes = tt; changes = tt };
     })
 
-pub begins_room : (room : Room) (y session : ℕ) (p : PreparedBook) → p ≡ begins y session → HasRoom room p
+pub begins_room : (room : Room) (y session : ℕ) (p : PlanBook) → p ≡ begins y session → HasRoom room p
 begins_room room y session p is =
     rw is (record { writes = record { entries = omega arith; streams = omega arith; places = omega arith; acks = (tt, tt); senders = omega arith }; given = omega arith; senders = omega arith })
 
 -- ---- what the back link answers
 
-pub opened_prepared : (h : Site) (b : Broker) (y : ℕ) (p : PreparedBook) → y < length b.senders → p ≡ record (quiet_book 0) { changes = book_change.Opened y ∷ [] }
+pub opened_prepared : (h : Site) (b : Broker) (y : ℕ) (p : PlanBook) → y < length b.senders → p ≡ record (quiet_book 0) { changes = book_change.Opened y ∷ [] }
     → IsPrepared h b (quiet_plan (change.Opened y ∷ [])) p
 opened_prepared h b y p within is =
     rw is (record { steps = refl; sent = tt; fits = record { writes_named = tt; changes_named = (tt, tt); writes = tt; changes = (within, tt) }; stored = record { writes = tt; changes = tt } })
 
-pub opened_room : (room : Room) (y : ℕ) (p : PreparedBook) → p ≡ record (quiet_book 0) { changes = book_change.Opened y ∷ [] } → HasRoom room p
+pub opened_room : (room : Room) (y : ℕ) (p : PlanBook) → p ≡ record (quiet_book 0) { changes = book_change.Opened y ∷ [] } → HasRoom room p
 opened_room room y p is =
     rw is (record { writes = record { entries = omega arith; streams = omega arith; places = omega arith; acks = tt; senders = omega arith }; given = omega arith; senders = omega arith })
 
-abbrev pub receives_book : ℕ → ℕ → ℕ → PreparedBook
+abbrev pub receives_book : ℕ → ℕ → ℕ → PlanBook
 receives_book y number i = record (quiet_book 0) { writes = book_write.SenderAck y i ∷ []; changes = book_change.Unpend y number ∷ [] }
 
-pub received_prepared : (h : Site) (b : Broker) (y number i : ℕ) (p : PreparedBook) → y < length b.senders → i + 1 < 2 ^ 64 → p ≡ receives_book y number i
+pub received_prepared : (h : Site) (b : Broker) (y number i : ℕ) (p : PlanBook) → y < length b.senders → i + 1 < 2 ^ 64 → p ≡ receives_book y number i
     → IsPrepared h b (receives y number (Some i)) p
 received_prepared h b y number i p within fits is =
     rw is (record {
@@ -85,6 +85,6 @@ received_prepared h b y number i p within fits is =
       stored = record { writes = tt; changes = tt };
     })
 
-pub received_room : (room : Room) (y number i : ℕ) (p : PreparedBook) → 1 ≤ room.senders → p ≡ receives_book y number i → HasRoom room p
+pub received_room : (room : Room) (y number i : ℕ) (p : PlanBook) → 1 ≤ room.senders → p ≡ receives_book y number i → HasRoom room p
 received_room room y number i p some is =
     rw is (record { writes = record { entries = omega arith; streams = omega arith; places = omega arith; acks = (tt, tt); senders = omega (arith, some) }; given = omega arith; senders = omega (arith, some) })

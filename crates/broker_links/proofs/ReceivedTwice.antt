@@ -13,7 +13,7 @@ use Rattle.geo_base.specs.Cursor.{with_index}
 use Rattle.geo_base.specs.Forwarding.{opens, receipt_command, receipt_packet, receives}
 use Rattle.geo_base.specs.Plan.{Plan, done, quiet_plan, twice}
 use Rattle.geo_base.specs.Sender.{Sender, new_sender, pending_index, without_number}
-use Rattle.broker_state.specs.Prepared.{PreparedBook}
+use Rattle.broker_state.specs.Plan.{PlanBook}
 use Rattle.broker_plans.specs.Prepared.{IsPrepared}
 use Rattle.broker_links.proofs.Again.{twice_is}
 
@@ -110,6 +110,6 @@ pub answered_twice : (per : ℕ) (b : Broker) (y : ℕ) (p : Packet) → y < len
 answered_twice per b y p within once = answer_twice per b y p.session p.frame (λ now. receipt_packet now y p) within once (λ now. refl)
 
 -- a prepared event of an answer that counts, for one that comes twice
-pub twice_prepared : (h : Site) (b : Broker) (y : ℕ) (p : Packet) (q : PreparedBook) → y < length b.senders → ((seq : ℕ) → pending_index (without_number (sender_at b y).pending seq) seq ≡ None)
+pub twice_prepared : (h : Site) (b : Broker) (y : ℕ) (p : Packet) (q : PlanBook) → y < length b.senders → ((seq : ℕ) → pending_index (without_number (sender_at b y).pending seq) seq ≡ None)
     → IsPrepared h b (receipt_packet b y p) q → IsPrepared h b (twice h.per_ledger b (λ now. receipt_packet now y p)) q
 twice_prepared h b y p q within once is = rw (answered_twice h.per_ledger b y p within once) is

@@ -9,7 +9,7 @@ use Rattle.geo_base.specs.declared.write.Write.TheVariants as write
 use Rattle.geo_base.specs.Broker.{Broker, Site, sender_at}
 use Rattle.geo_base.specs.Forwarding.{is_remote, reset, resets}
 use Rattle.geo_base.specs.Plan.{Plan, idle_plan, plan_of}
-use Rattle.broker_state.specs.Prepared.{PreparedBook, idle_book}
+use Rattle.broker_state.specs.Plan.{PlanBook, idle_book}
 use Rattle.broker_plans.specs.Prepared.{AlsoSends, IsPrepared}
 use Rattle.broker_plans.proofs.Keeping.{sends_more}
 use Rattle.broker_links.specs.Answers.{opening, opening_out}
@@ -17,12 +17,12 @@ use Rattle.broker_links.proofs.Plans.{idle}
 
 -- ---- a session to a cluster begins
 
-pub opens_sent : (h : Site) (y session : ℕ) (f : Frame) (p q : PreparedBook) → f ≡ opening h session → AlsoSends h.clusters (record { to = peer.Forward y; session = session; frame = f }) p q
+pub opens_sent : (h : Site) (y session : ℕ) (f : Frame) (p q : PlanBook) → f ≡ opening h session → AlsoSends h.clusters (record { to = peer.Forward y; session = session; frame = f }) p q
     → AlsoSends h.clusters (opening_out h y session) p q
 opens_sent h y session f p q frame more =
     subst (λ (g : Frame). AlsoSends h.clusters (record { to = peer.Forward y; session = session; frame = g }) p q) frame more
 
-pub begins_sent : (h : Site) (b : Broker) (y session : ℕ) (p q : PreparedBook) → IsPrepared h b (plan_of (write.SessionNumber y session ∷ []) (change.Opening y ∷ []) []) p
+pub begins_sent : (h : Site) (b : Broker) (y session : ℕ) (p q : PlanBook) → IsPrepared h b (plan_of (write.SessionNumber y session ∷ []) (change.Opening y ∷ []) []) p
     → AlsoSends h.clusters (opening_out h y session) p q → IsPrepared h b (resets h y session) q
 begins_sent h b y session p q is more = sends_more h b _ _ (opening_out h y session) p q is more
 
@@ -36,7 +36,7 @@ reset_is : (h : Site) (b : Broker) (y : ℕ) (t : Bool) → t ≡ is_remote h y 
 unfolding reset
 reset_is h b y t told = ap (λ (u : Bool). reset_if h b y u) told
 
-pub reset_idle : (h : Site) (b : Broker) (y : ℕ) (t : Bool) (p : PreparedBook) → t ≡ is_remote h y → t ≡ false → p ≡ idle_book → IsPrepared h b (reset h b y) p
+pub reset_idle : (h : Site) (b : Broker) (y : ℕ) (t : Bool) (p : PlanBook) → t ≡ is_remote h y → t ≡ false → p ≡ idle_book → IsPrepared h b (reset h b y) p
 reset_idle h b y t p told other is =
     subst (λ (q : Plan). IsPrepared h b q p) (reset_is h b y false (sym other ∙ told)) (idle h b p is)
 

@@ -10,7 +10,7 @@ use Rattle.geo_base.specs.declared.position.Position.{Position}
 use Rattle.geo_base.specs.Broker.{Site}
 use Rattle.geo_base.specs.Forwarding.{link_producer}
 use Rattle.geo_base.specs.Position.{nowhere}
-use Rattle.broker_state.specs.Prepared.{PreparedBook}
+use Rattle.broker_state.specs.Plan.{PlanBook}
 use Rattle.broker_plans.specs.Prepared.{ArePackets}
 use Rattle.frame_values.specs.Coded.{carries_entry}
 use Rattle.frame_values.specs.Fitting.{IsSmall}
@@ -41,7 +41,7 @@ abbrev pub opening_out : Site → ℕ → ℕ → Out
 opening_out h y session = record { to = peer.Forward y; session = session; frame = opening h session }
 
 -- an event that sends more packets behind all that it does
-pub record AlsoAnswers (names : List (List ℕ)) (os : List Out) (old new : PreparedBook) : Type 0 where
+pub record AlsoAnswers (names : List (List ℕ)) (os : List Out) (old new : PlanBook) : Type 0 where
   pub packets : List WireOut
   pub with : new ≡ record old { sent = old.sent ++ packets }
   pub written : ArePackets names os packets

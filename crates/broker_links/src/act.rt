@@ -7,7 +7,7 @@ ghost use Rattle.broker_plans.specs.Storable.{IsReadEntry, IsReadFrame};
 ghost use Rattle.broker_links.specs.Acts.{ActStorable, act_of, command_act, send_act};
 ghost use Rattle.broker_links.specs.declared.act.TakeAct.TheVariants as act;
 
-use broker_state::Book;
+use broker_state::BrokerState;
 use frame_values::is_within_limit;
 use geo_base::{Entry, Frame, Place, Text};
 
@@ -27,7 +27,7 @@ pub(crate) enum TakeAct {
 }
 
 /// What a frame of a session does, by the session that is open.
-pub(crate) fn act_of(book: &Book, source: u32, session: u64, frame: Frame) -> TakeAct
+pub(crate) fn act_of(book: &BrokerState, source: u32, session: u64, frame: Frame) -> TakeAct
     requires source { source < length book.now.broker.receivers }
     requires read { IsReadFrame frame }
     ensures act { result ≡ act_of book.now.site (receiver_at book.now.broker source) source session frame }
@@ -47,7 +47,7 @@ pub(crate) fn act_of(book: &Book, source: u32, session: u64, frame: Frame) -> Ta
 }
 
 /// Whether a number is that of the session which is open on the link from a cluster.
-fn is_open(book: &Book, source: u32, session: u64) -> bool
+fn is_open(book: &BrokerState, source: u32, session: u64) -> bool
     requires { source < length book.now.broker.receivers }
     ensures { result ≡ is_open (receiver_at book.now.broker source) session }
 {
@@ -59,7 +59,7 @@ fn is_open(book: &Book, source: u32, session: u64) -> bool
 
 /// A PRODUCER of the topic, whose producer id is the session's number, opens the session; another one has no place there.
 fn producer_act(
-    book: &Book,
+    book: &BrokerState,
     session: u64,
     is_open: bool,
     topic: &Text,
@@ -80,7 +80,7 @@ fn producer_act(
 }
 
 /// What comes in a session that is not open is discarded.
-fn session_act(book: &Book, source: u32, is_open: bool, frame: Frame) -> TakeAct
+fn session_act(book: &BrokerState, source: u32, is_open: bool, frame: Frame) -> TakeAct
     requires { IsReadFrame frame }
     ensures act { result ≡ (if is_open then command_act book.now.site source frame else act.Discards) }
     ensures storable { ActStorable book.now.site result }
@@ -94,7 +94,7 @@ fn session_act(book: &Book, source: u32, is_open: bool, frame: Frame) -> TakeAct
 }
 
 /// Only a SEND is acted on in the session that is open.
-fn command_act(book: &Book, source: u32, frame: Frame) -> TakeAct
+fn command_act(book: &BrokerState, source: u32, frame: Frame) -> TakeAct
     requires { IsReadFrame frame }
     ensures act { result ≡ command_act book.now.site source frame }
     ensures storable { ActStorable book.now.site result }
@@ -115,7 +115,13 @@ fn command_act(book: &Book, source: u32, frame: Frame) -> TakeAct
 
 /// A SEND in the session that is open.
 #[tactic(auto, using(crate::proofs::Storable::storable_within))]
-fn send_act(book: &Book, source: u32, seq: u64, from: &Option<Place>, entry: Entry) -> TakeAct
+fn send_act(
+    book: &BrokerState,
+    source: u32,
+    seq: u64,
+    from: &Option<Place>,
+    entry: Entry,
+) -> TakeAct
     requires { IsReadEntry entry }
     ensures act { result ≡ send_act book.now.site source seq from.now entry }
     ensures storable { ActStorable book.now.site result }

@@ -4,7 +4,7 @@ ghost use Rattle.geo_base.specs.Position.{nowhere};
 ghost use Rattle.broker_links.specs.Answers.{AlsoAnswers, IsBrief, outs_of, receipt, receipt_answer, second_of, success, success_answer};
 
 use broker_plans::{NOWHERE, also_send};
-use broker_state::{Book, Prepared};
+use broker_state::{BrokerState, Plan};
 use geo_base::{Frame, Memory, Peer, Position};
 use std::alloc::Global;
 
@@ -29,8 +29,8 @@ struct Answer {
 #[tactic(auto, using(crate::proofs::Answered::answers_once, crate::proofs::Answered::answers_again))]
 fn also_answer(
     alloc: Global,
-    book: &Book,
-    plan: &mut Prepared,
+    book: &BrokerState,
+    plan: &mut Plan,
     answer: &Answer,
 ) -> Result<(), Memory>
     requires first { IsBrief book.now.site.clusters answer.now.first }
@@ -52,8 +52,8 @@ fn also_answer(
 #[tactic(auto, using(crate::proofs::Answered::answers_as))]
 pub(crate) fn also_succeed(
     alloc: Global,
-    book: &Book,
-    plan: &mut Prepared,
+    book: &BrokerState,
+    plan: &mut Plan,
     arrival: Arrival,
     id: u64,
     request: u64,
@@ -70,8 +70,8 @@ pub(crate) fn also_succeed(
 #[tactic(auto, using(crate::proofs::Answered::answers_as))]
 pub(crate) fn also_receipt(
     alloc: Global,
-    book: &Book,
-    plan: &mut Prepared,
+    book: &BrokerState,
+    plan: &mut Plan,
     arrival: Arrival,
     seq: u64,
     position: Position,
@@ -89,7 +89,7 @@ fn let_go(_answer: Answer) {}
 
 fn success_answer(
     alloc: Global,
-    book: &Book,
+    book: &BrokerState,
     arrival: Arrival,
     id: u64,
     request: u64,
@@ -109,7 +109,7 @@ fn success_answer(
 
 /// The frame that says that a session is open.
 #[tactic(auto, using(crate::proofs::Small::success_brief))]
-fn success(alloc: Global, book: &Book, source: u32, request: u64) -> Result<Frame, Memory>
+fn success(alloc: Global, book: &BrokerState, source: u32, request: u64) -> Result<Frame, Memory>
     ensures frame { IfOk result (λ f. f ≡ success book.now.site source request) }
     ensures brief { IfOk result (IsBrief book.now.site.clusters) }
 {
@@ -121,7 +121,7 @@ fn success(alloc: Global, book: &Book, source: u32, request: u64) -> Result<Fram
 
 fn second_success(
     alloc: Global,
-    book: &Book,
+    book: &BrokerState,
     source: u32,
     request: u64,
     again: bool,
@@ -136,7 +136,7 @@ fn second_success(
     Ok(Some(second))
 }
 
-fn receipt_answer(book: &Book, arrival: Arrival, seq: u64, position: Position) -> Answer
+fn receipt_answer(book: &BrokerState, arrival: Arrival, seq: u64, position: Position) -> Answer
     ensures answer { result ≡ receipt_answer arrival.source arrival.session arrival.again seq position }
     ensures first { IsBrief book.now.site.clusters result.first }
     ensures second { IfSome result.second (IsBrief book.now.site.clusters) }
@@ -155,7 +155,7 @@ fn receipt_answer(book: &Book, arrival: Arrival, seq: u64, position: Position) -
 }
 
 #[tactic(auto, using(crate::proofs::Small::receipt_brief))]
-fn receipt(book: &Book, session: u64, seq: u64, position: Position) -> Frame
+fn receipt(book: &BrokerState, session: u64, seq: u64, position: Position) -> Frame
     ensures frame { result ≡ receipt session seq position }
     ensures brief { IsBrief book.now.site.clusters result }
 {
@@ -166,7 +166,7 @@ fn receipt(book: &Book, session: u64, seq: u64, position: Position) -> Frame
     }
 }
 
-fn second_receipt(book: &Book, session: u64, seq: u64, again: bool) -> Option<Frame>
+fn second_receipt(book: &BrokerState, session: u64, seq: u64, again: bool) -> Option<Frame>
     ensures frame { result ≡ second_of again (receipt session seq nowhere) }
     ensures brief { IfSome result (IsBrief book.now.site.clusters) }
 {

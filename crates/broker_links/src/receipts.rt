@@ -2,23 +2,23 @@
 ghost use Rattle.std.specs.Prelude.{◌≤◌, ◌<◌, ◌+◌, ◌^◌, length, IfSome, OnOk};
 ghost use Rattle.std.specs.Option.{option_copied};
 ghost use Rattle.geo_base.specs.Forwarding.{receipt, receipt_fate, receipt_packet, receives};
-ghost use Rattle.broker_state.specs.Prepared.{IsEmptyPlan};
+ghost use Rattle.broker_state.specs.Plan.{IsEmptyPlan};
 ghost use Rattle.broker_state.specs.Room.{HasRoom};
-ghost use Rattle.broker_state.specs.Book.{SameState};
+ghost use Rattle.broker_state.specs.State.{SameState};
 ghost use Rattle.broker_plans.specs.Prepared.{IsPrepared};
 
-use broker_state::{Book, BookChange, BookWrite, Prepared};
+use broker_state::{BookChange, BookWrite, BrokerState, Plan};
 use geo_base::{Fate, Frame, Memory, Packet, SenderState};
 use std::alloc::Global;
 
 /// What the next packet of the back link from a cluster will do. Only room is made; an `Err` is want of memory.
 #[tactic(auto, unfolding(geo_base::specs::Forwarding::receipt), using(crate::proofs::Plans::idle, crate::proofs::Plans::idle_room))]
 pub fn prepare_receipt(
-    book: &mut Book,
+    book: &mut BrokerState,
     remote: u32,
     fate: Fate,
     input: Option<&Packet>,
-    plan: &mut Prepared,
+    plan: &mut Plan,
 ) -> Result<(), Memory>
     requires remote { remote < length book.old.broker.senders }
     requires empty { IsEmptyPlan plan.old }
@@ -36,11 +36,11 @@ pub fn prepare_receipt(
 /// An answer that comes twice has the effect of one: a session is opened once, and a number's receipt is awaited once.
 #[tactic(auto, using(crate::proofs::Plans::quiet, crate::proofs::Plans::quiet_room, crate::proofs::ReceivedTwice::twice_prepared))]
 fn receive(
-    book: &Book,
+    book: &BrokerState,
     remote: u32,
     fate: Fate,
     packet: &Packet,
-    plan: &mut Prepared,
+    plan: &mut Plan,
 ) -> Result<(), Memory>
     requires remote { remote < length book.now.broker.senders }
     requires some { 1 ≤ book.now.room.senders }
@@ -64,10 +64,10 @@ fn receive(
 /// Only what answers the current session has an effect.
 #[tactic(auto, using(crate::proofs::Plans::quiet, crate::proofs::Plans::quiet_room, crate::proofs::Plans::opened_prepared, crate::proofs::Plans::opened_room))]
 fn receive_once(
-    book: &Book,
+    book: &BrokerState,
     remote: u32,
     packet: &Packet,
-    plan: &mut Prepared,
+    plan: &mut Plan,
 ) -> Result<(), Memory>
     requires remote { remote < length book.now.broker.senders }
     requires some { 1 ≤ book.now.room.senders }
@@ -99,11 +99,11 @@ fn receive_once(
 /// The index that was sent under a number is acknowledged, if that number awaits its receipt.
 #[tactic(auto, using(crate::proofs::Plans::quiet, crate::proofs::Plans::quiet_room, crate::proofs::Plans::received_prepared, crate::proofs::Plans::received_room))]
 fn acknowledge(
-    book: &Book,
+    book: &BrokerState,
     remote: u32,
     number: u64,
     index: Option<u64>,
-    plan: &mut Prepared,
+    plan: &mut Plan,
 ) -> Result<(), Memory>
     requires remote { remote < length book.now.broker.senders }
     requires some { 1 ≤ book.now.room.senders }

@@ -5,14 +5,14 @@ ghost use Rattle.geo_base.specs.declared.write.Write.TheVariants as write;
 ghost use Rattle.geo_base.specs.Broker.{sender_at};
 ghost use Rattle.geo_base.specs.Forwarding.{reset, resets};
 ghost use Rattle.geo_base.specs.Plan.{plan_of};
-ghost use Rattle.broker_state.specs.Prepared.{IsEmptyPlan};
+ghost use Rattle.broker_state.specs.Plan.{IsEmptyPlan};
 ghost use Rattle.broker_state.specs.Room.{HasRoom, Room};
 ghost use Rattle.broker_plans.specs.Prepared.{AlsoSends, IsPrepared};
 ghost use Rattle.broker_links.specs.Answers.{IsBrief, opening, opening_out};
 ghost use Rattle.broker_links.specs.Ready.{SessionFits};
 
 use broker_plans::also_send;
-use broker_state::{Book, BookChange, BookWrite, Prepared};
+use broker_state::{BookChange, BookWrite, BrokerState, Plan};
 use geo_base::{Frame, Memory, Peer, Text};
 use std::alloc::Global;
 
@@ -20,9 +20,9 @@ use std::alloc::Global;
 #[tactic(auto, using(crate::proofs::Plans::idle_room, crate::proofs::Resets::remote_within))]
 pub fn prepare_reset(
     alloc: Global,
-    book: &Book,
+    book: &BrokerState,
     remote: u32,
-    plan: &mut Prepared,
+    plan: &mut Plan,
 ) -> Result<(), Memory>
     requires session { SessionFits book.now.broker remote }
     requires empty { IsEmptyPlan plan.old }
@@ -37,7 +37,7 @@ pub fn prepare_reset(
 }
 
 /// The number of the next session to a cluster.
-fn next_session(book: &Book, remote: u32) -> u64
+fn next_session(book: &BrokerState, remote: u32) -> u64
     requires within { remote < length book.now.broker.senders }
     requires fits { SessionFits book.now.broker remote }
     ensures { result ≡ (sender_at book.now.broker remote).session + 1 }
@@ -48,10 +48,10 @@ fn next_session(book: &Book, remote: u32) -> u64
 /// The session's number is written, and the session is to be opened.
 fn begin_session(
     alloc: Global,
-    book: &Book,
+    book: &BrokerState,
     remote: u32,
     session: u64,
-    plan: &mut Prepared,
+    plan: &mut Plan,
 ) -> Result<(), Memory>
     requires remote { remote < length book.now.broker.senders }
     requires empty { IsEmptyPlan plan.old }
@@ -65,7 +65,12 @@ fn begin_session(
 
 /// The same before its packet is sent.
 #[tactic(auto, using(crate::proofs::Plans::begins_prepared, crate::proofs::Plans::begins_room))]
-fn write_session(book: &Book, remote: u32, session: u64, plan: &mut Prepared) -> Result<(), Memory>
+fn write_session(
+    book: &BrokerState,
+    remote: u32,
+    session: u64,
+    plan: &mut Plan,
+) -> Result<(), Memory>
     requires remote { remote < length book.now.broker.senders }
     requires empty { IsEmptyPlan plan.old }
     ensures prepared { OnOk result (IsPrepared book.now.site book.now.broker (plan_of (write.SessionNumber remote session ∷ []) (change.Opening remote ∷ []) []) plan.new) }
@@ -80,8 +85,8 @@ fn write_session(book: &Book, remote: u32, session: u64, plan: &mut Prepared) ->
 /// An event that also sends the packet that opens a session.
 fn also_open(
     alloc: Global,
-    book: &Book,
-    plan: &mut Prepared,
+    book: &BrokerState,
+    plan: &mut Plan,
     remote: u32,
     session: u64,
 ) -> Result<(), Memory>
@@ -97,7 +102,7 @@ fn also_open(
 
 /// The packet that opens a session has its number as producer id and as request id.
 #[tactic(auto, using(crate::proofs::Small::opening_brief))]
-fn opening_frame(alloc: Global, book: &Book, session: u64) -> Result<Frame, Memory>
+fn opening_frame(alloc: Global, book: &BrokerState, session: u64) -> Result<Frame, Memory>
     ensures frame { IfOk result (λ f. f ≡ opening book.now.site session) }
     ensures brief { IfOk result (IsBrief book.now.site.clusters) }
 {

@@ -3,9 +3,9 @@ ghost use Rattle.std.specs.Prelude.{◌<◌, [], ◌∷◌, length, IfSome, OnOk
 ghost use Rattle.geo_base.specs.declared.change.Change.TheVariants as change;
 ghost use Rattle.geo_base.specs.Forwarding.{take_fate, take_frame, take_packet};
 ghost use Rattle.geo_base.specs.Plan.{quiet_plan, twice};
-ghost use Rattle.broker_state.specs.Prepared.{IsEmptyPlan};
+ghost use Rattle.broker_state.specs.Plan.{IsEmptyPlan};
 ghost use Rattle.broker_state.specs.Room.{HasRoom, Room};
-ghost use Rattle.broker_state.specs.Book.{SameState};
+ghost use Rattle.broker_state.specs.State.{SameState};
 ghost use Rattle.broker_plans.specs.Prepared.{IsPrepared};
 ghost use Rattle.broker_plans.specs.Storable.{IsReadFrame, IsStorable};
 ghost use Rattle.broker_links.specs.Acts.{ActStorable, acted, opening_plan, packet_acted, receiving_plan, times};
@@ -13,7 +13,7 @@ ghost use Rattle.broker_links.specs.Acts.{ActStorable, acted, opening_plan, pack
 use crate::act::{TakeAct, act_of};
 use crate::answers::{Arrival, also_receipt, also_succeed};
 use broker_plans::storing;
-use broker_state::{Book, BookChange, Prepared};
+use broker_state::{BookChange, BrokerState, Plan};
 use geo_base::{Entry, Fate, Memory, Packet};
 use std::alloc::Global;
 
@@ -21,11 +21,11 @@ use std::alloc::Global;
 #[tactic(auto, unfolding(geo_base::specs::Forwarding::take_packet), using(crate::proofs::Plans::idle, crate::proofs::Plans::idle_room))]
 pub fn prepare_take(
     alloc: Global,
-    book: &mut Book,
+    book: &mut BrokerState,
     source: u32,
     fate: Fate,
     input: Option<Packet>,
-    plan: &mut Prepared,
+    plan: &mut Plan,
 ) -> Result<(), Memory>
     requires source { source < length book.old.broker.receivers }
     requires read { IfSome input (λ p. IsReadFrame p.frame) }
@@ -43,11 +43,11 @@ pub fn prepare_take(
 /// A lost packet closes the session, since entries behind it would be stored without it.
 fn take(
     alloc: Global,
-    book: &mut Book,
+    book: &mut BrokerState,
     source: u32,
     fate: Fate,
     packet: Packet,
-    plan: &mut Prepared,
+    plan: &mut Plan,
 ) -> Result<(), Memory>
     requires source { source < length book.old.broker.receivers }
     requires read { IsReadFrame packet.frame }
@@ -66,10 +66,10 @@ fn take(
 /// A packet is acted on.
 fn take_once(
     alloc: Global,
-    book: &mut Book,
+    book: &mut BrokerState,
     source: u32,
     packet: Packet,
-    plan: &mut Prepared,
+    plan: &mut Plan,
 ) -> Result<(), Memory>
     requires source { source < length book.old.broker.receivers }
     requires read { IsReadFrame packet.frame }
@@ -84,10 +84,10 @@ fn take_once(
 /// A packet is acted on two times in a row.
 fn take_twice(
     alloc: Global,
-    book: &mut Book,
+    book: &mut BrokerState,
     source: u32,
     packet: Packet,
-    plan: &mut Prepared,
+    plan: &mut Plan,
 ) -> Result<(), Memory>
     requires source { source < length book.old.broker.receivers }
     requires read { IsReadFrame packet.frame }
@@ -102,11 +102,11 @@ fn take_twice(
 /// What the act of a packet will do, once or two times in a row.
 fn take_times(
     alloc: Global,
-    book: &mut Book,
+    book: &mut BrokerState,
     source: u32,
     packet: Packet,
     again: bool,
-    plan: &mut Prepared,
+    plan: &mut Plan,
 ) -> Result<(), Memory>
     requires source { source < length book.old.broker.receivers }
     requires read { IsReadFrame packet.frame }
@@ -128,10 +128,10 @@ fn take_times(
 #[tactic(auto, using(crate::proofs::Plans::quiet, crate::proofs::Plans::quiet_room))]
 fn act(
     alloc: Global,
-    book: &mut Book,
+    book: &mut BrokerState,
     arrival: Arrival,
     todo: TakeAct,
-    plan: &mut Prepared,
+    plan: &mut Plan,
 ) -> Result<(), Memory>
     requires source { arrival.source < length book.old.broker.receivers }
     requires storable { ActStorable book.old.site todo }
@@ -156,10 +156,10 @@ fn act(
 /// Another session is open on the link from a cluster, or none.
 #[tactic(auto, using(crate::proofs::Takes::becomes, crate::proofs::Takes::becomes_room))]
 fn set_session(
-    book: &Book,
+    book: &BrokerState,
     source: u32,
     session: Option<u64>,
-    plan: &mut Prepared,
+    plan: &mut Plan,
 ) -> Result<(), Memory>
     requires source { source < length book.now.broker.receivers }
     requires empty { IsEmptyPlan plan.old }
@@ -174,10 +174,10 @@ fn set_session(
 /// The same two times in a row.
 #[tactic(auto, using(crate::proofs::Takes::becomes_twice, crate::proofs::Takes::becomes_twice_room))]
 fn set_session_twice(
-    book: &Book,
+    book: &BrokerState,
     source: u32,
     session: Option<u64>,
-    plan: &mut Prepared,
+    plan: &mut Plan,
 ) -> Result<(), Memory>
     requires source { source < length book.now.broker.receivers }
     requires empty { IsEmptyPlan plan.old }
@@ -192,11 +192,11 @@ fn set_session_twice(
 
 /// Once, or two times in a row.
 fn set_session_times(
-    book: &Book,
+    book: &BrokerState,
     source: u32,
     session: Option<u64>,
     again: bool,
-    plan: &mut Prepared,
+    plan: &mut Plan,
 ) -> Result<(), Memory>
     requires source { source < length book.now.broker.receivers }
     requires empty { IsEmptyPlan plan.old }
@@ -213,11 +213,11 @@ fn set_session_times(
 /// A session opens, and any earlier one ends; the packet is answered.
 fn open_session(
     alloc: Global,
-    book: &Book,
+    book: &BrokerState,
     arrival: Arrival,
     id: u64,
     request: u64,
-    plan: &mut Prepared,
+    plan: &mut Plan,
 ) -> Result<(), Memory>
     requires source { arrival.source < length book.now.broker.receivers }
     requires empty { IsEmptyPlan plan.old }
@@ -232,11 +232,11 @@ fn open_session(
 /// An entry is stored unless it is a duplicate, and answered either way.
 fn receive_entry(
     alloc: Global,
-    book: &mut Book,
+    book: &mut BrokerState,
     arrival: Arrival,
     seq: u64,
     entry: Entry,
-    plan: &mut Prepared,
+    plan: &mut Plan,
 ) -> Result<(), Memory>
     requires storable { IsStorable book.old.site entry }
     requires empty { IsEmptyPlan plan.old }

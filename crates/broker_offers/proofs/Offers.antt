@@ -17,7 +17,7 @@ use Rattle.geo_base.specs.Plan.{Plan, idle_plan, plan_of}
 use Rattle.geo_base.specs.Subscription.{Subscription}
 use Rattle.broker_subs.specs.Table.{sub_at}
 use Rattle.broker_subs.specs.declared.writing.SubWrite.TheVariants as sub_write
-use Rattle.broker_state.specs.Prepared.{PreparedBook}
+use Rattle.broker_state.specs.Plan.{PlanBook}
 use Rattle.broker_state.specs.Room.{change_room, change_senders, total}
 use Rattle.geo_base.specs.declared.packet.WireOut.{WireOut}
 use Rattle.broker_state.specs.Site.{IsSite}
@@ -50,7 +50,7 @@ pub is_caught_up : (h : Site) (b : Broker) (s : Subscription) (i : ℕ) (e : Ent
 is_caught_up h b s i e at marker = rw (at, marker) refl
 
 -- a message, where room was made before
-pub given_from : (h g : Site) (b c : Broker) (k i : ℕ) (e : Entry) (p : PreparedBook) → g ≡ h → c ≡ b → slice_get c.entries i ≡ Some e → is_data e.content ≡ true → IsPrepared g c (gives g c (sub_at c.subs k) i e) p
+pub given_from : (h g : Site) (b c : Broker) (k i : ℕ) (e : Entry) (p : PlanBook) → g ≡ h → c ≡ b → slice_get c.entries i ≡ Some e → is_data e.content ≡ true → IsPrepared g c (gives g c (sub_at c.subs k) i e) p
     → IsPrepared h b (offer_index h b (sub_at b.subs k) i) p
 given_from h g b c k i e p site same at is prepared =
     subst (λ (f : Site). IsPrepared f b (offer_index f b (sub_at b.subs k) i) p) site
@@ -67,7 +67,7 @@ pub picks_one : (h : Site) (b : Broker) (s : Subscription) (i at : ℕ) (e : Ent
 picks_one h b s i at e one = rw one refl
 
 -- the event that gives the message to the consumer that was picked, of whom a packet tells
-pub gives_from : (h : Site) (b : Broker) (k i at : ℕ) (e : Entry) (s : Subscription) (o : Option ℕ) (x : Consumer) (packet : WireOut) (p : PreparedBook) → k < length b.subs → i + 1 < 2 ^ 64 → s ≡ sub_at b.subs k
+pub gives_from : (h : Site) (b : Broker) (k i at : ℕ) (e : Entry) (s : Subscription) (o : Option ℕ) (x : Consumer) (packet : WireOut) (p : PlanBook) → k < length b.subs → i + 1 < 2 ^ 64 → s ≡ sub_at b.subs k
     → o ≡ pick s.kind s.consumers (key_bytes e.meta.key) → o ≡ Some at → at < length s.consumers → x ≡ consumer_at s.consumers at → ArePackets h.clusters (message h b i e x) (packet ∷ []) → p ≡ given_book k i at packet
     → IsPrepared h b (gives h b (sub_at b.subs k) i e) p
 gives_from h b k i at e s o x packet p within next same picked some among consumer told is =
@@ -108,7 +108,7 @@ only : (n i : ℕ) → i < n → All (λ j. j < n) (i ∷ [])
 only n i h = All-cons (λ (j : ℕ). j < n) i [] h (All-nil (λ (j : ℕ). j < n))
 
 -- the event that catches up with the marker at index i
-pub catches_up : (h : Site) (b : Broker) (k i : ℕ) (o : Option CachedSnapshot) (p : PreparedBook) → IsSite h → IsWritable h b → k < length b.subs → is_name (sub_at b.subs k).name ≡ true → i < length b.entries → i + 1 < 2 ^ 64
+pub catches_up : (h : Site) (b : Broker) (k i : ℕ) (o : Option CachedSnapshot) (p : PlanBook) → IsSite h → IsWritable h b → k < length b.subs → is_name (sub_at b.subs k).name ≡ true → i < length b.entries → i + 1 < 2 ^ 64
     → IfSome o (IsSnapshotOf h) → p ≡ writing_book k (sub_write.Acks (i ∷ [])) (update_after h b k (sub_write.Acks (i ∷ [])) (cached_with (sub_at b.subs k).cache o)) (catch_up_changes o i)
     → IsPrepared h b (passes_by h b (sub_at b.subs k) i o) p
 catches_up h b k i None p site writable within named stored next small is =

@@ -13,7 +13,7 @@ use Rattle.geo_base.specs.Subscription.{Subscription}
 use Rattle.broker_subs.specs.Table.{sub_at}
 use Rattle.broker_subs.specs.declared.changing.SubChange.TheVariants as sub_change
 use Rattle.broker_subs.specs.declared.writing.SubWrite.TheVariants as sub_write
-use Rattle.broker_state.specs.Prepared.{PreparedBook, quiet_book}
+use Rattle.broker_state.specs.Plan.{PlanBook, quiet_book}
 use Rattle.broker_state.specs.Room.{HasRoom, Room}
 use Rattle.broker_state.specs.declared.change.BookChange.TheVariants as book_change
 use Rattle.broker_state.specs.declared.write.BookWrite.TheVariants as book_write
@@ -44,7 +44,7 @@ pub counted : (b : Broker) (n : List ℕ) (s : Subscription) → SeekFits b n �
 counted b n s fits is = rw is at fits
 
 -- the event that sets the cursor of the subscription at place k
-pub seeks : (h : Site) (b : Broker) (k i : ℕ) (p : PreparedBook) → IsSite h → IsWritable h b → k < length b.subs → is_name (sub_at b.subs k).name ≡ true → i ≤ length b.entries → (sub_at b.subs k).seeks + 1 < 2 ^ 64
+pub seeks : (h : Site) (b : Broker) (k i : ℕ) (p : PlanBook) → IsSite h → IsWritable h b → k < length b.subs → is_name (sub_at b.subs k).name ≡ true → i ≤ length b.entries → (sub_at b.subs k).seeks + 1 < 2 ^ 64
     → p ≡ writing_book k (sub_write.Seek i) (update_after h b k (sub_write.Seek i) (sub_at b.subs k).cache) (book_change.Sub sub_change.Cleared ∷ [])
     → IsPrepared h b (plan_of (cursor_write h b (sub_at b.subs k) (write.Seek (sub_at b.subs k).name i)) (change.Cleared (sub_at b.subs k).name ∷ []) []) p
 seeks h b k i p site writable within named stored fits is =
@@ -54,10 +54,10 @@ seeks h b k i p site writable within named stored fits is =
 
 -- ---- restart
 
-abbrev pub restart_book : PreparedBook
+abbrev pub restart_book : PlanBook
 restart_book = record (quiet_book 0) { writes = book_write.Ledger ∷ []; changes = book_change.Forget ∷ [] }
 
-pub restarts : (h : Site) (b : Broker) (p : PreparedBook) → p ≡ restart_book → IsPrepared h b restart p
+pub restarts : (h : Site) (b : Broker) (p : PlanBook) → p ≡ restart_book → IsPrepared h b restart p
 unfolding restart
 restarts h b p is =
     rw is (record {
@@ -67,6 +67,6 @@ restarts h b p is =
       stored = record { writes = tt; changes = tt };
     })
 
-pub restart_room : (room : Room) (p : PreparedBook) → 1 ≤ room.entries → p ≡ restart_book → HasRoom room p
+pub restart_room : (room : Room) (p : PlanBook) → 1 ≤ room.entries → p ≡ restart_book → HasRoom room p
 restart_room room p some is =
     rw is (record { writes = record { entries = omega (arith, some); streams = omega arith; places = omega arith; acks = (tt, tt); senders = omega arith }; given = omega arith; senders = omega arith })

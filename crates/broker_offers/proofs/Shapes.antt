@@ -16,7 +16,7 @@ use Rattle.broker_subs.specs.Steps.{SubWriteFits, machine_sub_write}
 use Rattle.broker_subs.specs.Table.{names_of, room_at, sub_at}
 use Rattle.broker_subs.specs.declared.writing.SubWrite.{SubWrite}
 use Rattle.broker_state.specs.Fits.{AllChangesFit, ChangesNamed, NamedFits}
-use Rattle.broker_state.specs.Prepared.{PreparedBook, idle_book, name_in, named_plan, quiet_book}
+use Rattle.broker_state.specs.Plan.{PlanBook, idle_book, name_in, named_plan, quiet_book}
 use Rattle.broker_state.specs.Room.{HasRoom, Room, WritesHaveRoom, change_room, change_senders, total}
 use Rattle.broker_state.specs.Writes.{machine_change}
 use Rattle.broker_state.specs.declared.change.BookChange.{BookChange}
@@ -31,7 +31,7 @@ use Rattle.broker_plans.proofs.Updates.{cursor_fits, cursor_named, cursor_names,
 use Rattle.broker_offers.specs.Offering.{given_book, writing_book}
 
 -- an event about a subscription whose name is known
-pub with_name : (h : Site) (b : Broker) (plan : Plan) (p : PreparedBook) (n : List ℕ) → name_in b.subs p ≡ n → named_plan n b.entries p ≡ unsent plan → ArePackets h.clusters plan.sent p.sent
+pub with_name : (h : Site) (b : Broker) (plan : Plan) (p : PlanBook) (n : List ℕ) → name_in b.subs p ≡ n → named_plan n b.entries p ≡ unsent plan → ArePackets h.clusters plan.sent p.sent
     → NamedFits h.per_ledger n b p → PlanStorable h plan → IsPrepared h b plan p
 with_name h b plan p n is steps sent fits stored = record {
   steps = subst (λ (m : List ℕ). named_plan m b.entries p ≡ unsent plan) (sym is) steps;
@@ -40,7 +40,7 @@ with_name h b plan p n is steps sent fits stored = record {
   stored = stored;
 }
 
-pub idle : (h : Site) (b : Broker) (p : PreparedBook) → p ≡ idle_book → IsPrepared h b idle_plan p
+pub idle : (h : Site) (b : Broker) (p : PlanBook) → p ≡ idle_book → IsPrepared h b idle_plan p
 idle h b p is =
     rw is (record {
       steps = refl;
@@ -49,13 +49,13 @@ idle h b p is =
       stored = record { writes = tt; changes = tt };
     })
 
-pub idle_room : (room : Room) (p : PreparedBook) → p ≡ idle_book → HasRoom room p
+pub idle_room : (room : Room) (p : PlanBook) → p ≡ idle_book → HasRoom room p
 idle_room room p is =
     rw is (record { writes = record { entries = omega arith; streams = omega arith; places = omega arith; acks = tt; senders = omega arith }; given = omega arith; senders = omega arith })
 
 -- ---- an index is given
 
-pub gives_index : (h : Site) (b : Broker) (k i at : ℕ) (e : Entry) (o : WireOut) (p : PreparedBook) → k < length b.subs → i + 1 < 2 ^ 64 → at < length (sub_at b.subs k).consumers
+pub gives_index : (h : Site) (b : Broker) (k i at : ℕ) (e : Entry) (o : WireOut) (p : PlanBook) → k < length b.subs → i + 1 < 2 ^ 64 → at < length (sub_at b.subs k).consumers
     → ArePackets h.clusters (message h b i e (consumer_at (sub_at b.subs k).consumers at)) (o ∷ []) → p ≡ given_book k i at o
     → IsPrepared h b (plan_of [] (change.Given (sub_at b.subs k).name i at ∷ []) (message h b i e (consumer_at (sub_at b.subs k).consumers at))) p
 gives_index h b k i at e o p within next there_at packet is =
@@ -65,7 +65,7 @@ gives_index h b k i at e o p within next there_at packet is =
     (record { writes_named = tt; changes_named = (name_there b.subs k within, tt); writes = tt; changes = ((next, there_at), tt) })
     (record { writes = tt; changes = tt }))
 
-pub given_room : (room : Room) (k i at : ℕ) (o : WireOut) (p : PreparedBook) → 1 ≤ (room_at room.subs k).room → p ≡ given_book k i at o → HasRoom room p
+pub given_room : (room : Room) (k i at : ℕ) (o : WireOut) (p : PlanBook) → 1 ≤ (room_at room.subs k).room → p ≡ given_book k i at o → HasRoom room p
 given_room room k i at o p some is =
     rw is (record { writes = record { entries = omega arith; streams = omega arith; places = omega arith; acks = tt; senders = omega arith }; given = omega (arith, some); senders = omega arith })
 
@@ -92,11 +92,11 @@ writes_cursor h b k w cache cs site within named small fits names changes stored
     (record { writes = cursor_stored h b (record s { cache = cache }) b.entries w site named small; changes = stored })
 
 -- it begins with the write, and the changes follow
-pub writing_is : (k : ℕ) (w v : SubWrite) (o u : Option BookWrite) (cs : List BookChange) (q p : PreparedBook) → q ≡ record (quiet_book k) { writes = cursor_writes w o } → p ≡ record q { changes = q.changes ++ cs }
+pub writing_is : (k : ℕ) (w v : SubWrite) (o u : Option BookWrite) (cs : List BookChange) (q p : PlanBook) → q ≡ record (quiet_book k) { writes = cursor_writes w o } → p ≡ record q { changes = q.changes ++ cs }
     → w ≡ v → o ≡ u → p ≡ writing_book k v u cs
 writing_is k w v o u cs q p begun is same told = is ∙ rw (begun, same, told) refl
 
 -- changes that take no room
-pub writing_room : (room : Room) (k : ℕ) (w : SubWrite) (o : Option BookWrite) (cs : List BookChange) (p : PreparedBook) → WritesHaveRoom room k (cursor_writes w o)
+pub writing_room : (room : Room) (k : ℕ) (w : SubWrite) (o : Option BookWrite) (cs : List BookChange) (p : PlanBook) → WritesHaveRoom room k (cursor_writes w o)
     → total change_room cs ≡ 0 → total change_senders cs ≡ 0 → p ≡ writing_book k w o cs → HasRoom room p
 writing_room room k w o cs p writes none still is = rw is (record { writes = writes; given = omega (arith, none); senders = omega (arith, writes.senders, still) })

@@ -14,7 +14,7 @@ use Rattle.broker_subs.specs.declared.changing.SubChange.TheVariants as sub_chan
 use Rattle.broker_subs.specs.declared.writing.SubWrite.{SubWrite}
 use Rattle.broker_state.specs.declared.write.BookWrite.{BookWrite}
 use Rattle.broker_plans.specs.Updates.{cursor_writes}
-use Rattle.broker_state.specs.Prepared.{PreparedBook, quiet_book}
+use Rattle.broker_state.specs.Plan.{PlanBook, quiet_book}
 use Rattle.geo_base.specs.declared.packet.WireOut.{WireOut}
 use Rattle.broker_state.specs.declared.change.BookChange.{BookChange}
 use Rattle.broker_state.specs.declared.change.BookChange.TheVariants as book_change
@@ -30,7 +30,7 @@ gives h b s i e =
     plan_of [] (change.Given s.name i at ∷ []) (message h b i e (consumer_at s.consumers at)))
 
 -- the event that gives an index to the consumer at a place in the order
-abbrev pub given_book : ℕ → ℕ → ℕ → WireOut → PreparedBook
+abbrev pub given_book : ℕ → ℕ → ℕ → WireOut → PlanBook
 given_book k i at o = record (quiet_book k) { changes = book_change.Sub (sub_change.Given i at) ∷ []; sent = o ∷ [] }
 
 -- the snapshots of a subscription once a marker brought one, if it did
@@ -47,5 +47,5 @@ abbrev pub catch_up_changes : Option CachedSnapshot → ℕ → List BookChange
 catch_up_changes o i = cache_changes o ++ book_change.Sub (sub_change.Passed i) ∷ book_change.Sub sub_change.Acked ∷ []
 
 -- the event that writes the cursor of the subscription at a place, with an update that follows if one does, and then makes changes
-abbrev pub writing_book : ℕ → SubWrite → Option BookWrite → List BookChange → PreparedBook
+abbrev pub writing_book : ℕ → SubWrite → Option BookWrite → List BookChange → PlanBook
 writing_book k w o cs = record (quiet_book k) { writes = cursor_writes w o; changes = cs }

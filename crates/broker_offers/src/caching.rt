@@ -7,7 +7,7 @@ ghost use Rattle.broker_subs.specs.Table.{sub_at};
 ghost use Rattle.broker_plans.specs.Storable.{IsSnapshotOf};
 
 use broker_plans::sub_at;
-use broker_state::Book;
+use broker_state::BrokerState;
 use geo_base::{
     CachedSnapshot, ClusterPosition, Content, Cut, Entry, Marker, Memory, Place, Position, Sequence,
 };
@@ -16,7 +16,7 @@ use std::alloc::Global;
 /// The snapshot that an entry brings to the subscription at a place, if it does.
 pub(crate) fn own_snapshot(
     alloc: Global,
-    book: &Book,
+    book: &BrokerState,
     place: usize,
     entry: &Entry,
 ) -> Result<Option<CachedSnapshot>, Memory>
@@ -43,7 +43,7 @@ pub(crate) fn own_snapshot(
 #[tactic(auto, using(crate::proofs::Cuts::as_many))]
 fn cut_of(
     alloc: Global,
-    book: &Book,
+    book: &BrokerState,
     local: Position,
     named: &[ClusterPosition],
 ) -> Result<Cut, Memory>

@@ -5,16 +5,16 @@ ghost use Rattle.geo_base.specs.Cache.{cached};
 ghost use Rattle.geo_base.specs.Offering.{passes_by};
 ghost use Rattle.broker_subs.specs.Steps.{SubWriteFits};
 ghost use Rattle.broker_subs.specs.Table.{sub_at};
-ghost use Rattle.broker_state.specs.Prepared.{IsEmptyPlan};
+ghost use Rattle.broker_state.specs.Plan.{IsEmptyPlan};
 ghost use Rattle.broker_state.specs.Room.{HasRoom};
-ghost use Rattle.broker_state.specs.Book.{SameState};
+ghost use Rattle.broker_state.specs.State.{SameState};
 ghost use Rattle.broker_plans.specs.Prepared.{CanWrite, IsPrepared, MarkerFits};
 ghost use Rattle.broker_plans.specs.Storable.{IsSnapshotOf};
 ghost use Rattle.broker_plans.specs.Updates.{update_after};
 ghost use Rattle.broker_offers.specs.Offering.{cache_changes, cached_with, catch_up_changes};
 
 use broker_plans::{begin_write, sub_at, update_after};
-use broker_state::{Book, BookChange, BookWrite, Prepared};
+use broker_state::{BookChange, BookWrite, BrokerState, Plan};
 use broker_subs::{SubChange, SubWrite};
 use geo_base::{CachedSnapshot, Memory, Sequence};
 use snapshot_cache::SnapshotCache;
@@ -24,11 +24,11 @@ use std::alloc::Global;
 #[tactic(auto, using(crate::proofs::Shapes::writing_room, broker_plans::proofs::Updates::update_appends))]
 pub(crate) fn catch_up(
     alloc: Global,
-    book: &mut Book,
+    book: &mut BrokerState,
     place: usize,
     index: u64,
     snapshot: Option<CachedSnapshot>,
-    plan: &mut Prepared,
+    plan: &mut Plan,
 ) -> Result<(), Memory>
     requires can { CanWrite book.old.site book.old.broker }
     requires place { place < length book.old.broker.subs }
@@ -61,7 +61,7 @@ fn one_index(alloc: Global, index: u64) -> Result<Sequence<u64>, Memory>
 /// The update that follows a write of the cursor of the subscription at a place, to which a marker brought a snapshot, if it did.
 fn update_with(
     alloc: Global,
-    book: &Book,
+    book: &BrokerState,
     place: usize,
     write: &SubWrite,
     snapshot: &Option<CachedSnapshot>,
@@ -95,11 +95,7 @@ fn copy_with(
 }
 
 /// The changes of an event that catches up with the marker at an index, which brought a snapshot, if it did.
-fn add_changes(
-    plan: &mut Prepared,
-    index: u64,
-    snapshot: Option<CachedSnapshot>,
-) -> Result<(), Memory>
+fn add_changes(plan: &mut Plan, index: u64, snapshot: Option<CachedSnapshot>) -> Result<(), Memory>
     ensures { OnOk result (plan.new ≡ record plan.old { changes = plan.old.changes ++ catch_up_changes snapshot index }) }
 {
     add_snapshot(plan, snapshot)?;
@@ -108,7 +104,7 @@ fn add_changes(
 }
 
 /// A snapshot enters the cache, if there is one.
-fn add_snapshot(plan: &mut Prepared, snapshot: Option<CachedSnapshot>) -> Result<(), Memory>
+fn add_snapshot(plan: &mut Plan, snapshot: Option<CachedSnapshot>) -> Result<(), Memory>
     ensures { OnOk result (plan.new ≡ record plan.old { changes = plan.old.changes ++ cache_changes snapshot }) }
 {
     match snapshot {

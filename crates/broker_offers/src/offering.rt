@@ -7,9 +7,9 @@ ghost use Rattle.geo_base.specs.Offering.{message, number_of, offer};
 ghost use Rattle.geo_base.specs.Broker.{session_at};
 ghost use Rattle.geo_base.specs.Topic.{position_at};
 ghost use Rattle.broker_subs.specs.Table.{room_at, sub_at};
-ghost use Rattle.broker_state.specs.Prepared.{IsEmptyPlan};
+ghost use Rattle.broker_state.specs.Plan.{IsEmptyPlan};
 ghost use Rattle.broker_state.specs.Room.{HasRoom};
-ghost use Rattle.broker_state.specs.Book.{SameState};
+ghost use Rattle.broker_state.specs.State.{SameState};
 ghost use Rattle.broker_plans.specs.Prepared.{ArePackets, CanWrite, IsPrepared};
 ghost use Rattle.broker_plans.specs.Storable.{IsStorable};
 ghost use Rattle.broker_offers.specs.Offering.{given_book, gives, offer_index};
@@ -17,7 +17,7 @@ ghost use Rattle.broker_offers.specs.Offering.{given_book, gives, offer_index};
 use crate::caching::own_snapshot;
 use crate::catching_up::catch_up;
 use broker_plans::{message_text, place_named, sub_at};
-use broker_state::{Book, BookChange, Prepared};
+use broker_state::{BookChange, BrokerState, Plan};
 use broker_subs::{Sub, SubChange};
 use geo_base::{Consumer, Content, Entry, EntryStore, Memory, Peer, Position, WireOut};
 use std::alloc::Global;
@@ -28,9 +28,9 @@ use topic_ledger::or_first;
 #[tactic(auto, using(crate::proofs::Offers::no_sub, crate::proofs::Offers::nothing_due, crate::proofs::Offers::some_due, crate::proofs::Shapes::idle, crate::proofs::Shapes::idle_room))]
 pub fn prepare_offer(
     alloc: Global,
-    book: &mut Book,
+    book: &mut BrokerState,
     name: &[u8],
-    plan: &mut Prepared,
+    plan: &mut Plan,
 ) -> Result<(), Memory>
     requires can { CanWrite book.old.site book.old.broker }
     requires empty { IsEmptyPlan plan.old }
@@ -49,7 +49,7 @@ pub fn prepare_offer(
 }
 
 /// The least index that is due at the subscription at a place.
-fn least_due(book: &Book, place: usize) -> Option<u64>
+fn least_due(book: &BrokerState, place: usize) -> Option<u64>
     requires { place < length book.now.broker.subs }
     ensures index { result ≡ least_due (sub_at book.now.broker.subs place) (length book.now.broker.entries) }
     ensures within { IfSome result (λ i. i < length book.now.broker.entries) }
@@ -63,10 +63,10 @@ fn least_due(book: &Book, place: usize) -> Option<u64>
 #[tactic(auto, using(crate::proofs::Offers::is_given, crate::proofs::Offers::is_caught_up, crate::proofs::Offers::stored_there))]
 fn offer_index(
     alloc: Global,
-    book: &mut Book,
+    book: &mut BrokerState,
     place: usize,
     index: u64,
-    plan: &mut Prepared,
+    plan: &mut Plan,
 ) -> Result<(), Memory>
     requires can { CanWrite book.old.site book.old.broker }
     requires place { place < length book.old.broker.subs }
@@ -89,7 +89,7 @@ fn offer_index(
 }
 
 /// The entry at an index.
-fn entry_at(book: &Book, index: u64) -> &Entry
+fn entry_at(book: &BrokerState, index: u64) -> &Entry
     requires { index < length book.now.broker.entries }
     ensures { slice_get book.now.broker.entries index ≡ Some result.now }
 {
@@ -110,11 +110,11 @@ fn is_message(entry: &Entry) -> bool
 #[tactic(auto, using(crate::proofs::Offers::picks_none, crate::proofs::Offers::picks_one, crate::proofs::Shapes::idle, crate::proofs::Shapes::idle_room, crate::proofs::Shapes::gives_index, crate::proofs::Shapes::given_room))]
 fn give_message(
     alloc: Global,
-    book: &Book,
+    book: &BrokerState,
     place: usize,
     index: u64,
     entry: &Entry,
-    plan: &mut Prepared,
+    plan: &mut Plan,
 ) -> Result<(), Memory>
     requires storable { IsStorable book.now.site entry.now }
     requires place { place < length book.now.broker.subs }
@@ -135,13 +135,7 @@ fn give_message(
 }
 
 /// An event that gives an index to the consumer at a place in the order, in a packet.
-fn give(
-    place: usize,
-    index: u64,
-    at: usize,
-    packet: WireOut,
-    plan: &mut Prepared,
-) -> Result<(), Memory>
+fn give(place: usize, index: u64, at: usize, packet: WireOut, plan: &mut Plan) -> Result<(), Memory>
     requires empty { IsEmptyPlan plan.old }
     ensures { OnOk result (plan.new ≡ given_book place index at packet) }
 {
@@ -172,7 +166,7 @@ fn key_bytes(entry: &Entry) -> &[u8]
 /// The packet that gives the entry at an index to a consumer.
 fn message(
     alloc: Global,
-    book: &Book,
+    book: &BrokerState,
     index: u64,
     entry: &Entry,
     consumer: &Consumer,
@@ -190,14 +184,14 @@ fn message(
 }
 
 /// The position of the entry at an index.
-fn position_at(book: &Book, index: u64) -> Position
+fn position_at(book: &BrokerState, index: u64) -> Position
     ensures { result ≡ position_at book.now.broker.ledgers index }
 {
     or_first(book.store().position_of(index as usize))
 }
 
 /// The number of the session that a client has open; 0 where it has none.
-fn session_number(book: &Book, client: u32) -> u64
+fn session_number(book: &BrokerState, client: u32) -> u64
     ensures { result ≡ number_of (session_at book.now.broker client) }
 {
     match book.sessions().get(client as usize) {

@@ -7,14 +7,14 @@ ghost use Rattle.geo_base.specs.Plan.{plan_of};
 ghost use Rattle.geo_base.specs.Seeking.{restart, seek, seek_index};
 ghost use Rattle.geo_base.specs.Storing.{cursor_write};
 ghost use Rattle.broker_subs.specs.Table.{sub_at};
-ghost use Rattle.broker_state.specs.Prepared.{IsEmptyPlan};
+ghost use Rattle.broker_state.specs.Plan.{IsEmptyPlan};
 ghost use Rattle.broker_state.specs.Room.{HasRoom};
-ghost use Rattle.broker_state.specs.Book.{SameState};
+ghost use Rattle.broker_state.specs.State.{SameState};
 ghost use Rattle.broker_plans.specs.Prepared.{CanWrite, IsPrepared};
 ghost use Rattle.broker_offers.specs.Seeking.{SeekFits};
 
 use broker_plans::{begin_write, place_named, sub_at, update_after};
-use broker_state::{Book, BookChange, BookWrite, Prepared};
+use broker_state::{BookChange, BookWrite, BrokerState, Plan};
 use broker_subs::{SubChange, SubWrite};
 use geo_base::{EntryStore, Memory, Position};
 use std::alloc::Global;
@@ -24,10 +24,10 @@ use std::alloc::Global;
 #[tactic(auto, using(crate::proofs::Seeks::no_sub, crate::proofs::Seeks::no_place, crate::proofs::Seeks::some_place, crate::proofs::Seeks::counted, crate::proofs::Shapes::idle, crate::proofs::Shapes::idle_room))]
 pub fn prepare_seek(
     alloc: Global,
-    book: &mut Book,
+    book: &mut BrokerState,
     name: &[u8],
     to: Option<Position>,
-    plan: &mut Prepared,
+    plan: &mut Plan,
 ) -> Result<(), Memory>
     requires can { CanWrite book.old.site book.old.broker }
     requires counted { SeekFits book.old.broker name.now }
@@ -47,7 +47,7 @@ pub fn prepare_seek(
 }
 
 /// The index that a seek leads to: that of a position, or as many as there are entries.
-fn seek_index(book: &Book, to: Option<Position>) -> Option<u64>
+fn seek_index(book: &BrokerState, to: Option<Position>) -> Option<u64>
     ensures index { result ≡ seek_index book.now.broker to }
     ensures within { IfSome result (λ i. i ≤ length book.now.broker.entries) }
 {
@@ -61,10 +61,10 @@ fn seek_index(book: &Book, to: Option<Position>) -> Option<u64>
 #[tactic(auto, using(crate::proofs::Shapes::writing_room, broker_plans::proofs::Updates::update_appends))]
 fn seek_to(
     alloc: Global,
-    book: &mut Book,
+    book: &mut BrokerState,
     place: usize,
     index: u64,
-    plan: &mut Prepared,
+    plan: &mut Plan,
 ) -> Result<(), Memory>
     requires can { CanWrite book.old.site book.old.broker }
     requires place { place < length book.old.broker.subs }
@@ -85,7 +85,7 @@ fn seek_to(
 
 /// What a restart will do: a ledger opens, and what is in memory is lost. Only room is made; an `Err` is want of memory.
 #[tactic(auto, using(crate::proofs::Seeks::restarts, crate::proofs::Seeks::restart_room))]
-pub fn prepare_restart(book: &mut Book, plan: &mut Prepared) -> Result<(), Memory>
+pub fn prepare_restart(book: &mut BrokerState, plan: &mut Plan) -> Result<(), Memory>
     requires empty { IsEmptyPlan plan.old }
     ensures prepared { OnOk result (IsPrepared book.old.site book.old.broker restart plan.new) }
     ensures room { OnOk result (HasRoom book.new.room plan.new) }

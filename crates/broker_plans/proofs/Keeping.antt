@@ -13,7 +13,7 @@ use Rattle.geo_base.specs.Plan.{plan_of}
 use Rattle.geo_base.specs.Position.{nowhere}
 use Rattle.geo_base.specs.Storing.{receipt_position, storing}
 use Rattle.geo_base.specs.Topic.{accepts, next_position}
-use Rattle.broker_state.specs.Prepared.{PreparedBook, quiet_book}
+use Rattle.broker_state.specs.Plan.{PlanBook, quiet_book}
 use Rattle.broker_state.specs.Room.{HasRoom, Room}
 use Rattle.geo_base.specs.declared.packet.WireOut.{WireOut}
 use Rattle.broker_state.specs.declared.write.BookWrite.TheVariants as book_write
@@ -22,10 +22,10 @@ use Rattle.broker_plans.specs.Storable.{IsStorable}
 use Rattle.broker_plans.specs.Updates.{appending}
 
 -- the event that stores an entry
-abbrev pub stores : Entry → PreparedBook
+abbrev pub stores : Entry → PlanBook
 stores e = record (quiet_book 0) { writes = appending e ∷ [] }
 
-pub new_stored : (h : Site) (b : Broker) (e : Entry) (p : PreparedBook) → accepts b.entries e.ident ≡ true → IsStorable h e → p ≡ stores e → IsPrepared h b (plan_of (storing b e) [] []) p
+pub new_stored : (h : Site) (b : Broker) (e : Entry) (p : PlanBook) → accepts b.entries e.ident ≡ true → IsStorable h e → p ≡ stores e → IsPrepared h b (plan_of (storing b e) [] []) p
 new_stored h b e p new storable is =
     rw (is, new) (record {
       steps = refl;
@@ -34,7 +34,7 @@ new_stored h b e p new storable is =
       stored = record { writes = (storable, tt); changes = tt };
     })
 
-pub old_stored : (h : Site) (b : Broker) (e : Entry) (p : PreparedBook) → accepts b.entries e.ident ≡ false → p ≡ quiet_book 0 → IsPrepared h b (plan_of (storing b e) [] []) p
+pub old_stored : (h : Site) (b : Broker) (e : Entry) (p : PlanBook) → accepts b.entries e.ident ≡ false → p ≡ quiet_book 0 → IsPrepared h b (plan_of (storing b e) [] []) p
 old_stored h b e p old is =
     rw (is, old) (record {
       steps = refl;
@@ -49,14 +49,14 @@ new_place per b e new = rw new refl
 pub old_place : (per : ℕ) (b : Broker) (e : Entry) → accepts b.entries e.ident ≡ false → Some nowhere ≡ receipt_position per b e
 old_place per b e old = rw old refl
 
-pub stores_is : (e : Entry) (s : Stream) (q p : PreparedBook) → s ≡ stream_of e.ident → q ≡ quiet_book 0 → p ≡ record q { writes = q.writes ++ book_write.Append e s ∷ [] } → p ≡ stores e
+pub stores_is : (e : Entry) (s : Stream) (q p : PlanBook) → s ≡ stream_of e.ident → q ≡ quiet_book 0 → p ≡ record q { writes = q.writes ++ book_write.Append e s ∷ [] } → p ≡ stores e
 stores_is e s q p stream quiet is = is ∙ rw (quiet, stream) refl
 
-pub new_room : (room : Room) (e : Entry) (p : PreparedBook) → 1 ≤ room.entries → 1 ≤ room.streams → p ≡ stores e → HasRoom room p
+pub new_room : (room : Room) (e : Entry) (p : PlanBook) → 1 ≤ room.entries → 1 ≤ room.streams → p ≡ stores e → HasRoom room p
 new_room room e p entries streams is =
     rw is (record { writes = record { entries = entries; streams = streams; places = omega arith; acks = (tt, tt); senders = omega arith }; given = omega arith; senders = omega arith })
 
-pub no_room : (room : Room) (k : ℕ) (p : PreparedBook) → p ≡ quiet_book k → HasRoom room p
+pub no_room : (room : Room) (k : ℕ) (p : PlanBook) → p ≡ quiet_book k → HasRoom room p
 no_room room k p is =
     rw is (record { writes = record { entries = omega arith; streams = omega arith; places = omega arith; acks = tt; senders = omega arith }; given = omega arith; senders = omega arith })
 
@@ -67,7 +67,7 @@ none_sent names [] all = refl
 none_sent names (p ∷ ps) all = absurd all
 
 -- a packet behind what an event does, which sent nothing before
-pub sends_more : (h : Site) (b : Broker) (ws : List Write) (cs : List Change) (o : Out) (p q : PreparedBook) → IsPrepared h b (plan_of ws cs []) p → AlsoSends h.clusters o p q → IsPrepared h b (plan_of ws cs (o ∷ [])) q
+pub sends_more : (h : Site) (b : Broker) (ws : List Write) (cs : List Change) (o : Out) (p q : PlanBook) → IsPrepared h b (plan_of ws cs []) p → AlsoSends h.clusters o p q → IsPrepared h b (plan_of ws cs (o ∷ [])) q
 sends_more h b ws cs o p q is more =
     let alone : p.sent ≡ [] = none_sent h.clusters p.sent is.sent in
     rw more.with (record {
@@ -77,7 +77,7 @@ sends_more h b ws cs o p q is more =
       stored = record { writes = is.stored.writes; changes = is.stored.changes };
     })
 
-pub room_more : (names : List (List ℕ)) (room : Room) (o : Out) (p q : PreparedBook) → HasRoom room p → AlsoSends names o p q → HasRoom room q
+pub room_more : (names : List (List ℕ)) (room : Room) (o : Out) (p q : PlanBook) → HasRoom room p → AlsoSends names o p q → HasRoom room q
 room_more names room o p q is more = rw more.with (record { writes = is.writes; given = is.given; senders = is.senders })
 
 -- what the table of duplicates says of an entry's stream is what the topic says of the entry

@@ -4,7 +4,7 @@ ghost use Rattle.geo_base.specs.Storing.{own_marker};
 ghost use Rattle.broker_plans.specs.Prepared.{MarkerFits};
 ghost use Rattle.broker_plans.specs.Updates.{appending};
 
-use broker_state::{Book, BookWrite};
+use broker_state::{BookWrite, BrokerState};
 use dedup_table::Stream;
 use durable_parts::MARKER_PRODUCER;
 use geo_base::{
@@ -15,7 +15,7 @@ use std::alloc::Global;
 /// A marker that the own cluster writes next, for targets, which have these names.
 pub fn own_marker(
     alloc: Global,
-    book: &Book,
+    book: &BrokerState,
     marker: Marker,
     to: Targets,
     names: Sequence<Text>,

@@ -8,14 +8,14 @@ ghost use Rattle.frame_values.specs.Fitting.{IsSmall};
 ghost use Rattle.frame_values.specs.Texts.{is_readable};
 ghost use Rattle.broker_plans.specs.Storable.{IsStorable};
 
-use broker_state::Book;
+use broker_state::BrokerState;
 use frame_values::{write_message, write_send, write_value};
 use geo_base::{Blob, Entry, Frame, Memory, Place, Position};
 use std::alloc::Global;
 
 /// The text of a frame without an entry, whose texts are short.
 #[tactic(auto, using(crate::proofs::Packets::simple_writable))]
-pub fn text(alloc: Global, book: &Book, frame: &Frame) -> Result<Blob, Memory>
+pub fn text(alloc: Global, book: &BrokerState, frame: &Frame) -> Result<Blob, Memory>
     requires simple { carries_entry frame.now ≡ false }
     requires readable { is_readable frame.now ≡ true }
     requires small { IsSmall book.now.site.clusters frame.now }
@@ -27,7 +27,7 @@ pub fn text(alloc: Global, book: &Book, frame: &Frame) -> Result<Blob, Memory>
 /// The text of a SEND of a stored entry, which the own cluster replicates.
 pub fn send_text(
     alloc: Global,
-    book: &Book,
+    book: &BrokerState,
     id: u64,
     seq: u64,
     entry: &Entry,
@@ -43,7 +43,7 @@ pub fn send_text(
 /// The text of a MESSAGE of a stored entry, which names the cluster that stored it first where that is another one.
 pub fn message_text(
     alloc: Global,
-    book: &Book,
+    book: &BrokerState,
     id: u64,
     position: Position,
     entry: &Entry,

@@ -2,8 +2,8 @@
 ghost use Rattle.std.specs.Prelude.{◌≡◌, true, false, [], Some, IfOk, OnOk};
 ghost use Rattle.geo_base.specs.Plan.{plan_of};
 ghost use Rattle.geo_base.specs.Storing.{receipt_position, storing};
-ghost use Rattle.broker_state.specs.Book.{SameState};
-ghost use Rattle.broker_state.specs.Prepared.{IsEmptyPlan};
+ghost use Rattle.broker_state.specs.State.{SameState};
+ghost use Rattle.broker_state.specs.Plan.{IsEmptyPlan};
 ghost use Rattle.broker_state.specs.Room.{HasRoom};
 ghost use Rattle.frame_values.specs.Coded.{carries_entry};
 ghost use Rattle.frame_values.specs.Fitting.{IsSmall};
@@ -12,7 +12,7 @@ ghost use Rattle.broker_plans.specs.Prepared.{AlsoSends, IsPrepared};
 ghost use Rattle.broker_plans.specs.Storable.{IsStorable};
 
 use crate::packet::text;
-use broker_state::{Book, BookWrite, Prepared};
+use broker_state::{BookWrite, BrokerState, Plan};
 use dedup_table::Stream;
 use geo_base::{Entry, EntryStore, Frame, Memory, Peer, Position, WireOut};
 use std::alloc::Global;
@@ -27,9 +27,9 @@ pub const NOWHERE: Position = Position {
 #[tactic(auto, using(crate::proofs::Keeping::new_stored, crate::proofs::Keeping::old_stored, crate::proofs::Keeping::new_place, crate::proofs::Keeping::old_place, crate::proofs::Keeping::new_room, crate::proofs::Keeping::no_room))]
 pub fn storing(
     alloc: Global,
-    book: &mut Book,
+    book: &mut BrokerState,
     entry: Entry,
-    plan: &mut Prepared,
+    plan: &mut Plan,
 ) -> Result<Position, Memory>
     requires storable { IsStorable book.old.site entry }
     requires empty { IsEmptyPlan plan.old }
@@ -51,8 +51,8 @@ pub fn storing(
 /// An event that sends, behind all that it does, a packet without an entry.
 pub fn also_send(
     alloc: Global,
-    book: &Book,
-    plan: &mut Prepared,
+    book: &BrokerState,
+    plan: &mut Plan,
     to: Peer,
     session: u64,
     frame: &Frame,

@@ -5,15 +5,15 @@ ghost use Rattle.geo_base.specs.Cursor.{below, mark, with_indexes};
 ghost use Rattle.geo_base.specs.Updating.{passed_over};
 ghost use Rattle.broker_subs.specs.Steps.{SubWriteFits, acks_needed, sub_written};
 ghost use Rattle.broker_subs.specs.Table.{room_at, sub_at};
-ghost use Rattle.broker_state.specs.Book.{SameState};
-ghost use Rattle.broker_state.specs.Prepared.{IsEmptyPlan, quiet_book};
+ghost use Rattle.broker_state.specs.State.{SameState};
+ghost use Rattle.broker_state.specs.Plan.{IsEmptyPlan, quiet_book};
 ghost use Rattle.broker_state.specs.Room.{WritesHaveRoom};
 ghost use Rattle.broker_plans.specs.Prepared.{MarkerFits};
 ghost use Rattle.broker_plans.specs.Updates.{IsAppend, cursor_writes, update_after, update_at};
 
 use crate::finding::sub_at;
 use crate::marking::{appending, own_marker};
-use broker_state::{Book, BookWrite, Prepared};
+use broker_state::{BookWrite, BrokerState, Plan};
 use broker_subs::{Sub, SubWrite};
 use cursor_acks::Cursor;
 use geo_base::{EntryStore, Memory, Sequence, SubName, Targets};
@@ -24,7 +24,7 @@ use std::alloc::Global;
 /// copied, to see how far it comes, only where there is a snapshot that it may pass.
 pub fn update_after(
     alloc: Global,
-    book: &Book,
+    book: &BrokerState,
     place: usize,
     write: &SubWrite,
     cache: &SnapshotCache,
@@ -46,12 +46,12 @@ pub fn update_after(
 /// them, and for so many consumers that join or indexes that are given there.
 #[tactic(auto, using(crate::proofs::Updates::cursor_room))]
 pub fn begin_write(
-    book: &mut Book,
+    book: &mut BrokerState,
     place: usize,
     room: usize,
     write: SubWrite,
     update: Option<BookWrite>,
-    plan: &mut Prepared,
+    plan: &mut Plan,
 ) -> Result<(), Memory>
     requires place { place < length book.old.broker.subs }
     requires update { IfSome update IsAppend }
@@ -79,7 +79,7 @@ pub fn begin_write(
 
 /// Makes room at the subscription at a place, and for so many entries.
 fn reserve(
-    book: &mut Book,
+    book: &mut BrokerState,
     place: usize,
     room: usize,
     acks: usize,
@@ -120,7 +120,7 @@ fn acks_needed(write: &SubWrite) -> usize
 /// passes one of these snapshots.
 fn update_at(
     alloc: Global,
-    book: &Book,
+    book: &BrokerState,
     name: &SubName,
     mark: u64,
     cache: &SnapshotCache,

@@ -28,7 +28,7 @@ use Rattle.broker_subs.specs.Table.{names_of, sub_at}
 use Rattle.broker_subs.specs.declared.changing.SubChange.TheVariants as sub_change
 use Rattle.broker_subs.specs.declared.writing.SubWrite.{SubWrite}
 use Rattle.broker_state.specs.Fits.{AllWritesFit, NamedFits, WritesNamed, all_names_after, names_after}
-use Rattle.broker_state.specs.Prepared.{PreparedBook, name_in, named_plan, quiet_book}
+use Rattle.broker_state.specs.Plan.{PlanBook, name_in, named_plan, quiet_book}
 use Rattle.broker_state.specs.declared.change.BookChange.TheVariants as book_change
 use Rattle.broker_state.specs.Room.{HasRoom, Room, WritesHaveRoom}
 use Rattle.broker_state.specs.Writes.{machine_write}
@@ -45,7 +45,7 @@ use Rattle.broker_reading.specs.Updating.{acked_book, creating_writes, update_ac
 use Rattle.broker_reading.proofs.Plans.{acked_sender, reads_on}
 
 -- an event about a subscription whose name is known
-with_name : (h : Site) (b : Broker) (plan : Plan) (p : PreparedBook) (n : List ℕ) → name_in b.subs p ≡ n → named_plan n b.entries p ≡ unsent plan → ArePackets h.clusters plan.sent p.sent
+with_name : (h : Site) (b : Broker) (plan : Plan) (p : PlanBook) (n : List ℕ) → name_in b.subs p ≡ n → named_plan n b.entries p ≡ unsent plan → ArePackets h.clusters plan.sent p.sent
     → NamedFits h.per_ledger n b p → PlanStorable h plan → IsPrepared h b plan p
 with_name h b plan p n is steps sent fits stored = record {
   steps = subst (λ (m : List ℕ). named_plan m b.entries p ≡ unsent plan) (sym is) steps;
@@ -112,13 +112,13 @@ reads_behind : (b now : Broker) (y i : ℕ) → y < length b.senders → (sender
     → (y < length now.senders) × ((sender_at now y).next ≤ i + 1)
 reads_behind b now y i within sent is = rw is (reads_on b.senders y i (acked_sender b y i) within sent)
 
-abbrev pub acknowledging_book : Site → Broker → ℕ → ℕ → ℕ → PreparedBook
+abbrev pub acknowledging_book : Site → Broker → ℕ → ℕ → ℕ → PlanBook
 acknowledging_book h b k y j =
     let s = sub_at b.subs k in
     let w = update_acks b.entries s.cursor y j in
     acked_book k (cursor_writes w (update_after h b k w s.cache))
 
-pub acknowledges : (h : Site) (b : Broker) (k y i j : ℕ) (p : PreparedBook) → IsSite h → IsWritable h b → IsReading h b y i → k < length b.subs → is_name (sub_at b.subs k).name ≡ true → j < length b.entries
+pub acknowledges : (h : Site) (b : Broker) (k y i j : ℕ) (p : PlanBook) → IsSite h → IsWritable h b → IsReading h b y i → k < length b.subs → is_name (sub_at b.subs k).name ≡ true → j < length b.entries
     → p ≡ handled_book y i (acknowledging_book h b k y j)
     → IsPrepared h b (handled y i (cursor_write h b (sub_at b.subs k) (write.Acks (sub_at b.subs k).name (passed_over y 0 (j + 1) b.entries))) (change.Acked (sub_at b.subs k).name ∷ [])) p
 acknowledges h b k y i j p site writable at within named stands is =
@@ -140,7 +140,7 @@ acknowledges h b k y i j p site writable at within named stands is =
     })
     (record { writes = stored_more h y i machine (cursor_stored h b s b.entries w site named (cache_at h b.subs k writable.caches)); changes = tt }))
 
-pub acknowledges_room : (room : Room) (k y i : ℕ) (w : SubWrite) (o : Option BookWrite) (p : PreparedBook) → WritesHaveRoom room k (cursor_writes w o) → 1 ≤ room.senders → IfSome o IsAppend
+pub acknowledges_room : (room : Room) (k y i : ℕ) (w : SubWrite) (o : Option BookWrite) (p : PlanBook) → WritesHaveRoom room k (cursor_writes w o) → 1 ≤ room.senders → IfSome o IsAppend
     → p ≡ handled_book y i (acked_book k (cursor_writes w o)) → HasRoom room p
 acknowledges_room room k y i w None p has senders appends is =
     rw is (record {
@@ -162,7 +162,7 @@ acknowledges_room room k y i w (Some (book_write.SessionNumber x session)) p has
 acknowledges_room room k y i w (Some book_write.Ledger) p has senders appends is = absurd appends
 
 -- the event, step by step
-pub acknowledges_is : (k y i : ℕ) (w v : SubWrite) (o u : Option BookWrite) (q r p : PreparedBook) → q ≡ record (quiet_book k) { writes = cursor_writes w o }
+pub acknowledges_is : (k y i : ℕ) (w v : SubWrite) (o u : Option BookWrite) (q r p : PlanBook) → q ≡ record (quiet_book k) { writes = cursor_writes w o }
     → r ≡ record q { changes = q.changes ++ book_change.Sub sub_change.Acked ∷ [] } → p ≡ handled_book y i r → w ≡ v → o ≡ u → p ≡ handled_book y i (acked_book k (cursor_writes v u))
 acknowledges_is k y i w v o u q r p begun changed is write update = is ∙ rw (changed, begun, write, update) refl
 
@@ -179,14 +179,14 @@ name_found : (ss : List Subscription) (n : List ℕ) (s : Subscription) → sub_
 name_found [] n s is = absurd cc
 name_found (t ∷ ts) n s is = name_first n t s (sub_named ts n) (bytes_eq t.name n) refl (name_found ts n s) is
 
-pub there_prepared : (h : Site) (b : Broker) (y i : ℕ) (n is : List ℕ) (s : Subscription) (p : PreparedBook) → sub_named b.subs n ≡ Some s
+pub there_prepared : (h : Site) (b : Broker) (y i : ℕ) (n is : List ℕ) (s : Subscription) (p : PlanBook) → sub_named b.subs n ≡ Some s
     → IsPrepared h b (handled y i (cursor_write h b s (write.Acks s.name is)) (change.Acked s.name ∷ [])) p
     → IsPrepared h b (handled y i (passing h b n is (sub_named b.subs n)) (change.Acked n ∷ [])) p
 there_prepared h b y i n is s p found prepared =
     let named : s.name ≡ n = name_found b.subs n s found in
     rw found (subst (λ (m : List ℕ). IsPrepared h b (handled y i (cursor_write h b s (write.Acks m is)) (change.Acked m ∷ [])) p) named prepared)
 
-pub missing_prepared : (h : Site) (b : Broker) (y i : ℕ) (n is : List ℕ) (p : PreparedBook) → sub_named b.subs n ≡ None
+pub missing_prepared : (h : Site) (b : Broker) (y i : ℕ) (n is : List ℕ) (p : PlanBook) → sub_named b.subs n ≡ None
     → IsPrepared h b (handled y i (passing h b n is None) (change.Acked n ∷ [])) p
     → IsPrepared h b (handled y i (passing h b n is (sub_named b.subs n)) (change.Acked n ∷ [])) p
 missing_prepared h b y i n is p missing prepared = rw missing prepared
@@ -226,7 +226,7 @@ created_of h b y i n j room acks at missing stands =
 created_is : (n : List ℕ) (sub : SubBook) → sub.sub ≡ new_subscription n sub_kind.Exclusive true [] → sub ≡ created_sub n sub.room sub.acks
 created_is n sub new = ap (λ (s : Subscription). record { sub = s; room = sub.room; acks = sub.acks }) new
 
-pub created : (h : Site) (b : Broker) (y i : ℕ) (n : List ℕ) (j : ℕ) (sub : SubBook) (p : PreparedBook) → IsReading h b y i → sub_named b.subs n ≡ None → j < length b.entries
+pub created : (h : Site) (b : Broker) (y i : ℕ) (n : List ℕ) (j : ℕ) (sub : SubBook) (p : PlanBook) → IsReading h b y i → sub_named b.subs n ≡ None → j < length b.entries
     → sub.sub ≡ new_subscription n sub_kind.Exclusive true []
     → p ≡ handled_book y i (acked_book (length b.subs) (creating_writes sub (update_acks b.entries [] y j)))
     → IsPrepared h b (handled y i (passing h b n (passed_over y 0 (j + 1) b.entries) None) (change.Acked n ∷ [])) p
@@ -237,7 +237,7 @@ created h b y i n j sub p at missing stands new is =
     (subst (λ (s : SubBook). IsPrepared h b plan (handled_book y i (acked_book (length b.subs) (creating_writes s w)))) (sym (created_is n sub new))
     (created_of h b y i n j sub.room sub.acks at missing stands))
 
-pub created_room : (room : Room) (es : List Entry) (k y i j : ℕ) (sub : SubBook) (p : PreparedBook) → room.places ≡ 1 → 1 ≤ room.senders → alone [] (passed_over y 0 (j + 1) es) + 1 ≤ sub.acks
+pub created_room : (room : Room) (es : List Entry) (k y i j : ℕ) (sub : SubBook) (p : PlanBook) → room.places ≡ 1 → 1 ≤ room.senders → alone [] (passed_over y 0 (j + 1) es) + 1 ≤ sub.acks
     → p ≡ handled_book y i (acked_book k (creating_writes sub (update_acks es [] y j))) → HasRoom room p
 created_room room es k y i j sub p places senders acks is =
     rw is (record {
@@ -247,7 +247,7 @@ created_room room es k y i j sub p places senders acks is =
     })
 
 -- the event, step by step
-pub created_steps : (k y i : ℕ) (sub : SubBook) (w v : SubWrite) (q q' q'' r p : PreparedBook) → q ≡ quiet_book k → q' ≡ record q { writes = q.writes ++ book_write.Create sub false ∷ [] }
+pub created_steps : (k y i : ℕ) (sub : SubBook) (w v : SubWrite) (q q' q'' r p : PlanBook) → q ≡ quiet_book k → q' ≡ record q { writes = q.writes ++ book_write.Create sub false ∷ [] }
     → q'' ≡ record q' { writes = q'.writes ++ book_write.Sub w ∷ [] } → r ≡ record q'' { changes = q''.changes ++ book_change.Sub sub_change.Acked ∷ [] } → p ≡ handled_book y i r → w ≡ v
     → p ≡ handled_book y i (acked_book k (creating_writes sub v))
 created_steps k y i sub w v q q' q'' r p quiet create write change is same = is ∙ rw (change, write, create, quiet, same) refl

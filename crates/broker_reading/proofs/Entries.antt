@@ -16,7 +16,7 @@ use Rattle.geo_base.specs.Plan.{Plan}
 use Rattle.geo_base.specs.Reading.{forwards, read_entry}
 use Rattle.geo_base.specs.Sizes.{payload_size}
 use Rattle.geo_base.specs.Updating.{handled, passed_over, passing}
-use Rattle.broker_state.specs.Prepared.{IsEmptyPlan, PreparedBook}
+use Rattle.broker_state.specs.Plan.{IsEmptyPlan, PlanBook}
 use Rattle.broker_state.specs.Room.{HasRoom, Room}
 use Rattle.broker_plans.specs.Prepared.{IsPrepared}
 use Rattle.broker_plans.specs.Storable.{HasText, IsStorable, first_text}
@@ -39,17 +39,17 @@ reading_of h b y i remote all next fits =
 
 -- ---- an entry
 
-pub sent : (h : Site) (b : Broker) (room : Room) (y i : ℕ) (e : Entry) (a : ReadAct) (q : PreparedBook) → is_outbound h.own y e ≡ true → IsRead h b room y i (forwards h y (sender_at b y) i e) a q
+pub sent : (h : Site) (b : Broker) (room : Room) (y i : ℕ) (e : Entry) (a : ReadAct) (q : PlanBook) → is_outbound h.own y e ≡ true → IsRead h b room y i (forwards h y (sender_at b y) i e) a q
     → IsRead h b room y i (read_entry h b y i (Some e)) a q
 sent h b room y i e a q out is = rw out is
 
-pub of_others : (h : Site) (b : Broker) (room : Room) (y i : ℕ) (e : Entry) (a : ReadAct) (q : PreparedBook) → is_outbound h.own y e ≡ false → e.ident.origin ≢ y → IsRead h b room y i (handled y i [] []) a q
+pub of_others : (h : Site) (b : Broker) (room : Room) (y i : ℕ) (e : Entry) (a : ReadAct) (q : PlanBook) → is_outbound h.own y e ≡ false → e.ident.origin ≢ y → IsRead h b room y i (handled y i [] []) a q
     → IsRead h b room y i (read_entry h b y i (Some e)) a q
 of_others h b room y i e a q out other is =
     let apart : (e.ident.origin == y) ≡ false = grind (arith, nat_tests, other) in
     rw (out, apart) is
 
-pub of_other : (h : Site) (b : Broker) (room : Room) (y i : ℕ) (e : Entry) (a : ReadAct) (q : PreparedBook) → is_outbound h.own y e ≡ false → e.ident.origin ≡ y → IsRead h b room y i (read_content h b y i e.content) a q
+pub of_other : (h : Site) (b : Broker) (room : Room) (y i : ℕ) (e : Entry) (a : ReadAct) (q : PlanBook) → is_outbound h.own y e ≡ false → e.ident.origin ≡ y → IsRead h b room y i (read_content h b y i e.content) a q
     → IsRead h b room y i (read_entry h b y i (Some e)) a q
 of_other h b room y i e a q out from is =
     let same : (e.ident.origin == y) ≡ true = grind (arith, nat_tests, from) in
@@ -81,29 +81,29 @@ short_told h y e is from other =
 -- ---- after room was made
 
 -- what was read there is what is read here, where site and broker are the same
-there : (h g : Site) (b c : Broker) (room : Room) (y i : ℕ) (a x : ReadAct) (q : PreparedBook) → g ≡ h → c ≡ b → a ≡ x → IsRead g c room y i (read_entry g c y i (slice_get c.entries i)) a q
+there : (h g : Site) (b c : Broker) (room : Room) (y i : ℕ) (a x : ReadAct) (q : PlanBook) → g ≡ h → c ≡ b → a ≡ x → IsRead g c room y i (read_entry g c y i (slice_get c.entries i)) a q
     → IsRead h b room y i (read_entry h b y i (slice_get b.entries i)) x q
 there h g b c room y i a x q site same is read =
     subst (λ (v : ReadAct). IsRead h b room y i (read_entry h b y i (slice_get b.entries i)) v q) is
     (subst (λ (f : Site). IsRead f b room y i (read_entry f b y i (slice_get b.entries i)) a q) site
     (subst (λ (d : Broker). IsRead g d room y i (read_entry g d y i (slice_get d.entries i)) a q) same read))
 
-pub ready_from : (h g : Site) (b c : Broker) (room : Room) (y i : ℕ) (a : ReadAct) (q : PreparedBook) → g ≡ h → c ≡ b → a ≡ act.Ready → IsRead g c room y i (read_entry g c y i (slice_get c.entries i)) a q
+pub ready_from : (h g : Site) (b c : Broker) (room : Room) (y i : ℕ) (a : ReadAct) (q : PlanBook) → g ≡ h → c ≡ b → a ≡ act.Ready → IsRead g c room y i (read_entry g c y i (slice_get c.entries i)) a q
     → IsPrepared h b (read_entry h b y i (slice_get b.entries i)) q
 ready_from h g b c room y i a q site same is read = (there h g b c room y i a act.Ready q site same is read).0
 
-pub ready_room : (h : Site) (c : Broker) (room : Room) (y i : ℕ) (a : ReadAct) (q : PreparedBook) → a ≡ act.Ready → IsRead h c room y i (read_entry h c y i (slice_get c.entries i)) a q → HasRoom room q
+pub ready_room : (h : Site) (c : Broker) (room : Room) (y i : ℕ) (a : ReadAct) (q : PlanBook) → a ≡ act.Ready → IsRead h c room y i (read_entry h c y i (slice_get c.entries i)) a q → HasRoom room q
 ready_room h c room y i a q is read = (there h h c c room y i a act.Ready q refl refl is read).1
 
-pub acknowledges_empty : (h : Site) (c : Broker) (room : Room) (y i : ℕ) (a : ReadAct) (n : List ℕ) (j : ℕ) (q : PreparedBook) → a ≡ act.Acknowledges n j → IsRead h c room y i (read_entry h c y i (slice_get c.entries i)) a q → IsEmptyPlan q
+pub acknowledges_empty : (h : Site) (c : Broker) (room : Room) (y i : ℕ) (a : ReadAct) (n : List ℕ) (j : ℕ) (q : PlanBook) → a ≡ act.Acknowledges n j → IsRead h c room y i (read_entry h c y i (slice_get c.entries i)) a q → IsEmptyPlan q
 acknowledges_empty h c room y i a n j q is read = (there h h c c room y i a (act.Acknowledges n j) q refl refl is read).1
 
-pub acknowledges_within : (h : Site) (c : Broker) (room : Room) (y i : ℕ) (a : ReadAct) (n : List ℕ) (j : ℕ) (q : PreparedBook) → a ≡ act.Acknowledges n j → IsRead h c room y i (read_entry h c y i (slice_get c.entries i)) a q
+pub acknowledges_within : (h : Site) (c : Broker) (room : Room) (y i : ℕ) (a : ReadAct) (n : List ℕ) (j : ℕ) (q : PlanBook) → a ≡ act.Acknowledges n j → IsRead h c room y i (read_entry h c y i (slice_get c.entries i)) a q
     → j < length c.entries
 acknowledges_within h c room y i a n j q is read = (there h h c c room y i a (act.Acknowledges n j) q refl refl is read).0.within
 
 -- m is the plan before the update was prepared, q behind it
-pub acknowledges_from : (h g : Site) (b c : Broker) (room : Room) (y i : ℕ) (a : ReadAct) (n : List ℕ) (j : ℕ) (m q : PreparedBook) → g ≡ h → c ≡ b → a ≡ act.Acknowledges n j
+pub acknowledges_from : (h g : Site) (b c : Broker) (room : Room) (y i : ℕ) (a : ReadAct) (n : List ℕ) (j : ℕ) (m q : PlanBook) → g ≡ h → c ≡ b → a ≡ act.Acknowledges n j
     → IsRead g c room y i (read_entry g c y i (slice_get c.entries i)) a m
     → IsPrepared g c (handled y i (passing g c n (passed_over y 0 (j + 1) c.entries) (sub_named c.subs n)) (change.Acked n ∷ [])) q
     → IsPrepared h b (read_entry h b y i (slice_get b.entries i)) q

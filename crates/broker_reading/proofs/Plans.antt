@@ -20,7 +20,7 @@ use Rattle.geo_base.specs.Sender.{Sender, new_sender}
 use Rattle.geo_base.specs.Subscription.{Subscription}
 use Rattle.geo_base.specs.Topic.{next_position}
 use Rattle.geo_base.specs.Updating.{handled}
-use Rattle.broker_state.specs.Prepared.{PreparedBook, idle_book, quiet_book}
+use Rattle.broker_state.specs.Plan.{PlanBook, idle_book, quiet_book}
 use Rattle.broker_state.specs.Room.{HasRoom, Room}
 use Rattle.broker_state.specs.declared.change.BookChange.TheVariants as book_change
 use Rattle.broker_plans.specs.Prepared.{IsPrepared}
@@ -31,11 +31,11 @@ use Rattle.frame_values.specs.Coded.{IsWritten}
 
 -- ---- nothing is done
 
-pub idle : (h : Site) (b : Broker) (p : PreparedBook) → p ≡ idle_book → IsPrepared h b idle_plan p
+pub idle : (h : Site) (b : Broker) (p : PlanBook) → p ≡ idle_book → IsPrepared h b idle_plan p
 idle h b p is =
     rw is (record { steps = refl; sent = tt; fits = record { writes_named = tt; changes_named = tt; writes = tt; changes = tt }; stored = record { writes = tt; changes = tt } })
 
-pub idle_room : (room : Room) (p : PreparedBook) → p ≡ idle_book → HasRoom room p
+pub idle_room : (room : Room) (p : PlanBook) → p ≡ idle_book → HasRoom room p
 idle_room room p is =
     rw is (record { writes = record { entries = omega arith; streams = omega arith; places = omega arith; acks = tt; senders = omega arith }; given = omega arith; senders = omega arith })
 
@@ -49,7 +49,7 @@ reads_on ss y i s within sent = (rw (length-set ss y s) within, rw (get_or-set_s
 abbrev pub acked_sender : Broker → ℕ → ℕ → Sender
 acked_sender b y i = record (sender_at b y) { cursor = with_index (sender_at b y).cursor i }
 
-pub skipped : (h : Site) (b : Broker) (y i : ℕ) (p : PreparedBook) → IsReading h b y i → p ≡ handled_book y i (quiet_book 0) → IsPrepared h b (handled y i [] []) p
+pub skipped : (h : Site) (b : Broker) (y i : ℕ) (p : PlanBook) → IsReading h b y i → p ≡ handled_book y i (quiet_book 0) → IsPrepared h b (handled y i [] []) p
 skipped h b y i p at is =
     rw is (record {
       steps = refl;
@@ -63,7 +63,7 @@ skipped h b y i p at is =
       stored = record { writes = tt; changes = tt };
     })
 
-pub skipped_room : (room : Room) (y i : ℕ) (p : PreparedBook) → ReadRoom room → p ≡ handled_book y i (quiet_book 0) → HasRoom room p
+pub skipped_room : (room : Room) (y i : ℕ) (p : PlanBook) → ReadRoom room → p ≡ handled_book y i (quiet_book 0) → HasRoom room p
 skipped_room room y i p has is =
     rw is (record {
       writes = record { entries = omega arith; streams = omega arith; places = omega arith; acks = (tt, tt); senders = omega (arith, has.senders) };
@@ -73,7 +73,7 @@ skipped_room room y i p has is =
 
 -- behind a marker
 
-pub stored : (h : Site) (b : Broker) (y i : ℕ) (e : Entry) (p : PreparedBook) → IsReading h b y i → IsReady h b e → p ≡ handled_book y i (record (quiet_book 0) { writes = appending e ∷ [] })
+pub stored : (h : Site) (b : Broker) (y i : ℕ) (e : Entry) (p : PlanBook) → IsReading h b y i → IsReady h b e → p ≡ handled_book y i (record (quiet_book 0) { writes = appending e ∷ [] })
     → IsPrepared h b (handled y i (write.Append e ∷ []) []) p
 stored h b y i e p at ready is =
     rw is (record {
@@ -88,7 +88,7 @@ stored h b y i e p at ready is =
       stored = record { writes = (ready.storable, tt); changes = tt };
     })
 
-pub stored_room : (room : Room) (y i : ℕ) (e : Entry) (p : PreparedBook) → ReadRoom room → p ≡ handled_book y i (record (quiet_book 0) { writes = appending e ∷ [] }) → HasRoom room p
+pub stored_room : (room : Room) (y i : ℕ) (e : Entry) (p : PlanBook) → ReadRoom room → p ≡ handled_book y i (record (quiet_book 0) { writes = appending e ∷ [] }) → HasRoom room p
 stored_room room y i e p has is =
     rw is (record {
       writes = record { entries = omega (arith, has.entries); streams = omega (arith, has.streams); places = omega arith; acks = (tt, (tt, tt)); senders = omega (arith, has.senders) };
@@ -98,7 +98,7 @@ stored_room room y i e p has is =
 
 -- behind a change of the snapshot that is being made
 
-pub kept : (h : Site) (b : Broker) (y i : ℕ) (u : Builder) (p : PreparedBook) → IsReading h b y i → IsBuilderOf h u
+pub kept : (h : Site) (b : Broker) (y i : ℕ) (u : Builder) (p : PlanBook) → IsReading h b y i → IsBuilderOf h u
     → p ≡ handled_book y i (record (quiet_book 0) { changes = book_change.Building (Some u) ∷ [] }) → IsPrepared h b (handled y i [] (change.Building (Some u) ∷ [])) p
 kept h b y i u p at of is =
     rw is (record {
@@ -113,7 +113,7 @@ kept h b y i u p at of is =
       stored = record { writes = tt; changes = (of, tt) };
     })
 
-pub kept_room : (room : Room) (y i : ℕ) (u : Builder) (p : PreparedBook) → ReadRoom room → p ≡ handled_book y i (record (quiet_book 0) { changes = book_change.Building (Some u) ∷ [] }) → HasRoom room p
+pub kept_room : (room : Room) (y i : ℕ) (u : Builder) (p : PlanBook) → ReadRoom room → p ≡ handled_book y i (record (quiet_book 0) { changes = book_change.Building (Some u) ∷ [] }) → HasRoom room p
 kept_room room y i u p has is =
     rw is (record {
       writes = record { entries = omega arith; streams = omega arith; places = omega arith; acks = (tt, tt); senders = omega (arith, has.senders) };
@@ -123,10 +123,10 @@ kept_room room y i u p has is =
 
 -- behind both
 
-abbrev pub told_book : Entry → Option Builder → PreparedBook
+abbrev pub told_book : Entry → Option Builder → PlanBook
 told_book e o = record (quiet_book 0) { writes = appending e ∷ []; changes = book_change.Building o ∷ [] }
 
-pub told : (h : Site) (b : Broker) (y i : ℕ) (e : Entry) (o : Option Builder) (p : PreparedBook) → IsReading h b y i → IsReady h b e → IfSome o (IsBuilderOf h)
+pub told : (h : Site) (b : Broker) (y i : ℕ) (e : Entry) (o : Option Builder) (p : PlanBook) → IsReading h b y i → IsReady h b e → IfSome o (IsBuilderOf h)
     → p ≡ handled_book y i (told_book e o) → IsPrepared h b (handled y i (write.Append e ∷ []) (change.Building o ∷ [])) p
 told h b y i e o p at ready of is =
     rw is (record {
@@ -141,7 +141,7 @@ told h b y i e o p at ready of is =
       stored = record { writes = (ready.storable, tt); changes = (of, tt) };
     })
 
-pub told_room : (room : Room) (y i : ℕ) (e : Entry) (o : Option Builder) (p : PreparedBook) → ReadRoom room → p ≡ handled_book y i (told_book e o) → HasRoom room p
+pub told_room : (room : Room) (y i : ℕ) (e : Entry) (o : Option Builder) (p : PlanBook) → ReadRoom room → p ≡ handled_book y i (told_book e o) → HasRoom room p
 told_room room y i e o p has is =
     rw is (record {
       writes = record { entries = omega (arith, has.entries); streams = omega (arith, has.streams); places = omega arith; acks = (tt, (tt, tt)); senders = omega (arith, has.senders) };
@@ -151,13 +151,13 @@ told_room room y i e o p has is =
 
 -- ---- an entry is sent
 
-abbrev pub forwarding_book : Broker → ℕ → ℕ → List ℕ → PreparedBook
+abbrev pub forwarding_book : Broker → ℕ → ℕ → List ℕ → PlanBook
 forwarding_book b y i bytes = record (quiet_book 0) {
   changes = book_change.Pend y i ∷ [];
   sent = record { to = peer.Forward y; session = (sender_at b y).session; frame = bytes } ∷ [];
 }
 
-pub forwarded : (h : Site) (b : Broker) (y i : ℕ) (e : Entry) (bytes : List ℕ) (p : PreparedBook) → IsReading h b y i
+pub forwarded : (h : Site) (b : Broker) (y i : ℕ) (e : Entry) (bytes : List ℕ) (p : PlanBook) → IsReading h b y i
     → IsWritten h.clusters (frame.Send (sender_at b y).session (sender_at b y).next (Some (place.Known h.own)) e) bytes → p ≡ forwarding_book b y i bytes
     → IsPrepared h b (forwards h y (sender_at b y) i e) p
 forwarded h b y i e bytes p at written is =
@@ -168,7 +168,7 @@ forwarded h b y i e bytes p at written is =
       stored = record { writes = tt; changes = tt };
     })
 
-pub forwarded_room : (room : Room) (b : Broker) (y i : ℕ) (bytes : List ℕ) (p : PreparedBook) → ReadRoom room → p ≡ forwarding_book b y i bytes → HasRoom room p
+pub forwarded_room : (room : Room) (b : Broker) (y i : ℕ) (bytes : List ℕ) (p : PlanBook) → ReadRoom room → p ≡ forwarding_book b y i bytes → HasRoom room p
 forwarded_room room b y i bytes p has is =
     rw is (record {
       writes = record { entries = omega arith; streams = omega arith; places = omega arith; acks = tt; senders = omega arith };
@@ -178,7 +178,7 @@ forwarded_room room b y i bytes p has is =
 
 -- ---- a snapshot begins
 
-pub asked : (h : Site) (b : Broker) (e : Entry) (u : Builder) (p : PreparedBook) → IsReady h b e → IsBuilderOf h u → p ≡ told_book e (Some u)
+pub asked : (h : Site) (b : Broker) (e : Entry) (u : Builder) (p : PlanBook) → IsReady h b e → IsBuilderOf h u → p ≡ told_book e (Some u)
     → IsPrepared h b (plan_of (write.Append e ∷ []) (change.Building (Some u) ∷ []) []) p
 asked h b e u p ready of is =
     rw is (record {
@@ -188,7 +188,7 @@ asked h b e u p ready of is =
       stored = record { writes = (ready.storable, tt); changes = (of, tt) };
     })
 
-pub asked_room : (room : Room) (e : Entry) (u : Builder) (p : PreparedBook) → 1 ≤ room.entries → 1 ≤ room.streams → p ≡ told_book e (Some u) → HasRoom room p
+pub asked_room : (room : Room) (e : Entry) (u : Builder) (p : PlanBook) → 1 ≤ room.entries → 1 ≤ room.streams → p ≡ told_book e (Some u) → HasRoom room p
 asked_room room e u p entries streams is =
     rw is (record {
       writes = record { entries = omega (arith, entries); streams = omega (arith, streams); places = omega arith; acks = (tt, tt); senders = omega arith };
@@ -200,11 +200,11 @@ asked_room room e u p entries streams is =
 abbrev pub may_ask : Broker → Bool
 may_ask b = list_any (λ (s : Subscription). s.replicated) b.subs && is_none b.builder
 
-pub not_asked : (h : Site) (b : Broker) (p : PreparedBook) → may_ask b ≡ false → p ≡ idle_book → IsPrepared h b (snap h b) p
+pub not_asked : (h : Site) (b : Broker) (p : PlanBook) → may_ask b ≡ false → p ≡ idle_book → IsPrepared h b (snap h b) p
 unfolding snap
 not_asked h b p may is = rw may (idle h b p is)
 
-pub asks_now : (h g : Site) (b c : Broker) (id : List ℕ) (p : PreparedBook) → g ≡ h → c ≡ b → may_ask b ≡ true → id ≡ snapshot_id (cluster_name h h.own) (next_position h.per_ledger b.ledgers)
+pub asks_now : (h g : Site) (b c : Broker) (id : List ℕ) (p : PlanBook) → g ≡ h → c ≡ b → may_ask b ≡ true → id ≡ snapshot_id (cluster_name h h.own) (next_position h.per_ledger b.ledgers)
     → IsPrepared g c (asks g c id) p → IsPrepared h b (snap h b) p
 unfolding snap
 asks_now h g b c id p site same may named prepared =

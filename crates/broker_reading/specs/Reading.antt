@@ -8,7 +8,7 @@ use Rattle.geo_base.specs.Broker.{Broker, Site, sender_at, sub_named}
 use Rattle.geo_base.specs.Plan.{Plan}
 use Rattle.geo_base.specs.Topic.{accepts}
 use Rattle.geo_base.specs.Updating.{handled, passed_over, passing}
-use Rattle.broker_state.specs.Prepared.{IsEmptyPlan, PreparedBook}
+use Rattle.broker_state.specs.Plan.{IsEmptyPlan, PlanBook}
 use Rattle.broker_state.specs.Room.{HasRoom, Room}
 use Rattle.broker_state.specs.declared.change.BookChange.TheVariants as book_change
 use Rattle.broker_state.specs.declared.write.BookWrite.TheVariants as book_write
@@ -32,7 +32,7 @@ pub record ReadRoom (room : Room) : Type 0 where
   pub senders : 1 ≤ room.senders
 
 -- an event, and what the sender to y has read at index i acknowledged behind it
-abbrev pub handled_book : ℕ → ℕ → PreparedBook → PreparedBook
+abbrev pub handled_book : ℕ → ℕ → PlanBook → PlanBook
 handled_book y i p = record p { writes = p.writes ++ book_write.SenderAck y i ∷ []; changes = p.changes ++ book_change.ReadTo y (i + 1) ∷ [] }
 
 -- a marker that the broker can store now
@@ -46,7 +46,7 @@ pub record IsAcknowledging (h : Site) (b : Broker) (y i : ℕ) (p : Plan) (n : L
   pub within : j < length b.entries
 
 -- what is done with an entry is the plan p: it is prepared, or it is such an update, and nothing is prepared yet
-abbrev pub IsRead : Site → Broker → Room → ℕ → ℕ → Plan → ReadAct → PreparedBook → Type 0
+abbrev pub IsRead : Site → Broker → Room → ℕ → ℕ → Plan → ReadAct → PlanBook → Type 0
 IsRead h b room y i p act.Ready q = IsPrepared h b p q × HasRoom room q
 IsRead h b room y i p (act.Acknowledges n j) q = IsAcknowledging h b y i p n j × IsEmptyPlan q
 

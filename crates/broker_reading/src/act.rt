@@ -1,12 +1,12 @@
 //! What a sender does with what it reads.
 ghost use Rattle.std.specs.Prelude.{◌≡◌, ◌<◌, ◌+◌, ◌^◌, [], OnOk};
 ghost use Rattle.geo_base.specs.Updating.{handled};
-ghost use Rattle.broker_state.specs.Prepared.{IsEmptyPlan};
+ghost use Rattle.broker_state.specs.Plan.{IsEmptyPlan};
 ghost use Rattle.broker_state.specs.Room.{HasRoom};
 ghost use Rattle.broker_plans.specs.Prepared.{IsPrepared};
 ghost use Rattle.broker_reading.specs.Reading.{IsReading, ReadRoom, handled_book};
 
-use broker_state::{Book, BookChange, BookWrite, Prepared};
+use broker_state::{BookChange, BookWrite, BrokerState, Plan};
 use geo_base::{Memory, SubName};
 
 /// The sender to a cluster reads the entry at an index.
@@ -26,7 +26,7 @@ pub(crate) enum ReadAct {
 }
 
 /// An event behind which what was read is acknowledged on the sender's cursor.
-pub(crate) fn acknowledge_read(plan: &mut Prepared, at: ReadAt) -> Result<(), Memory>
+pub(crate) fn acknowledge_read(plan: &mut Plan, at: ReadAt) -> Result<(), Memory>
     requires { at.index + 1 < 2 ^ 64 }
     ensures { OnOk result (plan.new ≡ handled_book at.remote at.index plan.old) }
 {
@@ -41,7 +41,7 @@ pub(crate) fn acknowledge_read(plan: &mut Prepared, at: ReadAt) -> Result<(), Me
 
 /// What was read is skipped: it has no other effect.
 #[tactic(auto, using(crate::proofs::Plans::skipped, crate::proofs::Plans::skipped_room))]
-pub(crate) fn skip(book: &Book, at: ReadAt, plan: &mut Prepared) -> Result<(), Memory>
+pub(crate) fn skip(book: &BrokerState, at: ReadAt, plan: &mut Plan) -> Result<(), Memory>
     requires reading { IsReading book.now.site book.now.broker at.remote at.index }
     requires room { ReadRoom book.now.room }
     requires empty { IsEmptyPlan plan.old }

@@ -7,7 +7,7 @@ ghost use Rattle.geo_base.specs.Entry.{is_place};
 ghost use Rattle.geo_base.specs.Markers.{after_response, read_marker, read_response, response_marker};
 ghost use Rattle.geo_base.specs.Sizes.{most_entry_size};
 ghost use Rattle.geo_base.specs.Updating.{handled};
-ghost use Rattle.broker_state.specs.Prepared.{IsEmptyPlan};
+ghost use Rattle.broker_state.specs.Plan.{IsEmptyPlan};
 ghost use Rattle.broker_state.specs.Room.{HasRoom};
 ghost use Rattle.broker_plans.specs.Prepared.{CanWrite, IsPrepared, MarkerFits};
 ghost use Rattle.broker_plans.specs.Storable.{IsBuilderOf, first_text};
@@ -17,7 +17,7 @@ use crate::act::{ReadAct, ReadAt, acknowledge_read, skip};
 use crate::markers::{request, response, snapshot};
 use crate::updating::read_update;
 use broker_plans::appending;
-use broker_state::{Book, BookChange, Prepared};
+use broker_state::{BookChange, BrokerState, Plan};
 use geo_base::{ClusterPosition, Entry, EntryStore, Marker, Memory, Place, Progress, Text};
 use snapshot_builder::Builder;
 use std::alloc::Global;
@@ -26,10 +26,10 @@ use topic_ledger::or_first;
 /// What is to be done with a marker of the other cluster. Its snapshots are its own affair.
 pub(crate) fn read_marker(
     alloc: Global,
-    book: &Book,
+    book: &BrokerState,
     at: ReadAt,
     marker: &Marker,
-    plan: &mut Prepared,
+    plan: &mut Plan,
 ) -> Result<ReadAct, Memory>
     requires can { CanWrite book.now.site book.now.broker }
     requires reading { IsReading book.now.site book.now.broker at.remote at.index }
@@ -60,10 +60,10 @@ pub(crate) fn read_marker(
 /// A request is answered.
 fn answer_request(
     alloc: Global,
-    book: &Book,
+    book: &BrokerState,
     at: ReadAt,
     id: &Text,
-    plan: &mut Prepared,
+    plan: &mut Plan,
 ) -> Result<(), Memory>
     requires number { MarkerFits book.now.site book.now.broker }
     requires reading { IsReading book.now.site book.now.broker at.remote at.index }
@@ -81,10 +81,10 @@ fn answer_request(
 #[tactic(auto, using(crate::proofs::Plans::stored, crate::proofs::Plans::stored_room))]
 fn store_marker(
     alloc: Global,
-    book: &Book,
+    book: &BrokerState,
     at: ReadAt,
     marker: Entry,
-    plan: &mut Prepared,
+    plan: &mut Plan,
 ) -> Result<(), Memory>
     requires reading { IsReading book.now.site book.now.broker at.remote at.index }
     requires room { ReadRoom book.now.room }
@@ -101,11 +101,11 @@ fn store_marker(
 /// A response is heard by the snapshot that is being made; it has no effect where there is none, or where it names another cluster.
 fn hear_response(
     alloc: Global,
-    book: &Book,
+    book: &BrokerState,
     at: ReadAt,
     id: &Text,
     answer: &ClusterPosition,
-    plan: &mut Prepared,
+    plan: &mut Plan,
 ) -> Result<(), Memory>
     requires can { CanWrite book.now.site book.now.broker }
     requires reading { IsReading book.now.site book.now.broker at.remote at.index }
@@ -140,11 +140,11 @@ pub(crate) fn is_place(cluster: u32, place: &Place) -> bool
 /// What a response came to, and what the builder has become: nothing, it counts, a second round begins, the snapshot is made.
 fn act_on_progress(
     alloc: Global,
-    book: &Book,
+    book: &BrokerState,
     at: ReadAt,
     progress: Progress,
     builder: Builder,
-    plan: &mut Prepared,
+    plan: &mut Plan,
 ) -> Result<(), Memory>
     requires number { MarkerFits book.now.site book.now.broker }
     requires reading { IsReading book.now.site book.now.broker at.remote at.index }
@@ -172,10 +172,10 @@ fn act_on_progress(
 /// The snapshot that is being made has become this one.
 #[tactic(auto, using(crate::proofs::Plans::kept, crate::proofs::Plans::kept_room))]
 fn keep_builder(
-    book: &Book,
+    book: &BrokerState,
     at: ReadAt,
     builder: Builder,
-    plan: &mut Prepared,
+    plan: &mut Plan,
 ) -> Result<(), Memory>
     requires reading { IsReading book.now.site book.now.broker at.remote at.index }
     requires room { ReadRoom book.now.room }
@@ -195,11 +195,11 @@ fn keep_builder(
 #[tactic(auto, using(crate::proofs::Plans::told, crate::proofs::Plans::told_room))]
 fn store_with_builder(
     alloc: Global,
-    book: &Book,
+    book: &BrokerState,
     at: ReadAt,
     marker: Entry,
     builder: Option<Builder>,
-    plan: &mut Prepared,
+    plan: &mut Plan,
 ) -> Result<(), Memory>
     requires reading { IsReading book.now.site book.now.broker at.remote at.index }
     requires room { ReadRoom book.now.room }

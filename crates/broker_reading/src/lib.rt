@@ -1,7 +1,7 @@
 //! What a broker does for replicated subscriptions (PIP-33) and with what its senders read: a snapshot begins; a sender reads the next
 //! entry of its topic, which it sends, skips, or, being a marker of the other cluster, acts on.
 //!
-//! An event first makes room, then only looks, and then puts a `Prepared` together.
+//! An event first makes room, then only looks, and then puts a `Plan` together.
 #![tactic(auto)]
 
 mod act;

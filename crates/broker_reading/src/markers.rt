@@ -12,7 +12,7 @@ ghost use Rattle.broker_plans.specs.Storable.{IsBuilderOf, most_id};
 ghost use Rattle.broker_reading.specs.Reading.{IsReady};
 
 use broker_plans::own_marker;
-use broker_state::Book;
+use broker_state::BrokerState;
 use geo_base::{
     ClusterPosition, Entry, EntryStore, Marker, Memory, Place, Position, Sequence, Targets, Text,
 };
@@ -23,7 +23,7 @@ use topic_ledger::or_first;
 
 /// A request of this id, of a snapshot's first or second round.
 #[tactic(auto, using(crate::proofs::Sizes::request_ready))]
-pub(crate) fn request(alloc: Global, book: &Book, id: &str) -> Result<Entry, Memory>
+pub(crate) fn request(alloc: Global, book: &BrokerState, id: &str) -> Result<Entry, Memory>
     requires number { MarkerFits book.now.site book.now.broker }
     requires short { length id.now ≤ most_id + 2 }
     ensures marker { IfOk result (λ e. e ≡ request_marker book.now.site book.now.broker id.now) }
@@ -38,7 +38,12 @@ pub(crate) fn request(alloc: Global, book: &Book, id: &str) -> Result<Entry, Mem
 
 /// The answer to a request of a cluster: the last entry that was stored before it.
 #[tactic(auto, using(crate::proofs::Sizes::response_ready))]
-pub(crate) fn response(alloc: Global, book: &Book, remote: u32, id: &Text) -> Result<Entry, Memory>
+pub(crate) fn response(
+    alloc: Global,
+    book: &BrokerState,
+    remote: u32,
+    id: &Text,
+) -> Result<Entry, Memory>
     requires number { MarkerFits book.now.site book.now.broker }
     requires remote { remote < length book.now.site.clusters }
     requires short { length id.now ≤ most_entry_size }
@@ -57,7 +62,11 @@ pub(crate) fn response(alloc: Global, book: &Book, remote: u32, id: &Text) -> Re
 
 /// The snapshot that a builder has made.
 #[tactic(auto, using(crate::proofs::Sizes::snapshot_ready))]
-pub(crate) fn snapshot(alloc: Global, book: &Book, builder: &Builder) -> Result<Entry, Memory>
+pub(crate) fn snapshot(
+    alloc: Global,
+    book: &BrokerState,
+    builder: &Builder,
+) -> Result<Entry, Memory>
     requires number { MarkerFits book.now.site book.now.broker }
     requires builder { IsBuilderOf book.now.site builder.now }
     requires made { builder.now.finished ≡ true }
@@ -76,7 +85,12 @@ pub(crate) fn snapshot(alloc: Global, book: &Book, builder: &Builder) -> Result<
 }
 
 /// A marker that is for one cluster.
-fn marker_for(alloc: Global, book: &Book, marker: Marker, cluster: u32) -> Result<Entry, Memory>
+fn marker_for(
+    alloc: Global,
+    book: &BrokerState,
+    marker: Marker,
+    cluster: u32,
+) -> Result<Entry, Memory>
     requires number { MarkerFits book.now.site book.now.broker }
     requires cluster { cluster < length book.now.site.clusters }
     ensures { IfOk result (λ e. e ≡ own_marker book.now.site book.now.broker marker (targets.Only (2 ^ cluster)) (cluster_name book.now.site cluster ∷ [])) }
@@ -88,7 +102,7 @@ fn marker_for(alloc: Global, book: &Book, marker: Marker, cluster: u32) -> Resul
 }
 
 /// The targets that are one cluster.
-fn only(book: &Book, cluster: u32) -> Targets
+fn only(book: &BrokerState, cluster: u32) -> Targets
     requires { cluster < length book.now.site.clusters }
     ensures { result ≡ targets.Only (2 ^ cluster) }
 {

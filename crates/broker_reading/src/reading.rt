@@ -8,9 +8,9 @@ ghost use Rattle.geo_base.specs.Markers.{read_content};
 ghost use Rattle.geo_base.specs.Reading.{forwards, read, read_entry};
 ghost use Rattle.geo_base.specs.Sender.{index_to_read};
 ghost use Rattle.geo_base.specs.Sizes.{most_entry_size};
-ghost use Rattle.broker_state.specs.Prepared.{IsEmptyPlan};
+ghost use Rattle.broker_state.specs.Plan.{IsEmptyPlan};
 ghost use Rattle.broker_state.specs.Room.{HasRoom};
-ghost use Rattle.broker_state.specs.Book.{SameState};
+ghost use Rattle.broker_state.specs.State.{SameState};
 ghost use Rattle.broker_plans.specs.Prepared.{CanWrite, IsPrepared};
 ghost use Rattle.broker_plans.specs.Storable.{IsStorable};
 ghost use Rattle.broker_reading.specs.Reading.{IsRead, IsReading, ReadRoom, told_text};
@@ -19,7 +19,7 @@ use crate::act::{ReadAct, ReadAt, skip};
 use crate::hearing::read_marker;
 use crate::updating::acknowledge;
 use broker_plans::send_text;
-use broker_state::{Book, BookChange, Prepared};
+use broker_state::{BookChange, BrokerState, Plan};
 use geo_base::{Content, Entry, EntryStore, Memory, Peer, WireOut};
 use std::alloc::Global;
 
@@ -28,9 +28,9 @@ use std::alloc::Global;
 #[tactic(auto, unfolding(geo_base::specs::Reading::read), using(crate::proofs::Plans::idle, crate::proofs::Plans::idle_room, crate::proofs::Entries::reading_of))]
 pub fn prepare_read(
     alloc: Global,
-    book: &mut Book,
+    book: &mut BrokerState,
     remote: u32,
-    plan: &mut Prepared,
+    plan: &mut Plan,
 ) -> Result<(), Memory>
     requires can { CanWrite book.old.site book.old.broker }
     requires empty { IsEmptyPlan plan.old }
@@ -48,7 +48,7 @@ pub fn prepare_read(
 }
 
 /// The index that the sender to a cluster reads next.
-fn index_to_read(book: &Book, remote: u32) -> Option<u64>
+fn index_to_read(book: &BrokerState, remote: u32) -> Option<u64>
     requires { remote < length book.now.broker.senders }
     ensures index { result ≡ index_to_read (sender_at book.now.broker remote).state (sender_at book.now.broker remote) (length book.now.broker.entries) }
     ensures next { IfSome result (λ i. (sender_at book.now.broker remote).next ≤ i) }
@@ -60,7 +60,7 @@ fn index_to_read(book: &Book, remote: u32) -> Option<u64>
 
 /// What a sender does with the entry at an index.
 #[tactic(auto, using(crate::proofs::Entries::ready_from, crate::proofs::Entries::ready_room, crate::proofs::Entries::acknowledges_from, crate::proofs::Entries::acknowledges_empty, crate::proofs::Entries::acknowledges_within))]
-fn read_at(alloc: Global, book: &mut Book, at: ReadAt, plan: &mut Prepared) -> Result<(), Memory>
+fn read_at(alloc: Global, book: &mut BrokerState, at: ReadAt, plan: &mut Plan) -> Result<(), Memory>
     requires can { CanWrite book.old.site book.old.broker }
     requires reading { IsReading book.old.site book.old.broker at.remote at.index }
     requires empty { IsEmptyPlan plan.old }
@@ -78,7 +78,7 @@ fn read_at(alloc: Global, book: &mut Book, at: ReadAt, plan: &mut Prepared) -> R
 
 /// What is to be done with the entry at an index.
 #[tactic(auto, using(broker_plans::proofs::Packets::stored_at, crate::proofs::Plans::idle, crate::proofs::Plans::idle_room))]
-fn look(alloc: Global, book: &Book, at: ReadAt, plan: &mut Prepared) -> Result<ReadAct, Memory>
+fn look(alloc: Global, book: &BrokerState, at: ReadAt, plan: &mut Plan) -> Result<ReadAct, Memory>
     requires can { CanWrite book.now.site book.now.broker }
     requires reading { IsReading book.now.site book.now.broker at.remote at.index }
     requires room { ReadRoom book.now.room }
@@ -95,10 +95,10 @@ fn look(alloc: Global, book: &Book, at: ReadAt, plan: &mut Prepared) -> Result<R
 #[tactic(auto, using(crate::proofs::Entries::sent, crate::proofs::Entries::of_others, crate::proofs::Entries::of_other, crate::proofs::Entries::short_told))]
 fn look_at(
     alloc: Global,
-    book: &Book,
+    book: &BrokerState,
     at: ReadAt,
     entry: &Entry,
-    plan: &mut Prepared,
+    plan: &mut Plan,
 ) -> Result<ReadAct, Memory>
     requires can { CanWrite book.now.site book.now.broker }
     requires reading { IsReading book.now.site book.now.broker at.remote at.index }
@@ -120,7 +120,7 @@ fn look_at(
 }
 
 /// Whether the own cluster stored an entry first, and it goes to another one.
-fn is_outbound(book: &Book, remote: u32, entry: &Entry) -> bool
+fn is_outbound(book: &BrokerState, remote: u32, entry: &Entry) -> bool
     ensures { result ≡ is_outbound book.now.site.own remote entry.now }
 {
     entry.ident.origin == book.site().own() && entry.to.contains(remote)
@@ -129,10 +129,10 @@ fn is_outbound(book: &Book, remote: u32, entry: &Entry) -> bool
 /// What is to be done with an entry of the other cluster: a marker is acted on.
 fn read_content(
     alloc: Global,
-    book: &Book,
+    book: &BrokerState,
     at: ReadAt,
     content: &Content,
-    plan: &mut Prepared,
+    plan: &mut Plan,
 ) -> Result<ReadAct, Memory>
     requires can { CanWrite book.now.site book.now.broker }
     requires reading { IsReading book.now.site book.now.broker at.remote at.index }
@@ -154,10 +154,10 @@ fn read_content(
 #[tactic(auto, using(crate::proofs::Plans::forwarded, crate::proofs::Plans::forwarded_room))]
 fn forward(
     alloc: Global,
-    book: &Book,
+    book: &BrokerState,
     at: ReadAt,
     entry: &Entry,
-    plan: &mut Prepared,
+    plan: &mut Plan,
 ) -> Result<(), Memory>
     requires reading { IsReading book.now.site book.now.broker at.remote at.index }
     requires room { ReadRoom book.now.room }

@@ -4,15 +4,15 @@ ghost use Rattle.std.specs.List.{list_any};
 ghost use Rattle.geo_base.specs.Builder.{snapshot_id};
 ghost use Rattle.geo_base.specs.Markers.{asks, snap};
 ghost use Rattle.geo_base.specs.Subscription.{Subscription};
-ghost use Rattle.broker_state.specs.Prepared.{IsEmptyPlan};
+ghost use Rattle.broker_state.specs.Plan.{IsEmptyPlan};
 ghost use Rattle.broker_state.specs.Room.{HasRoom};
-ghost use Rattle.broker_state.specs.Book.{SameState};
+ghost use Rattle.broker_state.specs.State.{SameState};
 ghost use Rattle.broker_plans.specs.Prepared.{CanWrite, IsPrepared, MarkerFits};
 ghost use Rattle.broker_plans.specs.Storable.{most_id};
 
 use crate::markers::request;
 use broker_plans::appending;
-use broker_state::{Book, BookChange, Prepared};
+use broker_state::{BookChange, BrokerState, Plan};
 use geo_base::{EntryStore, Memory, Position, Text};
 use snapshot_builder::Builder;
 use std::alloc::Global;
@@ -20,7 +20,7 @@ use std::alloc::Global;
 /// What the beginning of a snapshot will do, among at least two clusters; it is not enabled where no subscription is replicated, or
 /// where a snapshot is being made. Only room is made; an `Err` is want of memory.
 #[tactic(auto, using(crate::proofs::Plans::not_asked, crate::proofs::Plans::idle_room, crate::proofs::Plans::asks_now))]
-pub fn prepare_snap(alloc: Global, book: &mut Book, plan: &mut Prepared) -> Result<(), Memory>
+pub fn prepare_snap(alloc: Global, book: &mut BrokerState, plan: &mut Plan) -> Result<(), Memory>
     requires can { CanWrite book.old.site book.old.broker }
     requires remotes { 2 ≤ length book.old.site.clusters }
     requires empty { IsEmptyPlan plan.old }
@@ -40,7 +40,7 @@ pub fn prepare_snap(alloc: Global, book: &mut Book, plan: &mut Prepared) -> Resu
 }
 
 /// Whether a subscription is replicated and no snapshot is being made.
-fn may_ask(book: &Book) -> bool
+fn may_ask(book: &BrokerState) -> bool
     ensures { result ≡ (list_any (λ (s : Subscription). s.replicated) book.now.broker.subs && is_none book.now.broker.builder) }
 {
     book.subs().any_replicated() && book.builder().is_none()
@@ -48,7 +48,7 @@ fn may_ask(book: &Book) -> bool
 
 /// A request of this id is stored, and a builder begins.
 #[tactic(auto, using(crate::proofs::Plans::asked, crate::proofs::Plans::asked_room, crate::proofs::Heard::started_builder))]
-fn ask(alloc: Global, book: &Book, id: &Text, plan: &mut Prepared) -> Result<(), Memory>
+fn ask(alloc: Global, book: &BrokerState, id: &Text, plan: &mut Plan) -> Result<(), Memory>
     requires number { MarkerFits book.now.site book.now.broker }
     requires remotes { 2 ≤ length book.now.site.clusters }
     requires short { length id.now ≤ most_id }

@@ -8,9 +8,9 @@ ghost use Rattle.geo_base.specs.Storing.{cursor_write};
 ghost use Rattle.geo_base.specs.Subscribing.{has_room};
 ghost use Rattle.geo_base.specs.Updating.{handled, only_index, passed_over, passing, positions_for, read_update};
 ghost use Rattle.broker_subs.specs.Table.{sub_at};
-ghost use Rattle.broker_state.specs.Prepared.{IsEmptyPlan};
+ghost use Rattle.broker_state.specs.Plan.{IsEmptyPlan};
 ghost use Rattle.broker_state.specs.Room.{HasRoom};
-ghost use Rattle.broker_state.specs.Book.{SameState};
+ghost use Rattle.broker_state.specs.State.{SameState};
 ghost use Rattle.broker_plans.specs.Prepared.{CanWrite, IsPrepared};
 ghost use Rattle.broker_reading.specs.Reading.{IsRead, IsReading, ReadRoom};
 ghost use Rattle.broker_reading.specs.Updating.{listed, update_acks};
@@ -18,7 +18,7 @@ ghost use Rattle.broker_reading.specs.Updating.{listed, update_acks};
 use crate::act::{ReadAct, ReadAt, acknowledge_read, skip};
 use crate::hearing::is_place;
 use broker_plans::{begin_write, place_named, sub_at, update_after};
-use broker_state::{Book, BookChange, BookWrite, Prepared};
+use broker_state::{BookChange, BookWrite, BrokerState, Plan};
 use broker_subs::{Sub, SubChange, SubWrite};
 use cursor_acks::Cursor;
 use geo_base::limits::SUBSCRIPTIONS;
@@ -29,11 +29,11 @@ use std::alloc::Global;
 /// its name is a name of a subscription that is here or may be made (own).
 pub(crate) fn read_update(
     alloc: Global,
-    book: &Book,
+    book: &BrokerState,
     at: ReadAt,
     sub: &Text,
     remote: &[ClusterPosition],
-    plan: &mut Prepared,
+    plan: &mut Plan,
 ) -> Result<ReadAct, Memory>
     requires reading { IsReading book.now.site book.now.broker at.remote at.index }
     requires room { ReadRoom book.now.room }
@@ -53,7 +53,7 @@ pub(crate) fn read_update(
 }
 
 /// The index of the one position that an update names for the own cluster, where it names exactly one and that is stored.
-fn only_index(book: &Book, remote: &[ClusterPosition]) -> Option<u64>
+fn only_index(book: &BrokerState, remote: &[ClusterPosition]) -> Option<u64>
     ensures index { result ≡ only_index book.now.broker.ledgers (positions_for book.now.site.own remote.now) }
     ensures within { IfSome result (λ j. j < length book.now.broker.entries) }
 {
@@ -70,7 +70,7 @@ fn only_index(book: &Book, remote: &[ClusterPosition]) -> Option<u64>
 }
 
 /// The index of a position, if there is one and it is stored.
-fn index_of(book: &Book, position: Option<Position>) -> Option<u64>
+fn index_of(book: &BrokerState, position: Option<Position>) -> Option<u64>
     ensures index { result ≡ only_index book.now.broker.ledgers (listed position) }
     ensures within { IfSome result (λ j. j < length book.now.broker.entries) }
 {
@@ -89,7 +89,7 @@ fn is_name(word: &[u8]) -> bool
 
 /// Whether a subscription of a name is here or may be made.
 #[tactic(auto, using(broker_plans::proofs::Places::many))]
-fn has_room(book: &Book, sub: &Text) -> bool
+fn has_room(book: &BrokerState, sub: &Text) -> bool
     ensures { result ≡ has_room book.now.broker sub.now }
 {
     place_named(book, sub.as_bytes()).is_some() || book.subs().len() < SUBSCRIPTIONS
@@ -112,11 +112,11 @@ fn sub_name(alloc: Global, text: &Text) -> Result<SubName, Memory>
 #[tactic(auto, using(crate::proofs::Acknowledged::missing_prepared, crate::proofs::Acknowledged::there_prepared))]
 pub(crate) fn acknowledge(
     alloc: Global,
-    book: &mut Book,
+    book: &mut BrokerState,
     at: ReadAt,
     sub: SubName,
     to: u64,
-    plan: &mut Prepared,
+    plan: &mut Plan,
 ) -> Result<(), Memory>
     requires can { CanWrite book.old.site book.old.broker }
     requires reading { IsReading book.old.site book.old.broker at.remote at.index }
@@ -137,11 +137,11 @@ pub(crate) fn acknowledge(
 #[tactic(auto, using(crate::proofs::Acknowledged::acknowledges, crate::proofs::Acknowledged::acknowledges_room))]
 fn acknowledge_at(
     alloc: Global,
-    book: &mut Book,
+    book: &mut BrokerState,
     at: ReadAt,
     place: usize,
     to: u64,
-    plan: &mut Prepared,
+    plan: &mut Plan,
 ) -> Result<(), Memory>
     requires can { CanWrite book.old.site book.old.broker }
     requires reading { IsReading book.old.site book.old.broker at.remote at.index }
@@ -163,7 +163,7 @@ fn acknowledge_at(
 }
 
 /// The write of a cursor by an update of a cluster.
-fn update_acks(book: &Book, cursor: &Cursor, remote: u32, to: u64) -> SubWrite
+fn update_acks(book: &BrokerState, cursor: &Cursor, remote: u32, to: u64) -> SubWrite
     ensures { result ≡ update_acks book.now.broker.entries cursor.now.indexes remote to }
 {
     SubWrite::Passed {
@@ -177,11 +177,11 @@ fn update_acks(book: &Book, cursor: &Cursor, remote: u32, to: u64) -> SubWrite
 #[tactic(auto, using(crate::proofs::Acknowledged::created, crate::proofs::Acknowledged::created_room))]
 fn create(
     alloc: Global,
-    book: &mut Book,
+    book: &mut BrokerState,
     at: ReadAt,
     sub: SubName,
     to: u64,
-    plan: &mut Prepared,
+    plan: &mut Plan,
 ) -> Result<(), Memory>
     requires reading { IsReading book.old.site book.old.broker at.remote at.index }
     requires senders { 1 ≤ book.old.room.senders }

@@ -21,7 +21,7 @@ use Rattle.broker_subs.specs.declared.changing.SubChange.TheVariants as sub_chan
 use Rattle.broker_subs.specs.declared.writing.SubWrite.{SubWrite}
 use Rattle.broker_subs.specs.declared.writing.SubWrite.TheVariants as sub_write
 use Rattle.broker_state.specs.Fits.{ChangesNamed}
-use Rattle.broker_state.specs.Prepared.{PreparedBook, quiet_book}
+use Rattle.broker_state.specs.Plan.{PlanBook, quiet_book}
 use Rattle.broker_state.specs.Room.{HasRoom, Room, WritesHaveRoom}
 use Rattle.broker_state.specs.declared.change.BookChange.TheVariants as book_change
 use Rattle.broker_state.specs.declared.write.BookWrite.{BookWrite}
@@ -74,10 +74,10 @@ pub some_acks : (h : Site) (b : Broker) (s : Subscription) (is : List ℕ) (i : 
 some_acks h b s is i more e = rw e refl
 
 -- the event that writes the cursor of the subscription at place k
-abbrev pub ack_book : ℕ → SubWrite → Option BookWrite → PreparedBook
+abbrev pub ack_book : ℕ → SubWrite → Option BookWrite → PlanBook
 ack_book k w o = record (quiet_book k) { writes = cursor_writes w o; changes = book_change.Sub sub_change.Acked ∷ [] }
 
-pub acked : (h : Site) (b : Broker) (k : ℕ) (w : SubWrite) (p : PreparedBook) → IsSite h → IsWritable h b → k < length b.subs → is_name (sub_at b.subs k).name ≡ true → SubWriteFits b.entries (sub_at b.subs k) w
+pub acked : (h : Site) (b : Broker) (k : ℕ) (w : SubWrite) (p : PlanBook) → IsSite h → IsWritable h b → k < length b.subs → is_name (sub_at b.subs k).name ≡ true → SubWriteFits b.entries (sub_at b.subs k) w
     → p ≡ ack_book k w (update_after h b k w (sub_at b.subs k).cache)
     → IsPrepared h b (plan_of (cursor_write h b (sub_at b.subs k) (machine_sub_write (sub_at b.subs k).name b.entries w)) (change.Acked (sub_at b.subs k).name ∷ []) []) p
 acked h b k w p site writable within named fits is =
@@ -95,11 +95,11 @@ acked h b k w p site writable within named fits is =
     })
     (record { writes = cursor_stored h b s b.entries w site named (cache_at h b.subs k writable.caches); changes = tt }))
 
-pub ack_room : (room : Room) (k : ℕ) (w : SubWrite) (o : Option BookWrite) (p : PreparedBook) → WritesHaveRoom room k (cursor_writes w o) → p ≡ ack_book k w o → HasRoom room p
+pub ack_room : (room : Room) (k : ℕ) (w : SubWrite) (o : Option BookWrite) (p : PlanBook) → WritesHaveRoom room k (cursor_writes w o) → p ≡ ack_book k w o → HasRoom room p
 ack_room room k w o p writes is = rw is (record { writes = writes; given = omega arith; senders = omega (arith, writes.senders) })
 
-pub ack_is : (k : ℕ) (w : SubWrite) (o : Option BookWrite) (q p : PreparedBook) → q ≡ record (quiet_book k) { writes = cursor_writes w o } → p ≡ record q { changes = q.changes ++ book_change.Sub sub_change.Acked ∷ [] } → p ≡ ack_book k w o
+pub ack_is : (k : ℕ) (w : SubWrite) (o : Option BookWrite) (q p : PlanBook) → q ≡ record (quiet_book k) { writes = cursor_writes w o } → p ≡ record q { changes = q.changes ++ book_change.Sub sub_change.Acked ∷ [] } → p ≡ ack_book k w o
 ack_is k w o q p begun is = is ∙ rw begun refl
 
-pub after_is : (k : ℕ) (w : SubWrite) (o u : Option BookWrite) (p : PreparedBook) → o ≡ u → p ≡ ack_book k w o → p ≡ ack_book k w u
+pub after_is : (k : ℕ) (w : SubWrite) (o u : Option BookWrite) (p : PlanBook) → o ≡ u → p ≡ ack_book k w o → p ≡ ack_book k w u
 after_is k w o u p same is = is ∙ ap (λ (x : Option BookWrite). ack_book k w x) same

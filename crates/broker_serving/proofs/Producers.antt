@@ -19,7 +19,7 @@ use Rattle.geo_base.specs.Plan.{plan_of}
 use Rattle.geo_base.specs.Producing.{attaches, is_sound, is_taken, may_attach, name_with, serve_close_producer, serve_producer, serve_send, stores, with_producers, without_producer}
 use Rattle.geo_base.specs.Sizes.{entry_size, most_entry_size}
 use Rattle.geo_base.specs.Storing.{receipt_position, storing}
-use Rattle.broker_state.specs.Prepared.{PreparedBook}
+use Rattle.broker_state.specs.Plan.{PlanBook}
 use Rattle.broker_plans.specs.Prepared.{AlsoSends, IsPrepared}
 use Rattle.broker_plans.specs.Storable.{IsReadEntry, IsStorable}
 use Rattle.broker_serving.specs.Producing.{has_id, published, refusal}
@@ -73,7 +73,7 @@ sound_storable h seq source e (Some n) sound read = record {
 -- ---- with the answer behind it
 
 -- the session's producers as the code has them
-pub having_more : (h : Site) (b : Broker) (c : ℕ) (f : Frame) (ps qs : List AttachedProducer) (p q : PreparedBook) → ps ≡ qs → IsPrepared h b (plan_of [] (with_producers c (open_at b c) ps ∷ []) []) p
+pub having_more : (h : Site) (b : Broker) (c : ℕ) (f : Frame) (ps qs : List AttachedProducer) (p q : PlanBook) → ps ≡ qs → IsPrepared h b (plan_of [] (with_producers c (open_at b c) ps ∷ []) []) p
     → AlsoSends h.clusters (record { to = peer.Client c; session = (open_at b c).number; frame = f }) p q
     → IsPrepared h b (plan_of [] (with_producers c (open_at b c) qs ∷ []) (answer c (open_at b c) f)) q
 having_more h b c f ps qs p q same is sends =
@@ -81,7 +81,7 @@ having_more h b c f ps qs p q same is sends =
     (subst (λ (xs : List AttachedProducer). IsPrepared h b (plan_of [] (with_producers c (open_at b c) xs ∷ []) []) p) same is) sends
 
 -- a message as the code has it, which bears the own cluster's number, and the position that its receipt names
-pub stored_more : (h now_h : Site) (b now : Broker) (c id seq own : ℕ) (e : Entry) (at : Position) (p q : PreparedBook) → now_h ≡ h → now ≡ b → own ≡ h.own → IsPrepared h b (plan_of (storing b (with_origin own e)) [] []) p
+pub stored_more : (h now_h : Site) (b now : Broker) (c id seq own : ℕ) (e : Entry) (at : Position) (p q : PlanBook) → now_h ≡ h → now ≡ b → own ≡ h.own → IsPrepared h b (plan_of (storing b (with_origin own e)) [] []) p
     → Some at ≡ receipt_position h.per_ledger b (with_origin own e) → AlsoSends now_h.clusters (record { to = peer.Client c; session = (open_at now c).number; frame = frame.SendReceipt id seq (Some at) }) p q
     → IsPrepared h b (stores h b c (open_at b c) id seq (with_origin h.own e)) q
 stored_more h now_h b now c id seq own e at p q same_h same is_own is place sends =

@@ -8,15 +8,15 @@ ghost use Rattle.geo_base.specs.Storing.{cursor_write};
 ghost use Rattle.geo_base.specs.Subscribing.{consumed_by};
 ghost use Rattle.broker_subs.specs.Steps.{SubWriteFits, machine_sub_write};
 ghost use Rattle.broker_subs.specs.Table.{sub_at};
-ghost use Rattle.broker_state.specs.Prepared.{IsEmptyPlan};
+ghost use Rattle.broker_state.specs.Plan.{IsEmptyPlan};
 ghost use Rattle.broker_state.specs.Room.{HasRoom};
-ghost use Rattle.broker_state.specs.Book.{SameState};
+ghost use Rattle.broker_state.specs.State.{SameState};
 ghost use Rattle.broker_plans.specs.Prepared.{CanWrite, IsPrepared};
 ghost use Rattle.broker_serving.specs.Acknowledging.{WritesAcks};
 
 use crate::answering::ignore;
 use broker_plans::{begin_write, place_consumed, sub_at, update_after};
-use broker_state::{Book, BookChange, Prepared};
+use broker_state::{BookChange, BrokerState, Plan};
 use broker_subs::{SubChange, SubWrite};
 use geo_base::{AckKind, Memory, Position, Sequence, SubKind};
 use std::alloc::Global;
@@ -33,10 +33,10 @@ pub(crate) struct Acked {
 #[tactic(auto, using(crate::proofs::Acks::no_acks, crate::proofs::Acks::some_acks))]
 pub(crate) fn serve_ack(
     alloc: Global,
-    book: &mut Book,
+    book: &mut BrokerState,
     client: u32,
     acked: &Acked,
-    plan: &mut Prepared,
+    plan: &mut Plan,
 ) -> Result<(), Memory>
     requires can { CanWrite book.old.site book.old.broker }
     requires empty { IsEmptyPlan plan.old }
@@ -62,10 +62,10 @@ pub(crate) fn serve_ack(
 #[tactic(auto, using(crate::proofs::Acks::acked, crate::proofs::Acks::ack_room, broker_plans::proofs::Updates::update_appends))]
 fn acknowledge(
     alloc: Global,
-    book: &mut Book,
+    book: &mut BrokerState,
     place: usize,
     write: SubWrite,
-    plan: &mut Prepared,
+    plan: &mut Plan,
 ) -> Result<(), Memory>
     requires can { CanWrite book.old.site book.old.broker }
     requires place { place < length book.old.broker.subs }
@@ -83,7 +83,12 @@ fn acknowledge(
 }
 
 /// The write that an ACK asks of the subscription at a place, where it names what is stored.
-fn acks(alloc: Global, book: &Book, place: usize, acked: &Acked) -> Result<Option<SubWrite>, Memory>
+fn acks(
+    alloc: Global,
+    book: &BrokerState,
+    place: usize,
+    acked: &Acked,
+) -> Result<Option<SubWrite>, Memory>
     requires { place < length book.now.broker.subs }
     ensures { IfOk result (WritesAcks book.now.broker.entries (sub_at book.now.broker.subs place) (acked_indexes book.now.broker.ledgers (sub_at book.now.broker.subs place).kind acked.now.positions acked.now.kind)) }
 {
@@ -98,7 +103,7 @@ fn acks(alloc: Global, book: &Book, place: usize, acked: &Acked) -> Result<Optio
 #[tactic(auto, using(crate::proofs::Acks::writes_some))]
 fn acks_each(
     alloc: Global,
-    book: &Book,
+    book: &BrokerState,
     place: usize,
     positions: &[Position],
 ) -> Result<Option<SubWrite>, Memory>
@@ -111,7 +116,7 @@ fn acks_each(
 
 /// Some indexes, if there are any.
 #[tactic(auto, using(crate::proofs::Acks::writes_none, crate::proofs::Acks::each_of))]
-fn some_acks(book: &Book, place: usize, indexes: Sequence<u64>) -> Option<SubWrite>
+fn some_acks(book: &BrokerState, place: usize, indexes: Sequence<u64>) -> Option<SubWrite>
     requires { All (λ i. i < length book.now.broker.entries) indexes }
     ensures { WritesAcks book.now.broker.entries (sub_at book.now.broker.subs place) indexes result }
 {
@@ -124,7 +129,7 @@ fn some_acks(book: &Book, place: usize, indexes: Sequence<u64>) -> Option<SubWri
 /// All up to a position, if the subscription's kind allows it.
 #[tactic(auto, using(crate::proofs::Acks::writes_none))]
 fn acks_allowed(
-    book: &Book,
+    book: &BrokerState,
     place: usize,
     positions: &[Position],
 ) -> Result<Option<SubWrite>, Memory>
@@ -138,7 +143,7 @@ fn acks_allowed(
 }
 
 /// All up to a position, if it is the only one and is stored.
-fn acks_to(book: &Book, place: usize, positions: &[Position]) -> Option<SubWrite>
+fn acks_to(book: &BrokerState, place: usize, positions: &[Position]) -> Option<SubWrite>
     ensures { WritesAcks book.now.broker.entries (sub_at book.now.broker.subs place) (cumulative_indexes book.now.broker.ledgers positions.now) result }
 {
     up_to(book, place, only_index(book, positions))
@@ -146,7 +151,7 @@ fn acks_to(book: &Book, place: usize, positions: &[Position]) -> Option<SubWrite
 
 /// All up to an index, if there is one.
 #[tactic(auto, using(crate::proofs::Acks::writes_none, crate::proofs::Acks::writes_to))]
-fn up_to(book: &Book, place: usize, index: Option<u64>) -> Option<SubWrite>
+fn up_to(book: &BrokerState, place: usize, index: Option<u64>) -> Option<SubWrite>
     requires { IfSome index (λ i. i < length book.now.broker.entries) }
     ensures { WritesAcks book.now.broker.entries (sub_at book.now.broker.subs place) (up_to index) result }
 {
@@ -157,7 +162,7 @@ fn up_to(book: &Book, place: usize, index: Option<u64>) -> Option<SubWrite>
 }
 
 /// The index of the one position, if there is only one and it is stored.
-fn only_index(book: &Book, positions: &[Position]) -> Option<u64>
+fn only_index(book: &BrokerState, positions: &[Position]) -> Option<u64>
     ensures only { cumulative_indexes book.now.broker.ledgers positions.now ≡ up_to result }
     ensures within { IfSome result (λ i. i < length book.now.broker.entries) }
 {
@@ -177,7 +182,7 @@ fn allows_cumulative(kind: SubKind) -> bool
 /// The indexes of the positions that are stored.
 fn stored_indexes(
     alloc: Global,
-    book: &Book,
+    book: &BrokerState,
     positions: &[Position],
 ) -> Result<Sequence<u64>, Memory>
     ensures indexes { IfOk result (λ is. is ≡ stored_indexes book.now.broker.ledgers positions.now) }
@@ -192,7 +197,7 @@ fn stored_indexes(
 
 /// One more index, if there is one.
 #[tactic(auto, using(crate::proofs::Acks::all_with))]
-fn add(indexes: &mut Sequence<u64>, index: Option<u64>, book: &Book) -> Result<(), Memory>
+fn add(indexes: &mut Sequence<u64>, index: Option<u64>, book: &BrokerState) -> Result<(), Memory>
     requires old { All (λ i. i < length book.now.broker.entries) indexes.old }
     requires one { IfSome index (λ i. i < length book.now.broker.entries) }
     ensures indexes { OnOk result (indexes.new ≡ indexes.old ++ with_stored index []) }

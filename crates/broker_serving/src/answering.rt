@@ -4,7 +4,7 @@ ghost use Rattle.geo_base.specs.declared.frame.Frame.TheVariants as frame;
 ghost use Rattle.geo_base.specs.declared.packet.Peer.TheVariants as peer;
 ghost use Rattle.geo_base.specs.Answers.{answers, refuses};
 ghost use Rattle.geo_base.specs.Plan.{quiet_plan};
-ghost use Rattle.broker_state.specs.Prepared.{IsEmptyPlan};
+ghost use Rattle.broker_state.specs.Plan.{IsEmptyPlan};
 ghost use Rattle.broker_state.specs.Room.{HasRoom, Room};
 ghost use Rattle.broker_plans.specs.Prepared.{AlsoSends, IsPrepared};
 ghost use Rattle.broker_serving.specs.Serving.{IsOpen, open_at};
@@ -13,7 +13,7 @@ ghost use Rattle.frame_values.specs.Fitting.{IsSmall};
 ghost use Rattle.frame_values.specs.Texts.{is_readable};
 
 use broker_plans::also_send;
-use broker_state::{Book, Prepared};
+use broker_state::{BrokerState, Plan};
 use geo_base::{AttachedProducer, Frame, Memory, Peer, Session};
 use std::alloc::Global;
 
@@ -30,7 +30,7 @@ pub(crate) const CONSUMER_NOT_FOUND: u64 = 13;
 pub(crate) const PRODUCER_BUSY: u64 = 16;
 
 /// The session that a client has open.
-pub(crate) fn open_session(book: &Book, client: u32) -> &Session
+pub(crate) fn open_session(book: &BrokerState, client: u32) -> &Session
     requires { IsOpen book.now.broker client }
     ensures { result.now ≡ open_at book.now.broker client }
 {
@@ -41,7 +41,7 @@ pub(crate) fn open_session(book: &Book, client: u32) -> &Session
 }
 
 /// The producers of the session that a client has open.
-pub(crate) fn open_producers(book: &Book, client: u32) -> &[AttachedProducer]
+pub(crate) fn open_producers(book: &BrokerState, client: u32) -> &[AttachedProducer]
     requires { IsOpen book.now.broker client }
     ensures { result.now ≡ (open_at book.now.broker client).producers }
 {
@@ -51,9 +51,9 @@ pub(crate) fn open_producers(book: &Book, client: u32) -> &[AttachedProducer]
 /// Also answers a client, in its open session, behind all that the event does.
 pub(crate) fn also_answer(
     alloc: Global,
-    book: &Book,
+    book: &BrokerState,
     client: u32,
-    plan: &mut Prepared,
+    plan: &mut Plan,
     frame: Frame,
 ) -> Result<(), Memory>
     requires open { IsOpen book.now.broker client }
@@ -73,10 +73,10 @@ pub(crate) fn also_answer(
 #[tactic(auto, using(crate::proofs::Shapes::nothing, broker_plans::proofs::Keeping::sends_more, broker_plans::proofs::Keeping::room_more, broker_plans::proofs::Keeping::no_room))]
 pub(crate) fn answer(
     alloc: Global,
-    book: &Book,
+    book: &BrokerState,
     client: u32,
     frame: Frame,
-    plan: &mut Prepared,
+    plan: &mut Plan,
 ) -> Result<(), Memory>
     requires open { IsOpen book.now.broker client }
     requires simple { carries_entry frame ≡ false }
@@ -94,11 +94,11 @@ pub(crate) fn answer(
 /// Refuses a request.
 pub(crate) fn refuse(
     alloc: Global,
-    book: &Book,
+    book: &BrokerState,
     client: u32,
     request: u64,
     code: u64,
-    plan: &mut Prepared,
+    plan: &mut Plan,
 ) -> Result<(), Memory>
     requires open { IsOpen book.now.broker client }
     requires empty { IsEmptyPlan plan.old }
@@ -111,7 +111,7 @@ pub(crate) fn refuse(
 
 /// An event that is enabled, and does nothing.
 #[tactic(auto, using(crate::proofs::Shapes::nothing, broker_plans::proofs::Keeping::no_room))]
-pub(crate) fn ignore(book: &Book, plan: &mut Prepared)
+pub(crate) fn ignore(book: &BrokerState, plan: &mut Plan)
     requires { IsEmptyPlan plan.old }
     ensures prepared { IsPrepared book.now.site book.now.broker (quiet_plan []) plan.new }
     ensures room { (room : Room) → HasRoom room plan.new }

@@ -6,25 +6,25 @@ ghost use Rattle.geo_base.specs.Answers.{succeeds};
 ghost use Rattle.geo_base.specs.Plan.{plan_of, quiet_plan};
 ghost use Rattle.geo_base.specs.Subscribing.{consumed_by, serve_close_consumer, serve_flow, serve_unsubscribe};
 ghost use Rattle.broker_subs.specs.Table.{sub_at};
-ghost use Rattle.broker_state.specs.Prepared.{IsEmptyPlan};
+ghost use Rattle.broker_state.specs.Plan.{IsEmptyPlan};
 ghost use Rattle.broker_state.specs.Room.{HasRoom, Room};
 ghost use Rattle.broker_plans.specs.Prepared.{IsPrepared};
 ghost use Rattle.broker_serving.specs.Serving.{IsOpen, open_at};
 
 use crate::answering::{CONSUMER_NOT_FOUND, UNKNOWN_ERROR, also_answer, ignore, refuse};
 use broker_plans::{place_consumed, sub_at};
-use broker_state::{Book, BookChange, BookWrite, Prepared};
+use broker_state::{BookChange, BookWrite, BrokerState, Plan};
 use broker_subs::SubChange;
 use geo_base::{Frame, Memory};
 use std::alloc::Global;
 
 /// What FLOW will do: the consumer gains permits, if it is here.
 pub(crate) fn serve_flow(
-    book: &Book,
+    book: &BrokerState,
     client: u32,
     id: u64,
     permits: u64,
-    plan: &mut Prepared,
+    plan: &mut Plan,
 ) -> Result<(), Memory>
     requires empty { IsEmptyPlan plan.old }
     ensures prepared { OnOk result (IsPrepared book.now.site book.now.broker (serve_flow client permits (consumed_by book.now.broker.subs client id)) plan.new) }
@@ -42,11 +42,11 @@ pub(crate) fn serve_flow(
 /// A consumer of the subscription at a place gains permits.
 #[tactic(auto, using(crate::proofs::Shapes::permits, crate::proofs::Shapes::permit_room))]
 fn permit(
-    book: &Book,
+    book: &BrokerState,
     client: u32,
     place: usize,
     permits: u64,
-    plan: &mut Prepared,
+    plan: &mut Plan,
 ) -> Result<(), Memory>
     requires place { place < length book.now.broker.subs }
     requires empty { IsEmptyPlan plan.old }
@@ -61,11 +61,11 @@ fn permit(
 /// What UNSUBSCRIBE will do.
 pub(crate) fn serve_unsubscribe(
     alloc: Global,
-    book: &Book,
+    book: &BrokerState,
     client: u32,
     id: u64,
     request: u64,
-    plan: &mut Prepared,
+    plan: &mut Plan,
 ) -> Result<(), Memory>
     requires open { IsOpen book.now.broker client }
     requires empty { IsEmptyPlan plan.old }
@@ -81,11 +81,11 @@ pub(crate) fn serve_unsubscribe(
 /// The subscription at a place ends with its last consumer's wish alone.
 fn unsubscribe(
     alloc: Global,
-    book: &Book,
+    book: &BrokerState,
     client: u32,
     place: usize,
     request: u64,
-    plan: &mut Prepared,
+    plan: &mut Plan,
 ) -> Result<(), Memory>
     requires open { IsOpen book.now.broker client }
     requires place { place < length book.now.broker.subs }
@@ -103,7 +103,7 @@ fn unsubscribe(
 
 /// The subscription at a place is deleted.
 #[tactic(auto, using(crate::proofs::Shapes::deletes, crate::proofs::Shapes::delete_room))]
-fn delete(book: &Book, place: usize, plan: &mut Prepared) -> Result<(), Memory>
+fn delete(book: &BrokerState, place: usize, plan: &mut Plan) -> Result<(), Memory>
     requires place { place < length book.now.broker.subs }
     requires empty { IsEmptyPlan plan.old }
     ensures prepared { OnOk result (IsPrepared book.now.site book.now.broker (plan_of (write.Delete (sub_at book.now.broker.subs place).name ∷ []) [] []) plan.new) }
@@ -117,11 +117,11 @@ fn delete(book: &Book, place: usize, plan: &mut Prepared) -> Result<(), Memory>
 /// What CLOSE_CONSUMER will do.
 pub(crate) fn serve_close_consumer(
     alloc: Global,
-    book: &Book,
+    book: &BrokerState,
     client: u32,
     id: u64,
     request: u64,
-    plan: &mut Prepared,
+    plan: &mut Plan,
 ) -> Result<(), Memory>
     requires open { IsOpen book.now.broker client }
     requires empty { IsEmptyPlan plan.old }
@@ -137,10 +137,10 @@ pub(crate) fn serve_close_consumer(
 /// A client's consumers leave, and it is told.
 fn close_consumer(
     alloc: Global,
-    book: &Book,
+    book: &BrokerState,
     client: u32,
     request: u64,
-    plan: &mut Prepared,
+    plan: &mut Plan,
 ) -> Result<(), Memory>
     requires open { IsOpen book.now.broker client }
     requires empty { IsEmptyPlan plan.old }
@@ -154,7 +154,7 @@ fn close_consumer(
 
 /// A client's consumers leave.
 #[tactic(auto, using(crate::proofs::Shapes::detaches, crate::proofs::Shapes::detach_room))]
-fn detach_client(book: &Book, client: u32, plan: &mut Prepared) -> Result<(), Memory>
+fn detach_client(book: &BrokerState, client: u32, plan: &mut Plan) -> Result<(), Memory>
     requires empty { IsEmptyPlan plan.old }
     ensures prepared { OnOk result (IsPrepared book.now.site book.now.broker (plan_of [] (change.Detach client ∷ []) []) plan.new) }
     ensures room { (room : Room) → OnOk result (HasRoom room plan.new) }

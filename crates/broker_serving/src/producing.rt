@@ -6,7 +6,7 @@ ghost use Rattle.std.specs.Str.{bytes_eq};
 ghost use Rattle.geo_base.specs.Answers.{succeeds};
 ghost use Rattle.geo_base.specs.Plan.{plan_of};
 ghost use Rattle.geo_base.specs.Producing.{attaches, is_taken, may_attach, name_with, serve_close_producer, serve_producer, uses_name, with_producers, without_producer};
-ghost use Rattle.broker_state.specs.Prepared.{IsEmptyPlan};
+ghost use Rattle.broker_state.specs.Plan.{IsEmptyPlan};
 ghost use Rattle.broker_state.specs.Room.{HasRoom, Room};
 ghost use Rattle.broker_plans.specs.Prepared.{IsPrepared};
 ghost use Rattle.broker_serving.specs.Producing.{has_id, refusal};
@@ -15,7 +15,7 @@ ghost use Rattle.broker_serving.specs.Serving.{IsOpen, open_at};
 use crate::answering::{
     PRODUCER_BUSY, UNKNOWN_ERROR, also_answer, open_producers, open_session, refuse,
 };
-use broker_state::{Book, BookChange, Prepared};
+use broker_state::{BookChange, BrokerState, Plan};
 use geo_base::limits::PRODUCER_NAME_BYTES;
 use geo_base::{AttachedProducer, Frame, Memory, Sequence, Session, Text};
 use std::alloc::Global;
@@ -32,10 +32,10 @@ pub(crate) struct Attaching {
 /// What PRODUCER will do: the producer attaches, or is refused.
 pub(crate) fn serve_producer(
     alloc: Global,
-    book: &Book,
+    book: &BrokerState,
     client: u32,
     asked: &Attaching,
-    plan: &mut Prepared,
+    plan: &mut Plan,
 ) -> Result<(), Memory>
     requires open { IsOpen book.now.broker client }
     requires empty { IsEmptyPlan plan.old }
@@ -51,11 +51,11 @@ pub(crate) fn serve_producer(
 /// What PRODUCER with a name will do.
 fn attach_unless_refused(
     alloc: Global,
-    book: &Book,
+    book: &BrokerState,
     client: u32,
     asked: &Attaching,
     name: &Text,
-    plan: &mut Prepared,
+    plan: &mut Plan,
 ) -> Result<(), Memory>
     requires open { IsOpen book.now.broker client }
     requires empty { IsEmptyPlan plan.old }
@@ -69,7 +69,7 @@ fn attach_unless_refused(
 }
 
 /// Why a producer may not attach, as a ServerError, if it may not.
-fn refusal(book: &Book, client: u32, topic: &Text, name: &Text) -> Option<u64>
+fn refusal(book: &BrokerState, client: u32, topic: &Text, name: &Text) -> Option<u64>
     ensures refusal { result ≡ refusal book.now.site book.now.broker client topic.now name.now }
     ensures allowed { result ≡ None → may_attach name.now ≡ true }
 {
@@ -86,11 +86,11 @@ fn refusal(book: &Book, client: u32, topic: &Text, name: &Text) -> Option<u64>
 #[tactic(auto, using(crate::proofs::Producers::short_name))]
 fn attach_producer(
     alloc: Global,
-    book: &Book,
+    book: &BrokerState,
     client: u32,
     asked: &Attaching,
     name: &Text,
-    plan: &mut Prepared,
+    plan: &mut Plan,
 ) -> Result<(), Memory>
     requires open { IsOpen book.now.broker client }
     requires allowed { may_attach name.now ≡ true }
@@ -112,10 +112,10 @@ fn attach_producer(
 /// A client's session has these producers.
 #[tactic(auto, using(crate::proofs::Shapes::client_changes, crate::proofs::Shapes::change_room_none))]
 fn set_producers(
-    book: &Book,
+    book: &BrokerState,
     client: u32,
     producers: Sequence<AttachedProducer>,
-    plan: &mut Prepared,
+    plan: &mut Plan,
 ) -> Result<(), Memory>
     requires open { IsOpen book.now.broker client }
     requires empty { IsEmptyPlan plan.old }
@@ -134,11 +134,11 @@ fn set_producers(
 /// What CLOSE_PRODUCER will do.
 pub(crate) fn serve_close_producer(
     alloc: Global,
-    book: &Book,
+    book: &BrokerState,
     client: u32,
     id: u64,
     request: u64,
-    plan: &mut Prepared,
+    plan: &mut Plan,
 ) -> Result<(), Memory>
     requires open { IsOpen book.now.broker client }
     requires empty { IsEmptyPlan plan.old }
@@ -155,11 +155,11 @@ pub(crate) fn serve_close_producer(
 /// The producer of an id leaves the session.
 fn close_producer(
     alloc: Global,
-    book: &Book,
+    book: &BrokerState,
     client: u32,
     id: u64,
     request: u64,
-    plan: &mut Prepared,
+    plan: &mut Plan,
 ) -> Result<(), Memory>
     requires open { IsOpen book.now.broker client }
     requires empty { IsEmptyPlan plan.old }

@@ -5,9 +5,9 @@ ghost use Rattle.geo_base.specs.declared.frame.Frame.TheVariants as frame;
 ghost use Rattle.geo_base.specs.Answers.{answers, unknown_error};
 ghost use Rattle.geo_base.specs.Entry.{is_data, with_origin};
 ghost use Rattle.geo_base.specs.Producing.{is_sound, name_with, serve_send, stores};
-ghost use Rattle.broker_state.specs.Prepared.{IsEmptyPlan};
+ghost use Rattle.broker_state.specs.Plan.{IsEmptyPlan};
 ghost use Rattle.broker_state.specs.Room.{HasRoom, Room};
-ghost use Rattle.broker_state.specs.Book.{SameState};
+ghost use Rattle.broker_state.specs.State.{SameState};
 ghost use Rattle.broker_plans.specs.Prepared.{IsPrepared};
 ghost use Rattle.broker_plans.specs.Storable.{IsReadEntry, IsStorable};
 ghost use Rattle.broker_serving.specs.Producing.{published};
@@ -16,7 +16,7 @@ ghost use Rattle.broker_serving.specs.Serving.{IsOpen, open_at};
 use crate::answering::{UNKNOWN_ERROR, also_answer, answer, open_producers};
 use crate::producing::name_with;
 use broker_plans::storing;
-use broker_state::{Book, Prepared};
+use broker_state::{BrokerState, Plan};
 use frame_values::is_within_limit;
 use geo_base::{Content, Entry, Frame, Memory, Place, Text};
 use std::alloc::Global;
@@ -34,10 +34,10 @@ pub(crate) struct Publish {
 /// any other is refused.
 pub(crate) fn serve_send(
     alloc: Global,
-    book: &mut Book,
+    book: &mut BrokerState,
     client: u32,
     publish: Publish,
-    plan: &mut Prepared,
+    plan: &mut Plan,
 ) -> Result<(), Memory>
     requires open { IsOpen book.old.broker client }
     requires read { IsReadEntry publish.entry }
@@ -58,11 +58,11 @@ pub(crate) fn serve_send(
 /// A SEND is refused.
 fn refuse_send(
     alloc: Global,
-    book: &Book,
+    book: &BrokerState,
     client: u32,
     id: u64,
     seq: u64,
-    plan: &mut Prepared,
+    plan: &mut Plan,
 ) -> Result<(), Memory>
     requires open { IsOpen book.now.broker client }
     requires empty { IsEmptyPlan plan.old }
@@ -80,10 +80,10 @@ fn refuse_send(
 /// A sound message is stored, or is a duplicate, and is answered either way.
 fn store(
     alloc: Global,
-    book: &mut Book,
+    book: &mut BrokerState,
     client: u32,
     publish: Publish,
-    plan: &mut Prepared,
+    plan: &mut Plan,
 ) -> Result<(), Memory>
     requires open { IsOpen book.old.broker client }
     requires storable { IsStorable book.old.site (with_origin book.old.site.own publish.entry) }
@@ -110,7 +110,7 @@ fn store(
 }
 
 /// Whether a SEND is of a producer of the session, and its message is sound.
-fn may_publish(book: &Book, client: u32, publish: &Publish) -> bool
+fn may_publish(book: &BrokerState, client: u32, publish: &Publish) -> bool
     requires { IsOpen book.now.broker client }
     ensures { result ≡ published book.now.site (name_with publish.now.id (open_at book.now.broker client).producers) publish.now.seq publish.now.source publish.now.entry }
 {
@@ -119,7 +119,7 @@ fn may_publish(book: &Book, client: u32, publish: &Publish) -> bool
 }
 
 /// Whether there is a producer of this name, and the message is sound for it.
-fn is_published(book: &Book, name: Option<&Text>, publish: &Publish) -> bool
+fn is_published(book: &BrokerState, name: Option<&Text>, publish: &Publish) -> bool
     ensures { result ≡ published book.now.site (option_copied name.entry) publish.now.seq publish.now.source publish.now.entry }
 {
     match name {
@@ -130,7 +130,7 @@ fn is_published(book: &Book, name: Option<&Text>, publish: &Publish) -> bool
 
 /// Whether the producer of a name may publish a message: metadata and command agree, no cluster stored it before, it is no marker,
 /// and it is not too large.
-fn is_sound(book: &Book, name: &Text, publish: &Publish) -> bool
+fn is_sound(book: &BrokerState, name: &Text, publish: &Publish) -> bool
     ensures { result ≡ is_sound book.now.site name.now publish.now.seq publish.now.source publish.now.entry }
 {
     name.as_bytes() == publish.entry.ident.producer.as_bytes()

@@ -3,9 +3,9 @@ ghost use Rattle.std.specs.Prelude.{◌≡◌, ◌<◌, false, None, length, IfS
 ghost use Rattle.geo_base.specs.Broker.{session_at};
 ghost use Rattle.geo_base.specs.Plan.{quiet_plan};
 ghost use Rattle.geo_base.specs.Serving.{drop_client, serve, serve_command, serve_frame, session_becomes};
-ghost use Rattle.broker_state.specs.Prepared.{IsEmptyPlan};
+ghost use Rattle.broker_state.specs.Plan.{IsEmptyPlan};
 ghost use Rattle.broker_state.specs.Room.{HasRoom, Room};
-ghost use Rattle.broker_state.specs.Book.{SameState};
+ghost use Rattle.broker_state.specs.State.{SameState};
 ghost use Rattle.broker_plans.specs.Prepared.{CanWrite, IsPrepared};
 ghost use Rattle.broker_plans.specs.Storable.{IsReadFrame};
 ghost use Rattle.broker_serving.specs.Serving.{IsOpen, connects, is_consumers, is_in, is_producers, open_at, serves_in};
@@ -17,7 +17,7 @@ use crate::producing::{Attaching, serve_close_producer, serve_producer};
 use crate::publishing::{Publish, serve_send};
 use crate::subscribing::{Joining, serve_subscribe};
 use broker_plans::also_send;
-use broker_state::{Book, BookChange, Prepared};
+use broker_state::{BookChange, BrokerState, Plan};
 use geo_base::{Frame, Memory, Packet, Peer, Sequence, Session};
 use std::alloc::Global;
 
@@ -26,10 +26,10 @@ use std::alloc::Global;
 #[tactic(auto, unfolding(geo_base::specs::Serving::serve), using(crate::proofs::Shapes::idle, crate::proofs::Shapes::idle_room))]
 pub fn prepare_serve(
     alloc: Global,
-    book: &mut Book,
+    book: &mut BrokerState,
     client: u32,
     packet: Option<Packet>,
-    plan: &mut Prepared,
+    plan: &mut Plan,
 ) -> Result<(), Memory>
     requires client { client < length book.old.broker.sessions }
     requires can { CanWrite book.old.site book.old.broker }
@@ -48,7 +48,7 @@ pub fn prepare_serve(
 /// Fills an empty plan with what the end of a client's connection will do; where the client has no session open the event is not
 /// enabled, and the plan stays empty. An `Err` is want of memory: the plan is then for its caller to clear.
 #[tactic(auto, unfolding(geo_base::specs::Serving::drop_client), using(crate::proofs::Shapes::idle, crate::proofs::Shapes::idle_room))]
-pub fn prepare_drop(book: &Book, client: u32, plan: &mut Prepared) -> Result<(), Memory>
+pub fn prepare_drop(book: &BrokerState, client: u32, plan: &mut Plan) -> Result<(), Memory>
     requires client { client < length book.now.broker.sessions }
     requires empty { IsEmptyPlan plan.old }
     ensures prepared { OnOk result (IsPrepared book.now.site book.now.broker (drop_client book.now.broker client) plan.new) }
@@ -63,10 +63,10 @@ pub fn prepare_drop(book: &Book, client: u32, plan: &mut Prepared) -> Result<(),
 /// A session ends, or another one begins, and what the client had is detached.
 #[tactic(auto, using(crate::proofs::Shapes::session_changes, crate::proofs::Shapes::session_room))]
 fn change_session(
-    book: &Book,
+    book: &BrokerState,
     client: u32,
     session: Option<Session>,
-    plan: &mut Prepared,
+    plan: &mut Plan,
 ) -> Result<(), Memory>
     requires client { client < length book.now.broker.sessions }
     requires empty { IsEmptyPlan plan.old }
@@ -83,10 +83,10 @@ fn change_session(
 /// discarded.
 fn serve_packet(
     alloc: Global,
-    book: &mut Book,
+    book: &mut BrokerState,
     client: u32,
     packet: Packet,
-    plan: &mut Prepared,
+    plan: &mut Plan,
 ) -> Result<(), Memory>
     requires client { client < length book.old.broker.sessions }
     requires can { CanWrite book.old.site book.old.broker }
@@ -106,10 +106,10 @@ fn serve_packet(
 /// CONNECT opens a session.
 fn connect(
     alloc: Global,
-    book: &Book,
+    book: &BrokerState,
     client: u32,
     number: u64,
-    plan: &mut Prepared,
+    plan: &mut Plan,
 ) -> Result<(), Memory>
     requires client { client < length book.now.broker.sessions }
     requires empty { IsEmptyPlan plan.old }
@@ -129,11 +129,11 @@ fn connect(
 /// A command in a session.
 fn serve_in(
     alloc: Global,
-    book: &mut Book,
+    book: &mut BrokerState,
     client: u32,
     session: u64,
     frame: Frame,
-    plan: &mut Prepared,
+    plan: &mut Plan,
 ) -> Result<(), Memory>
     requires client { client < length book.old.broker.sessions }
     requires can { CanWrite book.old.site book.old.broker }
@@ -153,7 +153,7 @@ fn serve_in(
 }
 
 /// Whether a client's open session has a number.
-fn is_open(book: &Book, client: u32, session: u64) -> bool
+fn is_open(book: &BrokerState, client: u32, session: u64) -> bool
     requires { client < length book.now.broker.sessions }
     ensures { result ≡ is_in session (session_at book.now.broker client) }
 {
@@ -166,10 +166,10 @@ fn is_open(book: &Book, client: u32, session: u64) -> bool
 /// A command of the open session: one of a producer, or another one.
 fn serve_command(
     alloc: Global,
-    book: &mut Book,
+    book: &mut BrokerState,
     client: u32,
     frame: Frame,
-    plan: &mut Prepared,
+    plan: &mut Plan,
 ) -> Result<(), Memory>
     requires open { IsOpen book.old.broker client }
     requires can { CanWrite book.old.site book.old.broker }
@@ -218,10 +218,10 @@ fn serve_command(
 /// A command by which a consumer comes or goes, or another one.
 fn serve_consumer(
     alloc: Global,
-    book: &mut Book,
+    book: &mut BrokerState,
     client: u32,
     frame: Frame,
-    plan: &mut Prepared,
+    plan: &mut Plan,
 ) -> Result<(), Memory>
     requires open { IsOpen book.old.broker client }
     requires can { CanWrite book.old.site book.old.broker }
@@ -266,10 +266,10 @@ fn serve_consumer(
 /// FLOW, ACK and PING. A command that a client's link does not carry closes the session, without an answer.
 fn serve_other(
     alloc: Global,
-    book: &mut Book,
+    book: &mut BrokerState,
     client: u32,
     frame: Frame,
-    plan: &mut Prepared,
+    plan: &mut Plan,
 ) -> Result<(), Memory>
     requires open { IsOpen book.old.broker client }
     requires can { CanWrite book.old.site book.old.broker }
@@ -304,7 +304,12 @@ fn serve_other(
 }
 
 /// A frame that nothing is done with closes the session.
-fn close_session(book: &Book, client: u32, frame: Frame, plan: &mut Prepared) -> Result<(), Memory>
+fn close_session(
+    book: &BrokerState,
+    client: u32,
+    frame: Frame,
+    plan: &mut Plan,
+) -> Result<(), Memory>
     requires client { client < length book.now.broker.sessions }
     requires empty { IsEmptyPlan plan.old }
     ensures prepared { OnOk result (IsPrepared book.now.site book.now.broker (quiet_plan (session_becomes client None)) plan.new) }

@@ -6,16 +6,16 @@ ghost use Rattle.geo_base.specs.Broker.{sub_named};
 ghost use Rattle.geo_base.specs.Name.{is_name};
 ghost use Rattle.geo_base.specs.Subscribing.{altering, has_room, is_busy, joins, same_kind, serve_subscribe, subscribes};
 ghost use Rattle.broker_subs.specs.Table.{room_at, sub_at};
-ghost use Rattle.broker_state.specs.Prepared.{IsEmptyPlan, quiet_book};
+ghost use Rattle.broker_state.specs.Plan.{IsEmptyPlan, quiet_book};
 ghost use Rattle.broker_state.specs.Room.{HasRoom};
-ghost use Rattle.broker_state.specs.Book.{SameState};
+ghost use Rattle.broker_state.specs.State.{SameState};
 ghost use Rattle.broker_plans.specs.Prepared.{IsPrepared};
 ghost use Rattle.broker_serving.specs.Serving.{IsOpen, open_at};
 ghost use Rattle.broker_serving.specs.Subscribing.{alter_writes, altered, attach, denial, joining};
 
 use crate::answering::{CONSUMER_BUSY, UNKNOWN_ERROR, also_answer, refuse};
 use broker_plans::{place_named, sub_at};
-use broker_state::{Book, BookChange, BookWrite, Prepared};
+use broker_state::{BookChange, BookWrite, BrokerState, Plan};
 use broker_subs::{Sub, SubChange, SubWrite};
 use geo_base::limits::SUBSCRIPTIONS;
 use geo_base::{Consumer, Frame, Memory, NameFault, SubKind, SubName, Text, name_text};
@@ -36,10 +36,10 @@ pub(crate) struct Joining {
 /// What SUBSCRIBE will do.
 pub(crate) fn serve_subscribe(
     alloc: Global,
-    book: &mut Book,
+    book: &mut BrokerState,
     client: u32,
     asked: &Joining,
-    plan: &mut Prepared,
+    plan: &mut Plan,
 ) -> Result<(), Memory>
     requires open { IsOpen book.old.broker client }
     requires empty { IsEmptyPlan plan.old }
@@ -55,7 +55,7 @@ pub(crate) fn serve_subscribe(
 
 /// Why a client may not subscribe, as a ServerError, if it may not: unknown for another topic, for a name that is none, and for a
 /// subscription beyond the most that a topic has; busy for a client that has a consumer.
-fn denial(book: &Book, client: u32, asked: &Joining) -> Option<u64>
+fn denial(book: &BrokerState, client: u32, asked: &Joining) -> Option<u64>
     ensures denial { result ≡ denial book.now.site book.now.broker client asked.now.topic asked.now.sub }
     ensures named { result ≡ None → is_name asked.now.sub ≡ true }
 {
@@ -69,7 +69,7 @@ fn denial(book: &Book, client: u32, asked: &Joining) -> Option<u64>
 }
 
 /// Whether a subscription of this name and topic is here or may be made.
-fn admits(book: &Book, asked: &Joining) -> bool
+fn admits(book: &BrokerState, asked: &Joining) -> bool
     ensures admits { result ≡ (bytes_eq asked.now.topic book.now.site.topic && is_name asked.now.sub && has_room book.now.broker asked.now.sub) }
     ensures named { result ≡ true → is_name asked.now.sub ≡ true }
 {
@@ -86,7 +86,7 @@ fn is_name(word: &[u8]) -> bool
 }
 
 #[tactic(auto, using(broker_plans::proofs::Places::many))]
-fn has_room(book: &Book, sub: &Text) -> bool
+fn has_room(book: &BrokerState, sub: &Text) -> bool
     ensures { result ≡ has_room book.now.broker sub.now }
 {
     place_named(book, sub.as_bytes()).is_some() || book.subs().len() < SUBSCRIPTIONS
@@ -95,10 +95,10 @@ fn has_room(book: &Book, sub: &Text) -> bool
 /// A consumer joins a subscription, which is created where there is none.
 fn subscribe(
     alloc: Global,
-    book: &mut Book,
+    book: &mut BrokerState,
     client: u32,
     asked: &Joining,
-    plan: &mut Prepared,
+    plan: &mut Plan,
 ) -> Result<(), Memory>
     requires open { IsOpen book.old.broker client }
     requires named { is_name asked.now.sub ≡ true }
@@ -116,11 +116,11 @@ fn subscribe(
 /// A consumer joins the subscription of its name, which is at a place, unless it is busy.
 fn join_unless_busy(
     alloc: Global,
-    book: &mut Book,
+    book: &mut BrokerState,
     client: u32,
     place: usize,
     asked: &Joining,
-    plan: &mut Prepared,
+    plan: &mut Plan,
 ) -> Result<(), Memory>
     requires open { IsOpen book.old.broker client }
     requires place { place < length book.old.broker.subs }
@@ -138,7 +138,7 @@ fn join_unless_busy(
 }
 
 /// Whether consumers are at the subscription at a place that one of a kind can't join.
-fn is_busy(book: &Book, place: usize, kind: SubKind) -> bool
+fn is_busy(book: &BrokerState, place: usize, kind: SubKind) -> bool
     requires { place < length book.now.broker.subs }
     ensures { result ≡ is_busy kind (sub_at book.now.broker.subs place) }
 {
@@ -148,10 +148,10 @@ fn is_busy(book: &Book, place: usize, kind: SubKind) -> bool
 /// A consumer joins a subscription that is created first.
 fn create_and_join(
     alloc: Global,
-    book: &mut Book,
+    book: &mut BrokerState,
     client: u32,
     asked: &Joining,
-    plan: &mut Prepared,
+    plan: &mut Plan,
 ) -> Result<(), Memory>
     requires open { IsOpen book.old.broker client }
     requires named { is_name asked.now.sub ≡ true }
@@ -173,10 +173,10 @@ fn create_and_join(
 /// The subscription is created, and the consumer joins it.
 fn prepare_create(
     alloc: Global,
-    book: &Book,
+    book: &BrokerState,
     client: u32,
     asked: &Joining,
-    plan: &mut Prepared,
+    plan: &mut Plan,
 ) -> Result<(), Memory>
     requires named { is_name asked.now.sub ≡ true }
     requires missing { sub_named book.now.broker.subs asked.now.sub ≡ None }
@@ -199,11 +199,11 @@ fn prepare_create(
 /// A consumer joins the subscription at a place.
 fn join(
     alloc: Global,
-    book: &mut Book,
+    book: &mut BrokerState,
     client: u32,
     place: usize,
     asked: &Joining,
-    plan: &mut Prepared,
+    plan: &mut Plan,
 ) -> Result<(), Memory>
     requires open { IsOpen book.old.broker client }
     requires place { place < length book.old.broker.subs }
@@ -224,11 +224,11 @@ fn join(
 
 /// The subscription at a place takes the kind that came, where it has another one, and the consumer joins it.
 fn prepare_join(
-    book: &Book,
+    book: &BrokerState,
     client: u32,
     place: usize,
     asked: &Joining,
-    plan: &mut Prepared,
+    plan: &mut Plan,
 ) -> Result<(), Memory>
     requires place { place < length book.now.broker.subs }
     requires free { is_busy asked.now.kind (sub_at book.now.broker.subs place) ≡ false }
@@ -255,7 +255,7 @@ fn attach(client: u32, id: u64) -> BookChange
 }
 
 /// The event that alters the subscription at a place, where it is altered.
-fn prepare_alter(place: usize, altered: Option<SubWrite>, plan: &mut Prepared) -> Result<(), Memory>
+fn prepare_alter(place: usize, altered: Option<SubWrite>, plan: &mut Plan) -> Result<(), Memory>
     requires empty { IsEmptyPlan plan.old }
     ensures { OnOk result (plan.new ≡ record (quiet_book place) { writes = alter_writes altered }) }
 {

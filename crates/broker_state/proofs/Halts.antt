@@ -10,7 +10,7 @@ use Rattle.geo_base.specs.Plan.{all_written, done, halted}
 use Rattle.geo_base.specs.Subscription.{Subscription}
 use Rattle.broker_state.specs.declared.write.BookWrite.{BookWrite}
 use Rattle.broker_state.specs.declared.write.BookWrite.TheVariants as book_write
-use Rattle.broker_state.specs.Prepared.{PreparedBook, created_name, halted_book, name_or, plan_in}
+use Rattle.broker_state.specs.Plan.{PlanBook, created_name, halted_book, name_or, plan_in}
 use Rattle.broker_state.specs.Writes.{machine_write}
 
 -- only the first write tells whom an event creates
@@ -43,5 +43,5 @@ kept es o (suc k) (w ∷ ws) =
     ap (λ (m : List ℕ). map (machine_write m es) (w ∷ (take k ws ++ book_write.Ledger ∷ []))) same
     ∙ ap (λ xs. machine_write n es w ∷ xs) (taken (machine_write n es) k ws (book_write.Ledger ∷ []))
 
-pub halted_done : (per k : ℕ) (b : Broker) (p : PreparedBook) → done per b (plan_in b (halted_book k p)) ≡ halted per b k (plan_in b p)
+pub halted_done : (per k : ℕ) (b : Broker) (p : PlanBook) → done per b (plan_in b (halted_book k p)) ≡ halted per b k (plan_in b p)
 halted_done per k b p = ap (λ (ws : List Write). changed (all_written per b ws) change.Forget) (kept b.entries (slice_get b.subs p.sub) k p.writes)

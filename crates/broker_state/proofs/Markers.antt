@@ -5,7 +5,7 @@ use Rattle.geo_base.specs.declared.entry.Entry.{Entry}
 use Rattle.geo_base.specs.Entry.{is_own_marker}
 use Rattle.geo_base.specs.Topic.{next_marker}
 use Rattle.durable_parts.proofs.Markers.{next_marker-push}
-use Rattle.broker_state.specs.Book.{marker_number}
+use Rattle.broker_state.specs.State.{marker_number}
 
 capped : (s n : ℕ) (b : Bool) → min (if b then max (s + 1) n else n) (2 ^ 64 - 1) ≡ (if b then max (min n (2 ^ 64 - 1)) (min (s + 1) (2 ^ 64 - 1)) else min n (2 ^ 64 - 1))
 capped s n true = omega arith

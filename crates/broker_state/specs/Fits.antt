@@ -8,7 +8,7 @@ use Rattle.geo_base.specs.Plan.{all_written}
 use Rattle.geo_base.specs.Topic.{accepts}
 use Rattle.broker_subs.specs.Steps.{SubChangeFits, SubWriteFits}
 use Rattle.broker_subs.specs.Table.{is_new, names_of, sub_at}
-use Rattle.broker_state.specs.Prepared.{PreparedBook, name_in, named_plan}
+use Rattle.broker_state.specs.Plan.{PlanBook, name_in, named_plan}
 use Rattle.broker_state.specs.Writes.{machine_change, machine_write}
 use Rattle.broker_state.specs.declared.change.BookChange.{BookChange}
 use Rattle.broker_state.specs.declared.change.BookChange.TheVariants as book_change
@@ -119,13 +119,13 @@ AllChangesFit n k b [] = ⊤
 AllChangesFit n k b (c ∷ cs) = ChangeFits k b c × AllChangesFit n k (changed b (machine_change n c)) cs
 
 -- an event about the subscription of name n, where the broker's state is b
-pub record NamedFits (per : ℕ) (n : List ℕ) (b : Broker) (p : PreparedBook) : Type 0 where
+pub record NamedFits (per : ℕ) (n : List ℕ) (b : Broker) (p : PlanBook) : Type 0 where
   pub writes_named : WritesNamed n p.sub (names_of b.subs) p.writes
   pub changes_named : ChangesNamed n p.sub (all_names_after p.sub (names_of b.subs) p.writes) p.changes
   pub writes : AllWritesFit per n b.entries p.sub b p.writes
   pub changes : AllChangesFit n p.sub (all_written per b (named_plan n b.entries p).writes) p.changes
 
-abbrev pub PlanFits : ℕ → Broker → PreparedBook → Type 0
+abbrev pub PlanFits : ℕ → Broker → PlanBook → Type 0
 PlanFits per b p = NamedFits per (name_in b.subs p) b p
 
 -- as many senders, receivers and sessions as before

@@ -1,7 +1,7 @@
 pub mod Site
 pub mod Senders
 pub mod Writes
-pub mod Prepared
+pub mod Plan
 pub mod Room
 pub mod Fits
-pub mod Book
+pub mod State

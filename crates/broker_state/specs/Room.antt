@@ -2,7 +2,7 @@
 use Rattle.std.specs.Prelude.{ℕ, ◌+◌, ◌-◌, ◌≤◌, ◌<◌, List, [], ◌∷◌, ⊤}
 use Rattle.broker_subs.specs.Steps as sub
 use Rattle.broker_subs.specs.Table.{SubRoom, room_at}
-use Rattle.broker_state.specs.Prepared.{PreparedBook}
+use Rattle.broker_state.specs.Plan.{PlanBook}
 use Rattle.broker_state.specs.declared.change.BookChange.{BookChange}
 use Rattle.broker_state.specs.declared.change.BookChange.TheVariants as book_change
 use Rattle.broker_state.specs.declared.write.BookWrite.{BookWrite}
@@ -136,7 +136,7 @@ pub record ChangesHaveRoom (room : Room) (k : ℕ) (cs : List BookChange) : Type
   pub senders : total change_senders cs ≤ room.senders
 
 -- a prepared event finds the room that it needs
-pub record HasRoom (room : Room) (p : PreparedBook) : Type 0 where
+pub record HasRoom (room : Room) (p : PlanBook) : Type 0 where
   pub writes : WritesHaveRoom room p.sub p.writes
   pub given : total change_room p.changes ≤ all_room_left (room_at room.subs p.sub).room p.writes
   pub senders : total senders_of p.writes + total change_senders p.changes ≤ room.senders

@@ -3,13 +3,13 @@ ghost use Rattle.std.specs.Prelude.{◌≡◌, ◌≤◌, ◌+◌, ◌-◌, ◌^
 ghost use Rattle.geo_base.specs.Broker.{backlog};
 ghost use Rattle.topic_ledger.specs.Messages.{messages_before};
 
-use crate::book::Book;
+use crate::state::BrokerState;
 use broker_subs::Sub;
 use cursor_acks::IndexRange;
 use geo_base::EntryStore;
 use topic_ledger::TopicLedger;
 
-impl Book {
+impl BrokerState {
     /// How many of the messages a subscription has not acknowledged: all of them but those in its cursor's ranges.
     pub fn backlog(&self, sub: &Sub) -> u64
         ensures { result ≡ backlog self.now.broker sub.now.sub }

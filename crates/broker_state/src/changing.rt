@@ -10,14 +10,14 @@ ghost use Rattle.broker_state.specs.Room.{ChangeLeaves, change_room, change_send
 ghost use Rattle.broker_state.specs.Senders as sender;
 ghost use Rattle.broker_state.specs.Writes.{machine_change};
 
-use crate::book::Book;
 use crate::change::BookChange;
 use crate::sender_row::SenderStep;
+use crate::state::BrokerState;
 use broker_subs::SubChange;
 use geo_base::Session;
 use replicator::Receiver;
 
-impl Book {
+impl BrokerState {
     /// Makes one change in memory of an event about the subscription at a place.
     pub(crate) fn change(&mut self, place: usize, change: BookChange)
         requires place { ChangePlaceFits place (length self.old.broker.subs) change }

@@ -3,19 +3,19 @@ ghost use Rattle.std.specs.Prelude.{◌≡◌, ◌≤◌, ◌+◌, map};
 ghost use Rattle.geo_base.specs.Plan.{all_changed, all_written, done};
 ghost use Rattle.broker_subs.specs.Table.{names_of, room_at, sub_at};
 ghost use Rattle.broker_state.specs.Fits.{AllChangesFit, AllWritesFit, ChangesNamed, PlanFits, SameShape, WritesNamed, all_names_after};
-ghost use Rattle.broker_state.specs.Prepared.{IsEmptyPlan, name_of, plan_in};
+ghost use Rattle.broker_state.specs.Plan.{IsEmptyPlan, name_of, plan_in};
 ghost use Rattle.broker_state.specs.Room.{ChangesHaveRoom, HasRoom, WritesHaveRoom, all_room_left, senders_of, total};
 ghost use Rattle.broker_state.specs.Writes.{machine_change, machine_write};
 
-use crate::book::Book;
 use crate::change::BookChange;
-use crate::prepared::Prepared;
+use crate::plan::Plan;
+use crate::state::BrokerState;
 use crate::write::BookWrite;
 use std::collections::VecDeque;
 
-impl Book {
+impl BrokerState {
     /// Does what was prepared: its durable writes in order, and then its changes in memory. The plan is empty then.
-    pub fn commit(&mut self, plan: &mut Prepared)
+    pub fn commit(&mut self, plan: &mut Plan)
         requires room { HasRoom self.old.room plan.old }
         requires fits { PlanFits self.old.site.per_ledger self.old.broker plan.old }
         ensures broker { self.new.broker ≡ done self.old.site.per_ledger self.old.broker (plan_in self.old.broker plan.old) }

@@ -7,23 +7,23 @@
 #![tactic(auto)]
 
 mod backlog;
-mod book;
 mod change;
 mod changing;
 mod committing;
-mod prepared;
+mod plan;
 mod reserving;
 mod sender_row;
 mod senders;
 mod site;
 mod starting;
+mod state;
 mod write;
 mod writing;
 
-pub use book::Book;
 pub use change::BookChange;
-pub use prepared::Prepared;
+pub use plan::Plan;
 pub use sender_row::{SenderRow, SenderStep};
 pub use senders::SenderTable;
 pub use site::Site;
+pub use state::BrokerState;
 pub use write::BookWrite;

@@ -2,10 +2,10 @@
 ghost use Rattle.std.specs.Prelude.{◌≡◌, ◌<◌, ◌≤◌, length, OnOk};
 ghost use Rattle.broker_subs.specs.Table.{room_at};
 
-use crate::book::Book;
+use crate::state::BrokerState;
 use geo_base::{EntryStore, Memory};
 
-impl Book {
+impl BrokerState {
     /// Makes room for `n` more entries, each of a new stream, or ledgers.
     pub fn reserve_entries(&mut self, n: usize) -> Result<(), Memory>
         ensures broker { self.new.broker ≡ self.old.broker }

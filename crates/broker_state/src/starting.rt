@@ -3,19 +3,19 @@ ghost use Rattle.std.specs.Prelude.{◌≡◌, ◌++◌, ◌∷◌, [], None, le
 ghost use Rattle.geo_base.specs.Sender.{sender_restarted};
 ghost use Rattle.durable_parts.specs.Durable.{broker_of, durable_part};
 ghost use Rattle.durable_parts.specs.Parts as durable;
-ghost use Rattle.broker_state.specs.Book.{no_room};
+ghost use Rattle.broker_state.specs.State.{no_room};
 ghost use Rattle.broker_state.specs.Senders.{senders_of};
 
-use crate::book::{Book, closed_receivers, no_sessions};
 use crate::sender_row::SenderRow;
 use crate::senders::SenderTable;
 use crate::site::Site;
+use crate::state::{BrokerState, closed_receivers, no_sessions};
 use broker_subs::SubTable;
 use durable_parts::{Durable, DurableSender, DurableSenders, recover};
 use geo_base::Memory;
 use std::alloc::Global;
 
-impl Book {
+impl BrokerState {
     /// What is durable.
     pub fn durable(&self, alloc: Global) -> Result<Durable, Memory>
         ensures broker { IfOk result (λ d. broker_of d ≡ durable_part self.now.broker) }
@@ -36,7 +36,7 @@ impl Book {
         site: Site,
         durable: Durable,
         clients: usize,
-    ) -> Result<Book, Memory>
+    ) -> Result<BrokerState, Memory>
         requires own { durable.own ≡ site.own }
         requires per_ledger { durable.store.per_ledger ≡ site.per_ledger }
         requires senders { length durable.senders ≡ length site.clusters }
@@ -52,7 +52,7 @@ impl Book {
         } = durable;
         let senders = SenderTable::restored(alloc, own, senders)?;
         let receivers = closed_receivers(alloc, senders.len())?;
-        Ok(Book {
+        Ok(BrokerState {
             site,
             store,
             dedup: recovered.dedup,

@@ -10,15 +10,15 @@ ghost use Rattle.broker_state.specs.Fits.{PlaceFits, SameShape, WriteFits, names
 ghost use Rattle.broker_state.specs.Room.{AcksFit, WriteLeaves, entries_of, places_of, senders_of, streams_of};
 ghost use Rattle.broker_state.specs.Writes.{machine_write};
 
-use crate::book::Book;
 use crate::sender_row::SenderStep;
+use crate::state::BrokerState;
 use crate::write::BookWrite;
 use broker_subs::{Sub, SubWrite};
 use dedup_table::Stream;
 use durable_parts::marker_after;
 use geo_base::{Entry, EntryStore};
 
-impl Book {
+impl BrokerState {
     /// Does one durable write of an event about the subscription at a place.
     pub(crate) fn write(&mut self, place: usize, write: BookWrite)
         requires place { PlaceFits place (length self.old.broker.subs) write }

@@ -11,7 +11,7 @@ use Rattle.geo_base.specs.World.{World, broker_at, client_at, node, topic_at}
 use Rattle.world.specs.World.{IsAt, WorldBook, no_node, node_at}
 use Rattle.report_nodes.proofs.Parts.{lines_added, with_line_feeds-append}
 use Rattle.report_lines.proofs.Added.{line_added}
-use Rattle.broker.specs.Node.{NodeBook}
+use Rattle.broker.specs.Node.{BrokerBook}
 use Rattle.world_laws.specs.Reached.{IsGround}
 use Rattle.world_kept.proofs.Reaching.{ground}
 use Rattle.world_laws.proofs.Sizes.{node_lt}
@@ -26,14 +26,14 @@ here xs i x within read = drop_more xs i x within ∙ ap (λ (z : _). z ∷ drop
 -- ---- the broker of a topic at a cluster
 
 module _ (s : Setup) (b : WorldBook) (at : IsAt s b) (t x : ℕ) (topic : t < length s.topics) (cluster : x < length s.clusters) where
-  abbrev broker : NodeBook
+  abbrev broker : BrokerBook
   broker = node_at b.nodes (node s t x)
 
   in_nodes : node s t x < length b.nodes
   in_nodes = subst (λ (m : ℕ). node s t x < m) (sym at.nodes.count) (node_lt s t x (topic, cluster))
 
   pub broker_there : broker.broker ≡ topic_at s (shown_world b) t x
-  broker_there = sym (get_or-map (λ (v : NodeBook). v.broker) b.nodes (node s t x) no_node no_broker in_nodes)
+  broker_there = sym (get_or-map (λ (v : BrokerBook). v.broker) b.nodes (node s t x) no_node no_broker in_nodes)
 
   clusters_there : broker.site.clusters ≡ s.clusters
   clusters_there = ap (λ (h : Site). h.clusters) (at.nodes.each t x topic cluster).site
@@ -54,7 +54,7 @@ module _ (s : Setup) (b : WorldBook) (at : IsAt s b) (t x : ℕ) (topic : t < le
       ap (λ (names : List (List ℕ)). broker_lines names broker.site.own broker.broker) clusters_there
       ∙ (ap (λ (own : ℕ). broker_lines s.clusters own broker.broker) own_there ∙ ap (broker_lines s.clusters x) broker_there)
 
-  pub place_added : (name n : List ℕ) (v : NodeBook) (old mid new whole : List ℕ) → n ≡ get_or s.clusters x n → v ≡ broker
+  pub place_added : (name n : List ℕ) (v : BrokerBook) (old mid new whole : List ℕ) → n ≡ get_or s.clusters x n → v ≡ broker
       → mid ≡ old ++ (words (codes "topic" ∷ name ∷ codes "at" ∷ n ∷ []) ++ 10 ∷ [])
       → new ≡ mid ++ with_line_feeds (broker_lines v.site.clusters v.site.own v.broker)
       → old ++ with_line_feeds (cluster_lines s (shown_world b) t name x (drop x s.clusters)) ≡ whole
@@ -63,18 +63,18 @@ module _ (s : Setup) (b : WorldBook) (at : IsAt s b) (t x : ℕ) (topic : t < le
       let rest = cluster_lines s (shown_world b) t name (x + 1) (drop (x + 1) s.clusters) in
       let at_cluster = broker_lines s.clusters x (topic_at s (shown_world b) t x) in
       let added : new ≡ mid ++ with_line_feeds at_cluster =
-      then_broker ∙ ap (λ (ls : List (List ℕ)). mid ++ with_line_feeds ls) (ap (λ (u : NodeBook). broker_lines u.site.clusters u.site.own u.broker) is ∙ lines_there) in
+      then_broker ∙ ap (λ (ls : List (List ℕ)). mid ++ with_line_feeds ls) (ap (λ (u : BrokerBook). broker_lines u.site.clusters u.site.own u.broker) is ∙ lines_there) in
       lines_added mid new whole at_cluster rest added
       (line_added old mid (words (codes "topic" ∷ name ∷ codes "at" ∷ n ∷ [])) whole (at_cluster ++ rest) first (rw (here s.clusters x n cluster read) at before))
 
 -- the messages that the one topic stored at a cluster
 pub stored_added : (s : Setup) (b : WorldBook) (at : IsAt s b) (x : ℕ) (topic : 0 < length s.topics) (cluster : x < length s.clusters)
-    → (n : List ℕ) (v : NodeBook) (old new whole : List ℕ) → n ≡ get_or s.clusters x n → v ≡ node_at b.nodes (node s 0 x)
+    → (n : List ℕ) (v : BrokerBook) (old new whole : List ℕ) → n ≡ get_or s.clusters x n → v ≡ node_at b.nodes (node s 0 x)
     → new ≡ old ++ (stored_line n v.broker.entries ++ 10 ∷ [])
     → old ++ with_line_feeds (stored_lines s (shown_world b) x (drop x s.clusters)) ≡ whole
     → new ++ with_line_feeds (stored_lines s (shown_world b) (x + 1) (drop (x + 1) s.clusters)) ≡ whole
 stored_added s b at x topic cluster n v old new whole read is added before =
-    let stored : v.broker ≡ topic_at s (shown_world b) 0 x = ap (λ (u : NodeBook). u.broker) is ∙ broker_there s b at 0 x topic cluster in
+    let stored : v.broker ≡ topic_at s (shown_world b) 0 x = ap (λ (u : BrokerBook). u.broker) is ∙ broker_there s b at 0 x topic cluster in
     line_added old new (stored_line n v.broker.entries) whole (stored_lines s (shown_world b) (x + 1) (drop (x + 1) s.clusters)) added
     (rw (← stored) at (rw (here s.clusters x n cluster read) at before))
 

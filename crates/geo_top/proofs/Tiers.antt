@@ -8,7 +8,7 @@ use Rattle.geo_base.specs.Report.{entry_lines, with_line_feeds}
 use Rattle.geo_base.specs.Run.{all_limits, run}
 use Rattle.geo_base.specs.Setup.{Setup}
 use Rattle.geo_base.specs.World.{World, node, topic_at}
-use Rattle.broker.specs.Node.{NodeBook}
+use Rattle.broker.specs.Node.{BrokerBook}
 use Rattle.ledger_laws.proofs.Readable.{readable_law, readable_tellable}
 use Rattle.ledger_texts.specs.Readable.{AreTellable}
 use Rattle.report_lines.proofs.Added.{line_added}
@@ -40,16 +40,16 @@ module _ (s : Setup) (b : WorldBook) (at : IsAt s b) (t x : ℕ) (topic : t < le
   there = topic_at s (shown_world b) t x
 
   -- the store of a broker has what the broker is shown with
-  pub entries_there : (v : NodeBook) (es : List Entry) → v ≡ node_at b.nodes (node s t x) → es ≡ v.broker.entries → es ≡ there.entries
-  entries_there v es is stored = stored ∙ ap (λ (c : Broker). c.entries) (ap (λ (u : NodeBook). u.broker) is ∙ broker_there s b at t x topic cluster)
+  pub entries_there : (v : BrokerBook) (es : List Entry) → v ≡ node_at b.nodes (node s t x) → es ≡ v.broker.entries → es ≡ there.entries
+  entries_there v es is stored = stored ∙ ap (λ (c : Broker). c.entries) (ap (λ (u : BrokerBook). u.broker) is ∙ broker_there s b at t x topic cluster)
 
-  ledgers_there : (v : NodeBook) (ls : List ℕ) → v ≡ node_at b.nodes (node s t x) → ls ≡ v.broker.ledgers → ls ≡ there.ledgers
-  ledgers_there v ls is stored = stored ∙ ap (λ (c : Broker). c.ledgers) (ap (λ (u : NodeBook). u.broker) is ∙ broker_there s b at t x topic cluster)
+  ledgers_there : (v : BrokerBook) (ls : List ℕ) → v ≡ node_at b.nodes (node s t x) → ls ≡ v.broker.ledgers → ls ≡ there.ledgers
+  ledgers_there v ls is stored = stored ∙ ap (λ (c : Broker). c.ledgers) (ap (λ (u : BrokerBook). u.broker) is ∙ broker_there s b at t x topic cluster)
 
-  per_there : (v : NodeBook) (per : ℕ) → v ≡ node_at b.nodes (node s t x) → per ≡ v.site.per_ledger → per ≡ s.per_ledger
-  per_there v per is stored = stored ∙ ap (λ (h : Site). h.per_ledger) (ap (λ (u : NodeBook). u.site) is ∙ (at.nodes.each t x topic cluster).site)
+  per_there : (v : BrokerBook) (per : ℕ) → v ≡ node_at b.nodes (node s t x) → per ≡ v.site.per_ledger → per ≡ s.per_ledger
+  per_there v per is stored = stored ∙ ap (λ (h : Site). h.per_ledger) (ap (λ (u : BrokerBook). u.site) is ∙ (at.nodes.each t x topic cluster).site)
 
-  pub tier_added : (keep moved per : ℕ) (name n : List ℕ) (v : NodeBook) (es : List Entry) (ledgers : List ℕ) (old mid new whole : List ℕ) → n ≡ get_or s.clusters x n → v ≡ node_at b.nodes (node s t x)
+  pub tier_added : (keep moved per : ℕ) (name n : List ℕ) (v : BrokerBook) (es : List Entry) (ledgers : List ℕ) (old mid new whole : List ℕ) → n ≡ get_or s.clusters x n → v ≡ node_at b.nodes (node s t x)
       → es ≡ v.broker.entries → ledgers ≡ v.broker.ledgers → per ≡ v.site.per_ledger → moved ≡ moved_ledgers per keep ledgers
       → mid ≡ old ++ (moved_line name n moved ++ 10 ∷ [])
       → new ≡ mid ++ with_line_feeds (entry_lines s.clusters ledgers 0 es)

@@ -8,7 +8,7 @@ use Rattle.geo_base.specs.Report.{with_line_feeds}
 use Rattle.geo_base.specs.Run.{run}
 use Rattle.geo_base.specs.Setup.{Setup}
 use Rattle.geo_base.specs.World.{World, node, topic_at}
-use Rattle.broker.specs.Node.{NodeBook}
+use Rattle.broker.specs.Node.{BrokerBook}
 use Rattle.report_lines.proofs.Added.{line_added}
 use Rattle.report_nodes.proofs.Parts.{lines_added}
 use Rattle.report_views.specs.Views.{horizon_line, view_lines, view_messages}
@@ -52,7 +52,7 @@ name_at xs i x within read = read ∙ same
     same = cc (drop_more xs i x within, drop_more xs i [] within)
 
 pub view_added : (s : Setup) (b : WorldBook) (at : IsAt s b) (t x : ℕ) (topic : t < length s.topics) (cluster : x < length s.clusters)
-    → (horizon : ℕ) (name n : List ℕ) (v : NodeBook) (es : List Entry) (ledgers : List ℕ) (old mid new whole : List ℕ) → n ≡ get_or s.clusters x n → v ≡ node_at b.nodes (node s t x)
+    → (horizon : ℕ) (name n : List ℕ) (v : BrokerBook) (es : List Entry) (ledgers : List ℕ) (old mid new whole : List ℕ) → n ≡ get_or s.clusters x n → v ≡ node_at b.nodes (node s t x)
     → es ≡ v.broker.entries → ledgers ≡ v.broker.ledgers
     → mid ≡ old ++ (horizon_line name n (min horizon (length es)) ++ 10 ∷ [])
     → new ≡ mid ++ with_line_feeds (view_messages s.clusters horizon ledgers es)
@@ -60,7 +60,7 @@ pub view_added : (s : Setup) (b : WorldBook) (at : IsAt s b) (t x : ℕ) (topic 
     → new ++ with_line_feeds (views_at s (shown_world b) horizon t name (x + 1) (drop (x + 1) s.clusters)) ≡ whole
 view_added s b at t x topic cluster horizon name n v es ledgers old mid new whole read is entries ledgers_are first then_view before =
     let rest = views_at s (shown_world b) horizon t name (x + 1) (drop (x + 1) s.clusters) in
-    let there : v.broker ≡ topic_at s (shown_world b) t x = ap (λ (u : NodeBook). u.broker) is ∙ broker_there s b at t x topic cluster in
+    let there : v.broker ≡ topic_at s (shown_world b) t x = ap (λ (u : BrokerBook). u.broker) is ∙ broker_there s b at t x topic cluster in
     let shown = view_messages s.clusters horizon ledgers es in
     let same : view_lines s.clusters name n horizon (topic_at s (shown_world b) t x).ledgers (topic_at s (shown_world b) t x).entries ≡ horizon_line name n (min horizon (length es)) ∷ shown =
     view_there s.clusters name n horizon v.broker (topic_at s (shown_world b) t x) ledgers es there ledgers_are entries in

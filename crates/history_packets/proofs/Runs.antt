@@ -10,7 +10,7 @@ use Rattle.world_laws.proofs.ByteHistories.{bytes_are_histories}
 use Rattle.world_laws.proofs.MergedRun.{has_begun, has_recorded}
 use Rattle.world_laws.specs.Recorded.{IsAsRecorded, merged_world}
 use Rattle.frame_laws.proofs.AlikeBytes.{alike_bytes}
-use Rattle.book_laws.specs.Books.{StandsAs, byte_packet}
+use Rattle.book_laws.specs.Books.{StandsAs}
 use Rattle.history_packets.specs.declared.layout.Home.{Home}
 use Rattle.history_packets.specs.Kept.{Kept, kept_by}
 use Rattle.history_packets.specs.Differences.{AllSent}
@@ -21,7 +21,7 @@ use Rattle.history_packets.proofs.Linked.{linked}
 -- what the same bytes stand for is alike, and so they agree
 agree : (s : Setup) (l : LayoutView) (kept : List (List Kept)) (hs : List (List RecordedEvent)) → AreStood s l kept hs → ((n : ℕ) → AllSent l kept n) → AreHistories s hs
 agree s l kept hs are all =
-    bytes_are_histories (StandsAs s.clusters) s (λ n. kept_by kept n) hs (λ b p q h k. alike_bytes s (byte_packet b) p q h k) (linked s l kept hs are all)
+    bytes_are_histories (StandsAs s.clusters) s (λ n. kept_by kept n) hs (λ b p q h k. alike_bytes s b p q h k) (linked s l kept hs are all)
 
 -- ---- the run over their merge
 pub runs_whole : (s : Setup) (l : LayoutView) (kept : List (List Kept)) (hs : List (List RecordedEvent))

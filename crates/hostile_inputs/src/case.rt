@@ -2,7 +2,7 @@
 
 use crate::hostile::{kept, node, stop, take};
 use anyhow::Result;
-use broker::TopicNode;
+use broker::Broker;
 use geo_base::{Content, EntryStore, WireOut};
 use std::alloc::Global;
 use std::fmt;
@@ -110,7 +110,7 @@ pub fn tell(alloc: Global, session: u64, frame: &[u8]) -> Result<Told> {
 }
 
 /// What a topic's first entry is.
-fn first_of(node: &TopicNode) -> Stored {
+fn first_of(node: &Broker) -> Stored {
     match node.store().get(0) {
         None => Stored::Nothing,
         Some(entry) => match entry.content {

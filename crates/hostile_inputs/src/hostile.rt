@@ -3,7 +3,7 @@ ghost use Rattle.std.specs.Prelude.{◌≡◌, IfOk};
 ghost use Rattle.hostile_inputs.specs.Setting.{setting};
 
 use anyhow::{Result, bail};
-use broker::TopicNode;
+use broker::Broker;
 use broker_state::Site;
 use geo_base::{Blob, ClusterName, EntryStore, Event, Fate, Stamp, TopicName, WireOut};
 use std::alloc::Global;
@@ -35,11 +35,11 @@ fn site(alloc: Global) -> Result<Site>
 }
 
 /// The broker before anything has happened.
-pub fn node(alloc: Global) -> Result<TopicNode>
+pub fn node(alloc: Global) -> Result<Broker>
     ensures { IfOk result (λ v. v.site ≡ setting) }
 {
     let site = site(alloc)?;
-    Ok(TopicNode::new(alloc, 0, site, Vec::new(alloc), 0)?)
+    Ok(Broker::new(alloc, 0, site, Vec::new(alloc), 0)?)
 }
 
 /// The next packet of the link.
@@ -54,7 +54,7 @@ fn packet(alloc: Global, session: u64, frame: &[u8]) -> Result<WirePacket>
 }
 
 /// The packets that answer a packet of a session.
-pub fn take(alloc: Global, node: &mut TopicNode, session: u64, frame: &[u8]) -> Result<Vec<WireOut>>
+pub fn take(alloc: Global, node: &mut Broker, session: u64, frame: &[u8]) -> Result<Vec<WireOut>>
     ensures { node.new.site ≡ node.old.site }
 {
     if !node.accepts(&TAKE) {
@@ -66,7 +66,7 @@ pub fn take(alloc: Global, node: &mut TopicNode, session: u64, frame: &[u8]) -> 
 }
 
 /// The broker stops behind the first durable write of a packet of a session.
-pub fn stop(alloc: Global, node: &mut TopicNode, session: u64, frame: &[u8]) -> Result<()>
+pub fn stop(alloc: Global, node: &mut Broker, session: u64, frame: &[u8]) -> Result<()>
     ensures { node.new.site ≡ node.old.site }
 {
     if !node.accepts(&TAKE) {
@@ -78,11 +78,11 @@ pub fn stop(alloc: Global, node: &mut TopicNode, session: u64, frame: &[u8]) -> 
 }
 
 /// How many entries the broker has after it was saved and loaded.
-pub fn kept(alloc: Global, node: &TopicNode) -> Result<usize>
+pub fn kept(alloc: Global, node: &Broker) -> Result<usize>
     requires { node.now.site ≡ setting }
 {
     let durable = node.durable(alloc)?;
     let site = site(alloc)?;
-    let loaded = TopicNode::from_durable(alloc, 0, site, Vec::new(alloc), durable, 0)?;
+    let loaded = Broker::from_durable(alloc, 0, site, Vec::new(alloc), durable, 0)?;
     Ok(loaded.store().len())
 }

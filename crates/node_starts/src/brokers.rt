@@ -5,7 +5,7 @@ ghost use Rattle.geo_base.specs.Broker.{new_broker};
 ghost use Rattle.geo_base.specs.Setup.{sub_names};
 ghost use Rattle.geo_base.specs.World.{site};
 
-use broker::TopicNode;
+use broker::Broker;
 use broker_state::Site;
 use geo_base::limits::SUBSCRIPTIONS;
 use geo_base::{ClusterName, Memory, Name, SubName};
@@ -18,7 +18,7 @@ pub fn new_node(
     scenario: &Scenario,
     topic: u32,
     cluster: u32,
-) -> Result<TopicNode, Memory>
+) -> Result<Broker, Memory>
     requires topic { topic < length scenario.now.setup.topics }
     requires cluster { cluster < length scenario.now.setup.clusters }
     ensures node { IfOk result (IsNodeOf scenario.now.setup topic cluster) }
@@ -26,7 +26,7 @@ pub fn new_node(
 {
     let site = new_site(alloc, scenario, topic, cluster)?;
     let names = sub_names(alloc, scenario, topic)?;
-    TopicNode::new(alloc, topic, site, names, scenario.clients().len())
+    Broker::new(alloc, topic, site, names, scenario.clients().len())
 }
 
 /// What the broker of a topic at a cluster knows of the setup. An `Err` is want of memory.

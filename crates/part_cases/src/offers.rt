@@ -3,13 +3,13 @@ ghost use Rattle.std.specs.Prelude.{◌≡◌, [], IfOk};
 ghost use Rattle.broker_plans.specs.Prepared.{CanWrite};
 
 use broker_offers::*;
-use broker_state::{Book, Prepared, Site};
+use broker_state::{BrokerState, Plan, Site};
 use geo_base::{ClusterName, TopicName};
 use std::alloc::Global;
 use std::test::Fail;
 
 /// A new broker of the first of two clusters.
-fn new_broker(alloc: Global) -> Result<Book, Fail>
+fn new_broker(alloc: Global) -> Result<BrokerState, Fail>
     ensures can { IfOk result (λ b. CanWrite b.site b.broker) }
     ensures none { IfOk result (λ b. b.broker.subs ≡ []) }
 {
@@ -17,13 +17,13 @@ fn new_broker(alloc: Global) -> Result<Book, Fail>
     clusters.push(ClusterName::read(alloc, "west")?)?;
     clusters.push(ClusterName::read(alloc, "east")?)?;
     let site = Site::new(0, clusters, TopicName::read(alloc, "t")?, 2);
-    Ok(Book::new(alloc, site, 1)?)
+    Ok(BrokerState::new(alloc, site, 1)?)
 }
 
 #[test]
 fn nothing_is_offered(rt: HostRuntime) -> Result<(), Fail> {
     let mut broker = new_broker(rt.alloc())?;
-    let mut plan = Prepared::new(rt.alloc());
+    let mut plan = Plan::new(rt.alloc());
     prepare_offer(rt.alloc(), &mut broker, b"s", &mut plan)?;
     assert!(rt; plan.is_idle());
     Ok(())
@@ -32,7 +32,7 @@ fn nothing_is_offered(rt: HostRuntime) -> Result<(), Fail> {
 #[test]
 fn no_cursor_is_set(rt: HostRuntime) -> Result<(), Fail> {
     let mut broker = new_broker(rt.alloc())?;
-    let mut plan = Prepared::new(rt.alloc());
+    let mut plan = Plan::new(rt.alloc());
     prepare_seek(rt.alloc(), &mut broker, b"s", None, &mut plan)?;
     assert!(rt; plan.is_idle());
     Ok(())
@@ -41,7 +41,7 @@ fn no_cursor_is_set(rt: HostRuntime) -> Result<(), Fail> {
 #[test]
 fn a_restart_is_no_idle_event(rt: HostRuntime) -> Result<(), Fail> {
     let mut broker = new_broker(rt.alloc())?;
-    let mut plan = Prepared::new(rt.alloc());
+    let mut plan = Plan::new(rt.alloc());
     prepare_restart(&mut broker, &mut plan)?;
     assert!(rt; !plan.is_idle());
     Ok(())

@@ -5,7 +5,7 @@ ghost use Rattle.geo_base.specs.Cursor.{mark};
 ghost use Rattle.geo_base.specs.Report.{broker_lines, sender_line, sender_lines, sub_line, with_line_feeds};
 ghost use Rattle.broker_subs.specs.Table.{sub_at};
 
-use broker::TopicNode;
+use broker::Broker;
 use broker_subs::Sub;
 use geo_base::{Blob, Memory};
 use report_lines::{SubShown, add, add_entries, sender_line, sub_line};
@@ -13,7 +13,7 @@ use std::alloc::Global;
 
 /// Appends the lines of a broker: its topic's entries, its senders, and its subscriptions. It has a sender for each cluster, the
 /// own one unused.
-pub fn add_broker(alloc: Global, lines: &mut Blob, broker: &TopicNode) -> Result<(), Memory>
+pub fn add_broker(alloc: Global, lines: &mut Blob, broker: &Broker) -> Result<(), Memory>
     requires { length broker.now.broker.senders ≡ length broker.now.site.clusters }
     ensures { OnOk result (lines.new ≡ lines.old ++ with_line_feeds (broker_lines broker.now.site.clusters broker.now.site.own broker.now.broker)) }
 {
@@ -23,7 +23,7 @@ pub fn add_broker(alloc: Global, lines: &mut Blob, broker: &TopicNode) -> Result
 }
 
 /// The senders to the other clusters.
-fn add_senders(alloc: Global, lines: &mut Blob, broker: &TopicNode) -> Result<(), Memory>
+fn add_senders(alloc: Global, lines: &mut Blob, broker: &Broker) -> Result<(), Memory>
     requires { length broker.now.broker.senders ≡ length broker.now.site.clusters }
     ensures { OnOk result (lines.new ≡ lines.old ++ with_line_feeds (sender_lines broker.now.site.own 0 broker.now.site.clusters broker.now.broker.senders)) }
 {
@@ -38,7 +38,7 @@ fn add_senders(alloc: Global, lines: &mut Blob, broker: &TopicNode) -> Result<()
 fn add_sender(
     alloc: Global,
     lines: &mut Blob,
-    broker: &TopicNode,
+    broker: &Broker,
     remote: u32,
     name: &str,
 ) -> Result<(), Memory>
@@ -56,7 +56,7 @@ fn add_sender(
 }
 
 /// The subscriptions, in order of creation.
-fn add_subs(alloc: Global, lines: &mut Blob, broker: &TopicNode) -> Result<(), Memory>
+fn add_subs(alloc: Global, lines: &mut Blob, broker: &Broker) -> Result<(), Memory>
     ensures { OnOk result (lines.new ≡ lines.old ++ with_line_feeds (map (sub_line broker.now.broker) broker.now.broker.subs)) }
 {
     for place in 0..broker.subs() {
@@ -66,7 +66,7 @@ fn add_subs(alloc: Global, lines: &mut Blob, broker: &TopicNode) -> Result<(), M
 }
 
 /// The subscription at a place.
-fn add_sub(alloc: Global, lines: &mut Blob, broker: &TopicNode, place: usize) -> Result<(), Memory>
+fn add_sub(alloc: Global, lines: &mut Blob, broker: &Broker, place: usize) -> Result<(), Memory>
     requires { place < length broker.now.broker.subs }
     ensures { OnOk result (lines.new ≡ lines.old ++ (sub_line broker.now.broker (sub_at broker.now.broker.subs place) ++ 10 ∷ [])) }
 {

@@ -5,12 +5,12 @@ ghost use Rattle.geo_base.specs.Sender.{index_to_read};
 ghost use Rattle.geo_base.specs.Traced.{cause_of, position_read};
 ghost use Rattle.trace_events.specs.Writes.{ReadsWithin};
 
-use broker::TopicNode;
+use broker::Broker;
 use geo_base::{Cause, EntryStore, Event, Position};
 use topic_ledger::or_first;
 
 /// The cause of what an event of a broker acknowledges: a marker that is offered, an update that is read, or else a client.
-pub(crate) fn cause_of(node: &TopicNode, event: &Event) -> Cause
+pub(crate) fn cause_of(node: &Broker, event: &Event) -> Cause
     requires { ReadsWithin node.now.site event.now }
     ensures { result ≡ cause_of node.now.broker event.now }
 {
@@ -22,7 +22,7 @@ pub(crate) fn cause_of(node: &TopicNode, event: &Event) -> Cause
 }
 
 /// The position of the entry that the sender to a cluster reads next; that of the first where it reads none.
-fn position_read(node: &TopicNode, remote: u32) -> Position
+fn position_read(node: &Broker, remote: u32) -> Position
     requires { remote < length node.now.site.clusters }
     ensures { result ≡ position_read node.now.broker (index_to_read (sender_at node.now.broker remote).state (sender_at node.now.broker remote) (length node.now.broker.entries)) }
 {

@@ -2,11 +2,11 @@
 ghost use Rattle.std.specs.Prelude.{◌≡◌, ◌≤◌, length};
 ghost use Rattle.trace_events.specs.Writes.{naming};
 
-use broker::TopicNode;
+use broker::Broker;
 use trace_acts::Naming;
 
 /// The topic and the cluster of a broker, by their names.
-pub(crate) fn naming(node: &TopicNode) -> Naming<'_>
+pub(crate) fn naming(node: &Broker) -> Naming<'_>
     ensures naming { result ≡ naming node.entry.now.site }
     ensures few { length node.entry.now.site.clusters ≤ 8 }
 {

@@ -3,15 +3,15 @@ ghost use Rattle.std.specs.Prelude.{◌≡◌, []};
 ghost use Rattle.std.specs.Str.{bytes_eq};
 ghost use Rattle.geo_base.specs.Broker.{sub_named};
 ghost use Rattle.geo_base.specs.Traced.{cursor_of};
-ghost use Rattle.broker_state.specs.Prepared.{created_name, name_in};
+ghost use Rattle.broker_state.specs.Plan.{created_name, name_in};
 
-use broker::TopicNode;
-use broker_state::{BookWrite, Prepared};
+use broker::Broker;
+use broker_state::{BookWrite, Plan};
 use broker_subs::Sub;
 use cursor_acks::Cursor;
 
 /// The name of the subscription that a prepared event is about: of one that is here, or of the one that it creates.
-pub(crate) fn name_of<'a>(node: &'a TopicNode, plan: &'a Prepared) -> &'a [u8]
+pub(crate) fn name_of<'a>(node: &'a Broker, plan: &'a Plan) -> &'a [u8]
     ensures { result.now ≡ name_in node.entry.now.broker.subs plan.entry.now }
 {
     match node.sub(plan.place()) {
@@ -21,7 +21,7 @@ pub(crate) fn name_of<'a>(node: &'a TopicNode, plan: &'a Prepared) -> &'a [u8]
 }
 
 /// The name of the subscription that a prepared event creates first, if it does.
-fn created_name(plan: &Prepared) -> &[u8]
+fn created_name(plan: &Plan) -> &[u8]
     ensures { result.now ≡ created_name plan.entry.now.writes }
 {
     if plan.write_count() == 0 {
@@ -35,7 +35,7 @@ fn created_name(plan: &Prepared) -> &[u8]
 
 /// The cursor of the subscription of a name; this empty one, where there is none.
 #[tactic(auto, using(crate::proofs::Steps::found_here, crate::proofs::Steps::found_next))]
-pub(crate) fn cursor_of<'a>(node: &'a TopicNode, sub: &[u8], none: &'a Cursor) -> &'a Cursor
+pub(crate) fn cursor_of<'a>(node: &'a Broker, sub: &[u8], none: &'a Cursor) -> &'a Cursor
     requires { none.now.indexes ≡ [] }
     ensures { result.now.indexes ≡ cursor_of (sub_named node.entry.now.broker.subs sub.now) }
 {

@@ -1,7 +1,7 @@
 //! The lines of an event's writes.
 ghost use Rattle.std.specs.Prelude.{◌≡◌, ◌++◌, take, OnOk};
 ghost use Rattle.broker_state.specs.Fits.{PlanFits};
-ghost use Rattle.broker_state.specs.Prepared.{plan_in};
+ghost use Rattle.broker_state.specs.Plan.{plan_in};
 ghost use Rattle.broker_state.specs.Writes.{machine_write};
 ghost use Rattle.broker_subs.specs.Steps.{machine_sub_write};
 ghost use Rattle.geo_base.specs.TraceItems.{Appends};
@@ -14,8 +14,8 @@ ghost use Rattle.trace_events.specs.Writes.{IsWithin, ReadsWithin, SubIsWithin, 
 use crate::cause::cause_of;
 use crate::naming::naming;
 use crate::subs::{cursor_of, name_of};
-use broker::TopicNode;
-use broker_state::{BookWrite, Prepared};
+use broker::Broker;
+use broker_state::{BookWrite, Plan};
 use broker_subs::SubWrite;
 use cursor_acks::Cursor;
 use geo_base::{Blob, Cause, Entry, EntryStore, Event, Memory};
@@ -31,9 +31,9 @@ use trace_acts::{
 pub fn add_writes(
     alloc: Global,
     lines: &mut Blob,
-    node: &TopicNode,
+    node: &Broker,
     event: &Event,
-    plan: &Prepared,
+    plan: &Plan,
     count: usize,
 ) -> Result<(), Memory>
     requires read { ReadsWithin node.now.site event.now }
@@ -53,7 +53,7 @@ pub fn add_writes(
 fn add_write(
     alloc: Global,
     lines: &mut Blob,
-    node: &TopicNode,
+    node: &Broker,
     cause: Cause,
     sub: &[u8],
     write: &BookWrite,
@@ -75,7 +75,7 @@ fn add_write(
 
 /// The line of an entry that is stored next.
 #[tactic(auto, using(crate::proofs::Steps::one_line, crate::proofs::Steps::told_is))]
-fn append(lines: &mut Blob, node: &TopicNode, entry: &Entry) -> Result<(), Memory>
+fn append(lines: &mut Blob, node: &Broker, entry: &Entry) -> Result<(), Memory>
     ensures { OnOk result (lines.new ≡ lines.old ++ act_line (naming node.now.site) (Appends (next_position node.now.site.per_ledger node.now.broker.ledgers) entry.now (snapshot_told node.now.site node.now.broker entry.now entry.now.content))) }
 {
     let at = naming(node);
@@ -89,7 +89,7 @@ fn append(lines: &mut Blob, node: &TopicNode, entry: &Entry) -> Result<(), Memor
 fn add_sub_write(
     alloc: Global,
     lines: &mut Blob,
-    node: &TopicNode,
+    node: &Broker,
     cause: Cause,
     sub: &[u8],
     write: &SubWrite,

@@ -21,9 +21,9 @@ use Rattle.geo_base.specs.World.{World, node, site, topic_at}
 use Rattle.trace_acts.specs.Acts.{acts_before}
 use Rattle.trace_acts.specs.Naming.{act_line}
 use Rattle.broker.proofs.Ready.{idle_is}
-use Rattle.broker.specs.Node.{NodeBook}
+use Rattle.broker.specs.Node.{BrokerBook}
 use Rattle.broker_state.specs.Fits.{PlanFits}
-use Rattle.broker_state.specs.Prepared.{PreparedBook, plan_in as book_plan}
+use Rattle.broker_state.specs.Plan.{PlanBook, plan_in as book_plan}
 use Rattle.trace_events.specs.Writes.{lines_of, naming}
 use Rattle.script_text.specs.Scenario.{IsEvent}
 use Rattle.world.specs.declared.fault.RunFault.{RunFault}
@@ -84,7 +84,7 @@ begin_told s n is old new one told =
 -- ---- an event of a broker
 
 -- what the code told of the first k writes that it prepared
-abbrev pub text_of : Setup → List ℕ → ℕ → NodeBook → Event → PreparedBook → ℕ → List ℕ
+abbrev pub text_of : Setup → List ℕ → ℕ → BrokerBook → Event → PlanBook → ℕ → List ℕ
 text_of s old events v e p k =
     (old ++ (item_line s (Begins (events + 1)) ++ 10 ∷ [])) ++ lines_of v.site (acts_before v.site (cause_of v.broker e) v.broker (take k (book_plan v.broker p).writes))
 
@@ -92,7 +92,7 @@ abbrev plan_items : Setup → World → ℕ → Event → List Item
 plan_items s w k e = planned_items s w k e (planned s w e)
 
 -- the lines of its writes are those of the machine's plan
-writes_told : (s : Setup) (w : World) (e : Event) (v : NodeBook) (p : PreparedBook) (k : ℕ) → IsBrokers e → in_range s e ≡ true → IsForeseen s w e v p
+writes_told : (s : Setup) (w : World) (e : Event) (v : BrokerBook) (p : PlanBook) (k : ℕ) → IsBrokers e → in_range s e ≡ true → IsForeseen s w e v p
     → lines_of v.site (acts_before v.site (cause_of v.broker e) v.broker (take k (book_plan v.broker p).writes)) ≡ item_lines s (plan_items s w k e)
 writes_told s w e v p k brokers within f =
     let t = topic_of s e in let x = cluster_of e in let b = topic_at s w t x in let h = site s t x in let plan = plan_in s w e in
@@ -104,7 +104,7 @@ writes_told s w e v p k brokers within f =
     ∙ (sym (write_lines s t x (acts_of h (cause_of b e) b (take k plan.writes)))
     ∙ ap (λ (o : Option Planned). item_lines s (planned_items s w k e o)) (sym (planned_is s w e brokers within))))))
 
-foretold : (s : Setup) (w : World) (e : Event) (v : NodeBook) (p : PreparedBook) (k events : ℕ) (old new : List ℕ) → IsBrokers e → in_range s e ≡ true → IsForeseen s w e v p
+foretold : (s : Setup) (w : World) (e : Event) (v : BrokerBook) (p : PlanBook) (k events : ℕ) (old new : List ℕ) → IsBrokers e → in_range s e ≡ true → IsForeseen s w e v p
     → events ≡ w.events → new ≡ text_of s old events v e p k → new ≡ old ++ item_lines s (Begins (w.events + 1) ∷ plan_items s w k e)
 foretold s w e v p k events old new brokers within f counts told =
     let begin : ℕ → List ℕ = λ n. item_line s (Begins (n + 1)) ++ 10 ∷ [] in
@@ -125,7 +125,7 @@ unfolding broker_does
 idle_by s w p true is = rw is (same_number w.events)
 idle_by s w p false is = rw is (next_number w.events)
 
-event_idle : (s : Setup) (w : World) (e : Event) (v : NodeBook) (p : PreparedBook) (b : Bool) → IsBrokers e → in_range s e ≡ true → IsForeseen s w e v p → p.idle ≡ b → is_idle s w e ≡ b
+event_idle : (s : Setup) (w : World) (e : Event) (v : BrokerBook) (p : PlanBook) (b : Bool) → IsBrokers e → in_range s e ≡ true → IsForeseen s w e v p → p.idle ≡ b → is_idle s w e ≡ b
 event_idle s w e v p b brokers within f is =
     ap (λ (u : World). u.events == w.events) (done_is s w e brokers within)
     ∙ idle_by s w (event_plan s w e) b (sym (idle_is v.site v.broker (plan_in s w e) p f.prepared) ∙ is)
@@ -135,7 +135,7 @@ items_if : (s : Setup) (w : World) (e : Event) (b : Bool) → is_idle s w e ≡ 
 unfolding event_items
 items_if s w e b is = ap (λ (c : Bool). if c then [] else Begins (w.events + 1) ∷ plan_items s w (all_writes (planned s w e)) e) is
 
-pub idle_told : (s : Setup) (w : World) (e : Event) (v : NodeBook) (p : PreparedBook) (text : List ℕ) → IsBrokers e → IsEvent s e → IsForeseen s w e v p → p.idle ≡ true
+pub idle_told : (s : Setup) (w : World) (e : Event) (v : BrokerBook) (p : PlanBook) (text : List ℕ) → IsBrokers e → IsEvent s e → IsForeseen s w e v p → p.idle ≡ true
     → text ≡ text ++ item_lines s (event_items s w e)
 idle_told s w e v p text brokers here f idle = nothing_told s (event_items s w e) text (items_if s w e true (event_idle s w e v p true brokers (in_range_is s e here) f idle))
 
@@ -143,7 +143,7 @@ many_writes : {X Y : Type 0} (f : X → Y) (ws : List X) → length (map f ws) �
 many_writes {X = X} {Y = Y} f [] = refl
 many_writes {X = X} {Y = Y} f (w ∷ ws) = ap suc (many_writes {X = X} {Y = Y} f ws)
 
-pub event_told : (s : Setup) (w : World) (e : Event) (v : NodeBook) (p : PreparedBook) (k events : ℕ) (old new : List ℕ) → IsBrokers e → IsEvent s e → IsForeseen s w e v p
+pub event_told : (s : Setup) (w : World) (e : Event) (v : BrokerBook) (p : PlanBook) (k events : ℕ) (old new : List ℕ) → IsBrokers e → IsEvent s e → IsForeseen s w e v p
     → p.idle ≡ false → k ≡ length p.writes → events ≡ w.events → new ≡ text_of s old events v e p k → new ≡ old ++ item_lines s (event_items s w e)
 event_told s w e v p k events old new brokers here f busy all counts told =
     let within = in_range_is s e here in
@@ -158,7 +158,7 @@ halts_busy : (s : Setup) (w : World) (k : ℕ) (p : Planned) → ((broker_halts 
 unfolding broker_halts
 halts_busy s w k p = next_number w.events
 
-pub halt_told : (s : Setup) (w : World) (e : Event) (v : NodeBook) (p : PreparedBook) (k events : ℕ) (old new : List ℕ) → IsBrokers e → IsEvent s e → IsForeseen s w e v p
+pub halt_told : (s : Setup) (w : World) (e : Event) (v : BrokerBook) (p : PlanBook) (k events : ℕ) (old new : List ℕ) → IsBrokers e → IsEvent s e → IsForeseen s w e v p
     → events ≡ w.events → new ≡ text_of s old events v e p k → new ≡ old ++ item_lines s (halt_items s w k e)
 unfolding halt_items
 halt_told s w e v p k events old new brokers here f counts told =
@@ -243,14 +243,14 @@ on_ok {E} X Y (Err e) f x = tt
 
 -- ---- the broker that was foreseen
 
-pub there : (s : Setup) (e : Event) (nodes : List NodeBook) (place : Place) (u : NodeBook) → place ≡ place_at s e → u ≡ node_at nodes (node s place.topic place.cluster)
+pub there : (s : Setup) (e : Event) (nodes : List BrokerBook) (place : Place) (u : BrokerBook) → place ≡ place_at s e → u ≡ node_at nodes (node s place.topic place.cluster)
     → u ≡ node_at nodes (node_of s e)
 there s e nodes place u at is = is ∙ ap (λ (a : Place). node_at nodes (node s a.topic a.cluster)) at
 
-pub foreseen_there : (s : Setup) (w : World) (e : Event) (u v : NodeBook) (p : PreparedBook) → u ≡ v → IsForeseen s w e v p → IsForeseen s w e u p
-foreseen_there s w e u v p is f = subst (λ (z : NodeBook). IsForeseen s w e z p) (sym is) f
+pub foreseen_there : (s : Setup) (w : World) (e : Event) (u v : BrokerBook) (p : PlanBook) → u ≡ v → IsForeseen s w e v p → IsForeseen s w e u p
+foreseen_there s w e u v p is f = subst (λ (z : BrokerBook). IsForeseen s w e z p) (sym is) f
 
-pub fits_there : (s : Setup) (w : World) (e : Event) (v : NodeBook) (p : PreparedBook) → IsForeseen s w e v p → PlanFits v.site.per_ledger v.broker p
+pub fits_there : (s : Setup) (w : World) (e : Event) (v : BrokerBook) (p : PlanBook) → IsForeseen s w e v p → PlanFits v.site.per_ledger v.broker p
 fits_there s w e v p f = f.prepared.fits
 
 -- as many events as the machine's

@@ -2,7 +2,7 @@
 ghost use Rattle.std.specs.Prelude.{◌≡◌, ◌++◌, ◌+◌, ◌<◌, ◌^◌, ◌∷◌, [], take, OnErr, OnOk};
 ghost use Rattle.trace_acts.specs.Acts.{acts_before};
 ghost use Rattle.broker_state.specs.Fits.{PlanFits};
-ghost use Rattle.broker_state.specs.Prepared.{plan_in};
+ghost use Rattle.broker_state.specs.Plan.{plan_in};
 ghost use Rattle.trace_events.specs.Writes.{ReadsWithin, lines_of};
 ghost use Rattle.geo_base.specs.declared.event.Step.TheVariants as step;
 ghost use Rattle.geo_base.specs.Run.{all_limits, steps};
@@ -22,7 +22,7 @@ ghost use Rattle.world_kept.specs.Standing.{Stands};
 ghost use Rattle.trace_runs.specs.Tracing.{IsClients, item_lines};
 
 use crate::trace::Trace;
-use broker::TopicNode;
+use broker::Broker;
 use geo_base::{Event, Memory};
 use script_text::Scenario;
 use std::alloc::Global;
@@ -183,7 +183,7 @@ impl Trace {
         &mut self,
         alloc: Global,
         events: u64,
-        node: &TopicNode,
+        node: &Broker,
         event: &Event,
         writes: usize,
     ) -> Result<(), Memory>

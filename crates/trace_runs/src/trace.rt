@@ -1,7 +1,7 @@
 //! A trace in the making.
 ghost use Rattle.std.specs.Prelude.{◌≡◌};
 
-use broker_state::Prepared;
+use broker_state::Plan;
 use geo_base::Blob;
 use std::alloc::Global;
 
@@ -9,7 +9,7 @@ use std::alloc::Global;
 #[derive(Debug, Drop)]
 pub struct Trace {
     pub(crate) text: Blob,
-    pub(crate) plan: Prepared,
+    pub(crate) plan: Plan,
 }
 
 impl Trace {
@@ -19,7 +19,7 @@ impl Trace {
     {
         Trace {
             text,
-            plan: Prepared::new(alloc),
+            plan: Plan::new(alloc),
         }
     }
 

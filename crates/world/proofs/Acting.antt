@@ -6,7 +6,7 @@ use Rattle.geo_base.specs.declared.event.Event.{Event}
 use Rattle.geo_base.specs.Happening.{happens}
 use Rattle.geo_base.specs.Setup.{Setup}
 use Rattle.geo_base.specs.World.{World, node}
-use Rattle.broker_state.specs.Prepared.{PreparedBook}
+use Rattle.broker_state.specs.Plan.{PlanBook}
 use Rattle.script_text.specs.Scenario.{IsEvent}
 use Rattle.links.specs.Queues.{bytes_of}
 use Rattle.world_kept.proofs.Keeping.{counts}
@@ -26,7 +26,7 @@ use Rattle.world.proofs.Leading.{Answer, acted_stands, failed, idle_stands, lead
 -- ---- what was prepared at the event's broker
 
 -- the brokers may have got other room
-pub record IsPlanned (s : Setup) (old mid : WorldBook) (e : Event) (place : Place) (n : ℕ) (p : PreparedBook) : Type 0 where
+pub record IsPlanned (s : Setup) (old mid : WorldBook) (e : Event) (place : Place) (n : ℕ) (p : PlanBook) : Type 0 where
   pub at : IsAt s old
   pub same : SameWorld old mid
   pub brokers : IsBrokers e
@@ -38,7 +38,7 @@ pub record IsPlanned (s : Setup) (old mid : WorldBook) (e : Event) (place : Plac
 pub number_is : (s : Setup) (e : Event) (place : Place) (n : ℕ) → place ≡ place_at s e → n ≡ node s place.topic place.cluster → n ≡ node_of s e
 number_is s e place n is number = number ∙ ap (λ (a : Place). node s a.topic a.cluster) is
 
-pub plans : (s : Setup) (old mid : WorldBook) (e : Event) (place : Place) (n : ℕ) (p : PreparedBook) → IsAt s old → SameWorld old mid → IsBrokers e → IsEvent s e
+pub plans : (s : Setup) (old mid : WorldBook) (e : Event) (place : Place) (n : ℕ) (p : PlanBook) → IsAt s old → SameWorld old mid → IsBrokers e → IsEvent s e
     → place ≡ place_at s e → n ≡ node s place.topic place.cluster → PreparesAt old n place.takes e p → IsPlanned s old mid e place n p
 plans s old mid e place n p at same brokers scripted there number prepares = record {
   at = at;
@@ -50,28 +50,28 @@ plans s old mid e place n p at same brokers scripted there number prepares = rec
   prepares = prepares;
 }
 
-pub prepared_there : (s : Setup) (old mid : WorldBook) (e : Event) (place : Place) (n : ℕ) (p : PreparedBook) → IsPlanned s old mid e place n p
+pub prepared_there : (s : Setup) (old mid : WorldBook) (e : Event) (place : Place) (n : ℕ) (p : PlanBook) → IsPlanned s old mid e place n p
     → PreparesAt old (node_of s e) (takes_of e) e p
 prepared_there s old mid e place n p h =
     subst (λ (m : ℕ). PreparesAt old m (takes_of e) e p) h.number (subst (λ (a : Place). PreparesAt old n a.takes e p) h.there h.prepares)
 
 -- what is kept where it was done
-abbrev acted : Setup → WorldBook → Event → PreparedBook → Kept
+abbrev acted : Setup → WorldBook → Event → PlanBook → Kept
 acted s mid e p = broker_acted (kept_of mid) (node_of s e) (sender_of s e) (takes_of e) (done_at (node_at mid.nodes (node_of s e)) p) p.sent
 
-stands_acted : (s : Setup) (old mid : WorldBook) (w : World) (e : Event) (place : Place) (n : ℕ) (p : PreparedBook) → IsPlanned s old mid e place n p → p.idle ≡ false
+stands_acted : (s : Setup) (old mid : WorldBook) (w : World) (e : Event) (place : Place) (n : ℕ) (p : PlanBook) → IsPlanned s old mid e place n p → p.idle ≡ false
     → Reached s w → Stands s (kept_of old) w → Stands s (acted s mid e p) (happens s w e)
 stands_acted s old mid w e place n p h busy reached stands =
     acted_stands s old mid w e p h.at h.same h.brokers h.scripted reached stands (prepared_there s old mid e place n p h) busy
 
 -- ---- what it leads to
 
-pub acts_idle : (s : Setup) (old mid : WorldBook) (w : World) (e : Event) (place : Place) (n : ℕ) (p : PreparedBook) → IsPlanned s old mid e place n p → p.idle ≡ true
+pub acts_idle : (s : Setup) (old mid : WorldBook) (w : World) (e : Event) (place : Place) (n : ℕ) (p : PlanBook) → IsPlanned s old mid e place n p → p.idle ≡ true
     → Reached s w → Stands s (kept_of old) w → Acts s old mid (happens s w e) (Ok false)
 acts_idle s old mid w e place n p h idle reached stands =
     idle_stands s old mid w e p h.at h.same h.brokers h.scripted reached stands (prepared_there s old mid e place n p h) idle
 
-pub acts_done : (s : Setup) (old mid new : WorldBook) (w : World) (e : Event) (place : Place) (n : ℕ) (p : PreparedBook) → IsPlanned s old mid e place n p → p.idle ≡ false
+pub acts_done : (s : Setup) (old mid new : WorldBook) (w : World) (e : Event) (place : Place) (n : ℕ) (p : PlanBook) → IsPlanned s old mid e place n p → p.idle ≡ false
     → IsFinished place n p mid new → limit_of (mid.events + 1) mid.idle (mid.frame_bytes + bytes_of p.sent) ≡ None
     → Reached s w → Stands s (kept_of old) w → Acts s old new (happens s w e) (Ok true)
 acts_done s old mid new w e place n p h busy finished low reached stands =
@@ -80,7 +80,7 @@ acts_done s old mid new w e place n p h busy finished low reached stands =
     subst (λ (m : ℕ). IsFinished (place_at s e) m p mid new) h.number (subst (λ (a : Place). IsFinished a n p mid new) h.there finished) in
     (subst (λ (k : Kept). Stands s k (happens s w e)) (sym there.kept) next, counts s (acted s mid e p) (happens s w e) next ∙ low)
 
-pub acts_past : (s : Setup) (old mid new : WorldBook) (w : World) (e : Event) (place : Place) (n : ℕ) (p : PreparedBook) (f : RunFault) → IsPlanned s old mid e place n p
+pub acts_past : (s : Setup) (old mid new : WorldBook) (w : World) (e : Event) (place : Place) (n : ℕ) (p : PlanBook) (f : RunFault) → IsPlanned s old mid e place n p
     → p.idle ≡ false → ((i : ℕ) → failed f ≡ failed (fault.TooLarge i) → limit_of (mid.events + 1) mid.idle (mid.frame_bytes + bytes_of p.sent) ≡ Some i)
     → Reached s w → Stands s (kept_of old) w → Acts s old new (happens s w e) (Err f)
 acts_past s old mid new w e place n p (fault.TooLarge i) h busy large reached stands =
@@ -98,7 +98,7 @@ later_same old mid same =
     let events : mid.events ≡ old.events = ap (λ (k : Kept). k.events) same.kept in
     record { events = omega (arith, events); idle = ap (λ (k : Kept). k.idle) same.kept; rounds = ap (λ (k : Kept). k.rounds) same.kept }
 
-pub later_done : (old mid new : WorldBook) (place : Place) (n : ℕ) (p : PreparedBook) → SameWorld old mid → IsFinished place n p mid new → IsLater old new
+pub later_done : (old mid new : WorldBook) (place : Place) (n : ℕ) (p : PlanBook) → SameWorld old mid → IsFinished place n p mid new → IsLater old new
 later_done old mid new place n p same done =
     let events : mid.events ≡ old.events = ap (λ (k : Kept). k.events) same.kept in
     let more : new.events ≡ mid.events + 1 = ap (λ (k : Kept). k.events) done.kept in
@@ -146,7 +146,7 @@ leads_idled s old mid new next true r is acts ok within large = absurd (false≢
 leads_idled s old mid new next false r is acts ok within large = leads_by s old new (idled (kept_of mid)) next r acts (on_ok r (λ all. ap kept_of all) ok) within large
 
 -- where it is done, the next event can begin
-pub at_done : (s : Setup) (old mid new : WorldBook) (e : Event) (place : Place) (n : ℕ) (p : PreparedBook) → IsPlanned s old mid e place n p → p.idle ≡ false
+pub at_done : (s : Setup) (old mid new : WorldBook) (e : Event) (place : Place) (n : ℕ) (p : PlanBook) → IsPlanned s old mid e place n p → p.idle ≡ false
     → IsFinished place n p mid new → limit_of (mid.events + 1) mid.idle (mid.frame_bytes + bytes_of p.sent) ≡ None → IsAt s new
 at_done s old mid new e place n p h busy finished low =
     after_event s old new e (Ok tt) h.at (λ w reached stands. leads_acted s old new (happens s w e) true refl (acts_done s old mid new w e place n p h busy finished low reached stands))

@@ -13,7 +13,7 @@ use Rattle.geo_base.specs.Setup.{Setup}
 use Rattle.geo_base.specs.World.{World}
 use Rattle.script_text.specs.Scenario.{IsEvent}
 use Rattle.broker.specs.Input.{StandsForInput}
-use Rattle.broker.specs.Node.{NodeBook, SameNode}
+use Rattle.broker.specs.Node.{BrokerBook, SameNode}
 use Rattle.links.specs.declared.name.LinkName.{LinkName}
 use Rattle.wire_ends.specs.declared.packet.WirePacket.{WirePacket}
 use Rattle.links.specs.Queues.{packet_on, taken_from}
@@ -41,7 +41,7 @@ ok_err unit f is = subst (λ (r : Result (Unit {0}) RunFault). IsErr r) (sym is)
 
 -- ---- at the broker
 
-pub halts : (old new : WorldBook) (n : ℕ) (takes : Option LinkName) (e : Event) (k : ℕ) (u : NodeBook) (r : Result (Unit {0}) Memory) (i : Option WirePacket)
+pub halts : (old new : WorldBook) (n : ℕ) (takes : Option LinkName) (e : Event) (k : ℕ) (u : BrokerBook) (r : Result (Unit {0}) Memory) (i : Option WirePacket)
     → i ≡ packet_on old.links takes → SameNode (node_at old.nodes n) u → new ≡ record old { nodes = slice_set old.nodes n u }
     → ((v : Option Packet) → StandsForInput (node_at old.nodes n).site.clusters i v → OnOk r (u.broker ≡ halted_at (node_at old.nodes n) e k v))
     → OnOk r (IsHalted n takes e k old new)
@@ -50,14 +50,14 @@ halts old new n takes e k u (Ok unit) i taken same is f =
     let names = (node_at old.nodes n).site.clusters in
     rw is (record {
       broker = λ v both.
-          map-set (λ (c : NodeBook). c.broker) old.nodes n u
+          map-set (λ (c : BrokerBook). c.broker) old.nodes n u
           ∙ ap (λ (c : Broker). slice_set (brokers_of old.nodes) n c)
           (f v (subst (λ (j : Option WirePacket). StandsForInput names j v) (sym taken) (next_is names (packet_on old.links takes) v both)));
       same = λ s h. are_set s old.nodes n u same h;
       rest = refl;
     })
 
-pub halt_same : (old new : WorldBook) (n : ℕ) (u : NodeBook) (r : Result (Unit {0}) Memory) → SameNode (node_at old.nodes n) u
+pub halt_same : (old new : WorldBook) (n : ℕ) (u : BrokerBook) (r : Result (Unit {0}) Memory) → SameNode (node_at old.nodes n) u
     → new ≡ record old { nodes = slice_set old.nodes n u } → OnErr r (u.broker ≡ (node_at old.nodes n).broker) → OnErr r (SameWorld old new)
 halt_same old new n u (Ok unit) same is broker = tt
 halt_same old new n u (Err m) same is broker = same_world old new n u same broker is

@@ -9,7 +9,7 @@ use Rattle.geo_base.specs.Plan.{Plan, done}
 use Rattle.geo_base.specs.Planned.{broker_plan}
 use Rattle.geo_base.specs.Setup.{Setup}
 use Rattle.geo_base.specs.World.{World}
-use Rattle.broker_state.specs.Prepared.{PreparedBook}
+use Rattle.broker_state.specs.Plan.{PlanBook}
 use Rattle.geo_base.specs.declared.packet.WireOut.{WireOut}
 use Rattle.broker_plans.specs.Prepared.{ArePackets, IsPrepared}
 use Rattle.script_text.specs.Scenario.{IsEvent}
@@ -73,7 +73,7 @@ takes_stands s b w e h brokers here reached stands =
     subst (λ (g : Site). Both (StandsForPacket g.clusters) (packet_on b.links (takes_of e)) (taken_in s w e)) (sym (node_is s b e h brokers here).site)
     (input s (kept_of b) w (takes_of e) (told_frames s w h.setup reached) stands)
 
-pub prepared_plan : (s : Setup) (b : WorldBook) (w : World) (e : Event) (p : PreparedBook) → IsAt s b → IsBrokers e → IsEvent s e → Reached s w → Stands s (kept_of b) w
+pub prepared_plan : (s : Setup) (b : WorldBook) (w : World) (e : Event) (p : PlanBook) → IsAt s b → IsBrokers e → IsEvent s e → Reached s w → Stands s (kept_of b) w
     → PreparesAt b (node_of s e) (takes_of e) e p
     → IsPrepared (node_at b.nodes (node_of s e)).site (node_at b.nodes (node_of s e)).broker (plan_in s w e) p
 prepared_plan s b w e p h brokers here reached stands prepared =
@@ -82,7 +82,7 @@ prepared_plan s b w e p h brokers here reached stands prepared =
     (prepared (taken_in s w e) (takes_stands s b w e h brokers here reached stands))
 
 -- also where brokers have other room
-pub prepared_same : (s : Setup) (old mid : WorldBook) (e : Event) (plan : Plan) (p : PreparedBook) → IsAt s old → SameWorld old mid → IsBrokers e → IsEvent s e
+pub prepared_same : (s : Setup) (old mid : WorldBook) (e : Event) (plan : Plan) (p : PlanBook) → IsAt s old → SameWorld old mid → IsBrokers e → IsEvent s e
     → IsPrepared (node_at old.nodes (node_of s e)).site (node_at old.nodes (node_of s e)).broker plan p
     → IsPrepared (node_at mid.nodes (node_of s e)).site (node_at mid.nodes (node_of s e)).broker plan p
 prepared_same s old mid e plan p h same brokers here prepared =
@@ -94,7 +94,7 @@ prepared_same s old mid e plan p h same brokers here prepared =
     subst (λ (b : Broker). IsPrepared (node_at mid.nodes n).site b plan p) broker (subst (λ (g : Site). IsPrepared g (node_at old.nodes n).broker plan p) site prepared)
 
 -- the state that it leads to is the machine's
-becomes : (s : Setup) (b : WorldBook) (e : Event) (plan : Plan) (p : PreparedBook) → IsAt s b → IsBrokers e → IsEvent s e
+becomes : (s : Setup) (b : WorldBook) (e : Event) (plan : Plan) (p : PlanBook) → IsAt s b → IsBrokers e → IsEvent s e
     → IsPrepared (node_at b.nodes (node_of s e)).site (node_at b.nodes (node_of s e)).broker plan p
     → done_at (node_at b.nodes (node_of s e)) p ≡ done s.per_ledger (slice_index_or (kept_of b).brokers (node_of s e) no_broker) plan
 becomes s b e plan p h brokers here prepared =
@@ -107,7 +107,7 @@ becomes s b e plan p h brokers here prepared =
 pub stands_same : (s : Setup) (old mid : WorldBook) (w : World) → SameWorld old mid → Stands s (kept_of old) w → Stands s (kept_of mid) w
 stands_same s old mid w same stands = subst (λ (k : Kept). Stands s k w) (sym same.kept) stands
 
-pub acted_stands : (s : Setup) (old mid : WorldBook) (w : World) (e : Event) (p : PreparedBook) → IsAt s old → SameWorld old mid → IsBrokers e → IsEvent s e
+pub acted_stands : (s : Setup) (old mid : WorldBook) (w : World) (e : Event) (p : PlanBook) → IsAt s old → SameWorld old mid → IsBrokers e → IsEvent s e
     → Reached s w → Stands s (kept_of old) w → PreparesAt old (node_of s e) (takes_of e) e p → p.idle ≡ false
     → Stands s (broker_acted (kept_of mid) (node_of s e) (sender_of s e) (takes_of e) (done_at (node_at mid.nodes (node_of s e)) p) p.sent) (happens s w e)
 acted_stands s old mid w e p h same brokers here reached stands prepares busy =
@@ -121,7 +121,7 @@ acted_stands s old mid w e p h same brokers here reached stands prepares busy =
     (sym (becomes s mid e plan p k brokers here prepared))
     (broker_done s (kept_of mid) w e p.sent brokers (in_range_is s e here) (ground s h.setup w reached) (stands_same s old mid w same stands) (sym is ∙ busy) sent)
 
-pub idle_stands : (s : Setup) (old mid : WorldBook) (w : World) (e : Event) (p : PreparedBook) → IsAt s old → SameWorld old mid → IsBrokers e → IsEvent s e
+pub idle_stands : (s : Setup) (old mid : WorldBook) (w : World) (e : Event) (p : PlanBook) → IsAt s old → SameWorld old mid → IsBrokers e → IsEvent s e
     → Reached s w → Stands s (kept_of old) w → PreparesAt old (node_of s e) (takes_of e) e p → p.idle ≡ true
     → Stands s (idled (kept_of mid)) (happens s w e)
 idle_stands s old mid w e p h same brokers here reached stands prepares idle =

@@ -9,7 +9,7 @@ use Rattle.geo_base.specs.Scripted.{IsScripted}
 use Rattle.geo_base.specs.Setup.{Declared, Setup, declared_at, nobody}
 use Rattle.geo_base.specs.World.{node, opening_world}
 use Rattle.broker.specs.Events.{IsNodeOf}
-use Rattle.broker.specs.Node.{NodeBook}
+use Rattle.broker.specs.Node.{BrokerBook}
 use Rattle.links.specs.Queues.{empty_links}
 use Rattle.world_kept.proofs.Keeping.{opening}
 use Rattle.world_kept.specs.Kept.{Kept, opening_kept}
@@ -40,32 +40,32 @@ same_numbers c t x u y here there is =
     let rows : u * c ≡ t * c = ap (λ (k : ℕ). k * c) topic in
     (topic, omega (arith, is, rows))
 
-same_node : (s : Setup) (t x u y : ℕ) (v : NodeBook) → x < length s.clusters → y < length s.clusters → node s u y ≡ node s t x → IsNodeOf s t x v → IsNodeOf s u y v
+same_node : (s : Setup) (t x u y : ℕ) (v : BrokerBook) → x < length s.clusters → y < length s.clusters → node s u y ≡ node s t x → IsNodeOf s t x v → IsNodeOf s u y v
 same_node s t x u y v here there is h =
     let same = same_numbers (length s.clusters) t x u y here there is in
     subst (λ (k : ℕ). IsNodeOf s u k v) (sym same.1) (subst (λ (k : ℕ). IsNodeOf s k x v) (sym same.0) h)
 
-new_size : (s : Setup) (n : ℕ) (vs : List NodeBook) → AreNew s n vs → length vs ≡ n
+new_size : (s : Setup) (n : ℕ) (vs : List BrokerBook) → AreNew s n vs → length vs ≡ n
 new_size s n vs h =
-    sym (length-map vs (λ (v : NodeBook). v.broker)) ∙ ap (λ (bs : List Broker). length bs) h.brokers ∙ length-replicate n (new_broker (length s.clusters) (length s.clients))
+    sym (length-map vs (λ (v : BrokerBook). v.broker)) ∙ ap (λ (bs : List Broker). length bs) h.brokers ∙ length-replicate n (new_broker (length s.clusters) (length s.clients))
 
-pub one_more_node : (s : Setup) (vs : List NodeBook) (t x : ℕ) (v : NodeBook) → x < length s.clusters → AreNew s (t * length s.clusters + x) vs → IsNodeOf s t x v
+pub one_more_node : (s : Setup) (vs : List BrokerBook) (t x : ℕ) (v : BrokerBook) → x < length s.clusters → AreNew s (t * length s.clusters + x) vs → IsNodeOf s t x v
     → v.broker ≡ new_broker (length s.clusters) (length s.clients) → AreNew s (t * length s.clusters + (x + 1)) (vs ++ v ∷ [])
 one_more_node s vs t x v here h is broker =
     let n : ℕ = node s t x in let b = new_broker (length s.clusters) (length s.clients) in let size : length vs ≡ n = new_size s n vs h in
     let next : n + 1 ≡ t * length s.clusters + (x + 1) = omega arith in
     subst (λ (k : ℕ). AreNew s k (vs ++ v ∷ [])) next (record {
-      brokers = map-append (λ (u : NodeBook). u.broker) vs (v ∷ []) ∙ ap (λ (bs : List Broker). bs ++ v.broker ∷ []) h.brokers
+      brokers = map-append (λ (u : BrokerBook). u.broker) vs (v ∷ []) ∙ ap (λ (bs : List Broker). bs ++ v.broker ∷ []) h.brokers
           ∙ ap (λ (c : Broker). replicate n b ++ c ∷ []) broker ∙ replicate_more n b;
       each = λ u y there under. pushed_at (IsNodeOf s u y) vs v no_node (node s u y) (omega (arith, under, size))
           (λ before. h.each u y there (omega (arith, before, size))) (λ last. same_node s t x u y v here there (last ∙ size) is);
     })
 
 -- a topic's brokers are behind those of the topics before it
-pub topic_begins : (s : Setup) (t : ℕ) (vs : List NodeBook) → AreNew s (t * length s.clusters) vs → AreNew s (t * length s.clusters + 0) vs
+pub topic_begins : (s : Setup) (t : ℕ) (vs : List BrokerBook) → AreNew s (t * length s.clusters) vs → AreNew s (t * length s.clusters + 0) vs
 topic_begins s t vs h = let is : t * length s.clusters ≡ t * length s.clusters + 0 = omega arith in subst (λ (k : ℕ). AreNew s k vs) is h
 
-pub topic_ends : (s : Setup) (t x : ℕ) (vs : List NodeBook) → x ≡ length s.clusters → AreNew s (t * length s.clusters + x) vs → AreNew s ((t + 1) * length s.clusters) vs
+pub topic_ends : (s : Setup) (t x : ℕ) (vs : List BrokerBook) → x ≡ length s.clusters → AreNew s (t * length s.clusters + x) vs → AreNew s ((t + 1) * length s.clusters) vs
 topic_ends s t x vs all h = let is : t * length s.clusters + x ≡ (t + 1) * length s.clusters = grind (arith, all) in subst (λ (k : ℕ). AreNew s k vs) is h
 
 -- ---- clients
@@ -78,7 +78,7 @@ one_client_more s c ms m lt is client =
 
 -- ---- the world
 
-new_nodes : (s : Setup) (vs : List NodeBook) → AreNew s (length s.topics * length s.clusters) vs → AreNodes s vs
+new_nodes : (s : Setup) (vs : List BrokerBook) → AreNew s (length s.topics * length s.clusters) vs → AreNodes s vs
 new_nodes s vs h = record { count = new_size s (length s.topics * length s.clusters) vs h; each = λ t x topic cluster. h.each t x cluster (node_lt s t x (topic, cluster)) }
 
 pub new_kept : (s : Setup) (b : WorldBook) → AreNew s (length s.topics * length s.clusters) b.nodes → b.clients ≡ map new_client s.clients

@@ -17,7 +17,7 @@ use Rattle.geo_base.specs.Topic.{next_marker}
 use Rattle.geo_base.specs.World.{World, broker_at}
 use Rattle.script_text.specs.Scenario.{IsEvent}
 use Rattle.broker.specs.Events.{HasNextMarker, IsClients, IsHere, IsLink, IsNodeOf, IsOfNode, IsOfTopic, MarkerRises, NumbersRise, SeekRises, SessionRises, name_at}
-use Rattle.broker.specs.Node.{NodeBook}
+use Rattle.broker.specs.Node.{BrokerBook}
 use Rattle.links.proofs.Simulated.{stamp_is}
 use Rattle.links.specs.declared.name.LinkName.{LinkName}
 use Rattle.links.specs.Names.{taken_name}
@@ -125,8 +125,8 @@ node_in s e scripted b h = node_lt s (topic_of s e) (cluster_of e) (topic_in s e
 
 -- ---- the broker of an event
 
-pub broker_is : (vs : List NodeBook) (n : ℕ) → n < length vs → slice_index_or (brokers_of vs) n no_broker ≡ (node_at vs n).broker
-broker_is vs n h = get_or-map (λ (v : NodeBook). v.broker) vs n no_node no_broker h
+pub broker_is : (vs : List BrokerBook) (n : ℕ) → n < length vs → slice_index_or (brokers_of vs) n no_broker ≡ (node_at vs n).broker
+broker_is vs n h = get_or-map (λ (v : BrokerBook). v.broker) vs n no_node no_broker h
 
 pub node_below : (s : Setup) (b : WorldBook) (e : Event) → IsAt s b → IsBrokers e → IsEvent s e → node_of s e < length b.nodes
 node_below s b e h brokers here = subst (λ (m : ℕ). node_of s e < m) (sym h.nodes.count) (node_in s e h.setup brokers here)
@@ -137,16 +137,16 @@ node_is s b e h brokers here = h.nodes.each (topic_of s e) (cluster_of e) (topic
 pub stands_at : (s : Setup) (b : WorldBook) (w : World) (n : ℕ) → Stands s (kept_of b) w → n < length b.nodes → (node_at b.nodes n).broker ≡ broker_at w n
 stands_at s b w n h lt = sym (broker_is b.nodes n lt) ∙ ap (λ (bs : List Broker). slice_index_or bs n no_broker) h.brokers
 
-here_is : (s : Setup) (t x : ℕ) (v : NodeBook) → IsNodeOf s t x v → IsHere v t x
+here_is : (s : Setup) (t x : ℕ) (v : BrokerBook) → IsNodeOf s t x v → IsHere v t x
 here_is s t x v is = record { topic = sym is.topic; cluster = sym (ap (λ (h : Site). h.own) is.site) }
 
-link_is : (s : Setup) (t x y : ℕ) (v : NodeBook) → IsNodeOf s t x v → y < length s.clusters → IsLink v t x y
+link_is : (s : Setup) (t x y : ℕ) (v : BrokerBook) → IsNodeOf s t x v → y < length s.clusters → IsLink v t x y
 link_is s t x y v is lt = record { here = here_is s t x v is; other = subst (λ (h : Site). y < length h.clusters) (sym is.site) lt }
 
-client_is : (s : Setup) (t x c : ℕ) (v : NodeBook) → IsNodeOf s t x v → length v.broker.sessions ≡ length s.clients → c < length s.clients → IsClients v x c
+client_is : (s : Setup) (t x c : ℕ) (v : BrokerBook) → IsNodeOf s t x v → length v.broker.sessions ≡ length s.clients → c < length s.clients → IsClients v x c
 client_is s t x c v is sessions lt = record { cluster = sym (ap (λ (h : Site). h.own) is.site); client = subst (λ (m : ℕ). c < m) (sym sessions) lt }
 
-of_event : (s : Setup) (v : NodeBook) (e : Event) → IsNodeOf s (topic_of s e) (cluster_of e) v → length v.broker.sessions ≡ length s.clients → IsBrokers e → IsEvent s e → IsOfNode v e
+of_event : (s : Setup) (v : BrokerBook) (e : Event) → IsNodeOf s (topic_of s e) (cluster_of e) v → length v.broker.sessions ≡ length s.clients → IsBrokers e → IsEvent s e → IsOfNode v e
 of_event s v (event.Serve x c) is sessions b h = client_is s (declared_at s c).topic x c v is sessions h.1
 of_event s v (event.Drop x c) is sessions b h = client_is s (declared_at s c).topic x c v is sessions h.1
 of_event s v (event.Reset t x y) is sessions b h = link_is s t x y v is h.target_in
@@ -167,7 +167,7 @@ ground_of s b h = ground s h.setup h.world h.reached
 sessions_at : (s : Setup) (b : WorldBook) (n : ℕ) → IsAt s b → n < length b.nodes → length (node_at b.nodes n).broker.sessions ≡ length s.clients
 sessions_at s b n h lt =
     let g = ground_of s b h in
-    let size : length h.world.brokers ≡ length b.nodes = ap (λ (bs : List Broker). length bs) (sym h.stands.brokers) ∙ length-map b.nodes (λ (v : NodeBook). v.broker) in
+    let size : length h.world.brokers ≡ length b.nodes = ap (λ (bs : List Broker). length bs) (sym h.stands.brokers) ∙ length-map b.nodes (λ (v : BrokerBook). v.broker) in
     ap (λ (c : Broker). length c.sessions) (stands_at s b h.world n h.stands lt) ∙ (g.places.each n (subst (λ (m : ℕ). n < m) (sym size) lt)).sessions
 
 pub of_node : (s : Setup) (b : WorldBook) (e : Event) → IsAt s b → IsBrokers e → IsEvent s e → IsOfNode (node_at b.nodes (node_of s e)) e
@@ -234,7 +234,7 @@ marker_rises h b (event.Go c) fits = tt
 marker_rises h b (event.Get c) fits = tt
 marker_rises h b (event.Reconnect c) fits = tt
 
-rises : (s : Setup) (n : ℕ) (v : NodeBook) (c : Broker) (t x : ℕ) (e : Event) → IsNodeOf s t x v → v.broker ≡ c → n ≤ most_number → BrokerWithin n c → next_marker x c.entries + 1 < 2 ^ 64
+rises : (s : Setup) (n : ℕ) (v : BrokerBook) (c : Broker) (t x : ℕ) (e : Event) → IsNodeOf s t x v → v.broker ≡ c → n ≤ most_number → BrokerWithin n c → next_marker x c.entries + 1 < 2 ^ 64
     → NumbersRise v e
 rises s n v c t x e is same most h marker = record {
   session = subst (λ (b : Broker). SessionRises b e) (sym same) (sessions_rise n c e most h);

@@ -3,7 +3,7 @@ use Rattle.std.proofs.Common.{ℕ}
 use Rattle.geo_base.specs.declared.event.Event.{Event}
 use Rattle.geo_base.specs.Setup.{Setup}
 use Rattle.geo_base.specs.World.{World}
-use Rattle.broker_state.specs.Prepared.{PreparedBook}
+use Rattle.broker_state.specs.Plan.{PlanBook}
 use Rattle.world_kept.specs.Events.{node_of, plan_in}
 use Rattle.world_kept.specs.Reached.{Reached}
 use Rattle.world_kept.specs.Standing.{Stands}
@@ -14,7 +14,7 @@ use Rattle.world.proofs.Acting.{IsPlanned, prepared_there}
 use Rattle.world.proofs.Leading.{prepared_plan, prepared_same, stands_same}
 use Rattle.world.proofs.Places.{at_same, node_below, node_is, stands_at}
 
-pub foreseen : (s : Setup) (old mid : WorldBook) (w : World) (e : Event) (place : Place) (n : ℕ) (p : PreparedBook) → IsPlanned s old mid e place n p
+pub foreseen : (s : Setup) (old mid : WorldBook) (w : World) (e : Event) (place : Place) (n : ℕ) (p : PlanBook) → IsPlanned s old mid e place n p
     → Reached s w → Stands s (kept_of old) w → IsForeseen s w e (node_at mid.nodes (node_of s e)) p
 foreseen s old mid w e place n p h reached stands =
     let at = at_same s old mid h.at h.same in record {

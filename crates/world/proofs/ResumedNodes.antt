@@ -9,7 +9,7 @@ use Rattle.geo_base.specs.World.{node}
 use Rattle.state_file.specs.Known.{IsKnownState}
 use Rattle.state_file.specs.State.{SavedState}
 use Rattle.broker.specs.Events.{IsNodeOf}
-use Rattle.broker.specs.Node.{NodeBook}
+use Rattle.broker.specs.Node.{BrokerBook}
 use Rattle.links.specs.Queues.{empty_links}
 use Rattle.world_kept.proofs.Reaching.{starts}
 use Rattle.world_kept.specs.Kept.{Kept}
@@ -24,7 +24,7 @@ use Rattle.world.proofs.Resumed.{AreFew, state_reached, state_starts}
 
 -- ---- one after another
 
-brokers_are : (s : Setup) (bs : List Broker) (vs : List NodeBook) → length vs ≡ length bs → ((k : ℕ) → k < length bs → (node_at vs k).broker ≡ revived s (slice_index_or bs k no_broker))
+brokers_are : (s : Setup) (bs : List Broker) (vs : List BrokerBook) → length vs ≡ length bs → ((k : ℕ) → k < length bs → (node_at vs k).broker ≡ revived s (slice_index_or bs k no_broker))
     → brokers_of vs ≡ map (revived s) bs
 brokers_are s [] [] size each = refl
 brokers_are s [] (v ∷ vs) size each = absurd (omega (arith, size))
@@ -37,13 +37,13 @@ few_are : (bs : List Broker) → ((k : ℕ) → k < length bs → length (slice_
 few_are [] each = tt
 few_are (b ∷ bs) each = (each 0 (omega arith), few_are bs (λ k lt. each (suc k) (omega (arith, lt))))
 
-pub revived_brokers : (s : Setup) (bs : List Broker) (vs : List NodeBook) → AreRevived s bs vs → brokers_of vs ≡ map (revived s) bs
+pub revived_brokers : (s : Setup) (bs : List Broker) (vs : List BrokerBook) → AreRevived s bs vs → brokers_of vs ≡ map (revived s) bs
 revived_brokers s bs vs h = brokers_are s bs vs h.count (λ k lt. (h.each k lt).broker)
 
-revived_few : (s : Setup) (bs : List Broker) (vs : List NodeBook) → AreRevived s bs vs → AreFew bs
+revived_few : (s : Setup) (bs : List Broker) (vs : List BrokerBook) → AreRevived s bs vs → AreFew bs
 revived_few s bs vs h = few_are bs (λ k lt. (h.each k lt).few)
 
-revived_nodes : (s : Setup) (bs : List Broker) (vs : List NodeBook) → length bs ≡ length s.topics * length s.clusters → AreRevived s bs vs → AreNodes s vs
+revived_nodes : (s : Setup) (bs : List Broker) (vs : List BrokerBook) → length bs ≡ length s.topics * length s.clusters → AreRevived s bs vs → AreNodes s vs
 revived_nodes s bs vs size h = record {
   count = h.count ∙ size;
   each = λ t x topic cluster.
@@ -70,7 +70,7 @@ resumed v b nodes clients links broker_clocks client_clocks events idle rounds f
     let brokers = revived_brokers v.scenario.setup v.nodes b.nodes nodes in
     record { nodes = nodes; kept = cc }
 
-pub resumed_reached : (v : SavedState) (vs : List NodeBook) → IsScripted v.scenario.setup → IsKnownState v → AreRevived v.scenario.setup v.nodes vs → Reached v.scenario.setup (world_from v)
+pub resumed_reached : (v : SavedState) (vs : List BrokerBook) → IsScripted v.scenario.setup → IsKnownState v → AreRevived v.scenario.setup v.nodes vs → Reached v.scenario.setup (world_from v)
 resumed_reached v vs scripted h nodes = state_reached v scripted h (revived_few v.scenario.setup v.nodes vs nodes)
 
 pub resumed_stands : (v : SavedState) (b : WorldBook) → IsScripted v.scenario.setup → IsKnownState v → IsResumed v b → Stands v.scenario.setup (kept_of b) (world_from v)

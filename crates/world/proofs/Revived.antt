@@ -10,7 +10,7 @@ use Rattle.durable_parts.specs.declared.durable.Durable.{Durable}
 use Rattle.durable_parts.specs.Durable.{broker_of}
 use Rattle.state_items.specs.Fitting.{AllFit}
 use Rattle.state_brokers.specs.Known.{IsKnownEntry, IsKnownNode}
-use Rattle.broker.specs.Node.{IsDurableOf, NodeBook}
+use Rattle.broker.specs.Node.{IsDurableOf, BrokerBook}
 use Rattle.world_laws.specs.Starts.{most_at_start}
 use Rattle.world.specs.Saving.{IsRevived}
 use Rattle.world.proofs.ReadEntries.{all_storable}
@@ -32,7 +32,7 @@ durable_of s t x h b d is known broker own per = record {
 abbrev restored : Broker → ℕ → ℕ → Broker
 restored b clusters clients = record b { receivers = replicate clusters None; sessions = replicate clients None }
 
-pub is_revived : (s : Setup) (n : ℕ) (b : Broker) (d : Durable) (v : NodeBook) (clients : ℕ) → let c = length s.clusters in
+pub is_revived : (s : Setup) (n : ℕ) (b : Broker) (d : Durable) (v : BrokerBook) (clients : ℕ) → let c = length s.clusters in
     IsKnownNode s.per_ledger s.clusters (n % c) b → broker_of d ≡ b → length b.entries ≤ most_at_start → clients ≡ length s.clients
     → v.topic ≡ n / c → v.site ≡ site s (n / c) (n % c) → v.names ≡ sub_names s (n / c)
     → v.broker ≡ record (broker_of d) { receivers = replicate (length d.senders) None; sessions = replicate clients None } → IsRevived s n b v

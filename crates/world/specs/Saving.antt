@@ -11,7 +11,7 @@ use Rattle.state_file.specs.declared.saved.Saved.{Saved}
 use Rattle.state_file.specs.State.{state_in, state_of}
 use Rattle.state_laws.specs.Saved.{revived}
 use Rattle.broker.specs.Events.{IsNodeOf}
-use Rattle.broker.specs.Node.{NodeBook}
+use Rattle.broker.specs.Node.{BrokerBook}
 use Rattle.world_laws.specs.Starts.{most_at_start}
 use Rattle.world.specs.declared.fault.RunFault.{RunFault}
 use Rattle.world.specs.declared.fault.RunFault.TheVariants as fault
@@ -31,12 +31,12 @@ pub record Saves (s : Script) (w : World) (result : Result Saved RunFault) : Typ
 -- ---- going on
 
 -- a broker of a number goes on from what is durable of it, of which there is not too much
-pub record IsRevived (s : Setup) (n : ℕ) (b : Broker) (v : NodeBook) : Type 0 where
+pub record IsRevived (s : Setup) (n : ℕ) (b : Broker) (v : BrokerBook) : Type 0 where
   pub node : IsNodeOf s (n / length s.clusters) (n % length s.clusters) v
   pub broker : v.broker ≡ revived s b
   pub few : length b.entries ≤ most_at_start
 
 -- and so do the first so many brokers
-pub record AreRevived (s : Setup) (bs : List Broker) (vs : List NodeBook) : Type 0 where
+pub record AreRevived (s : Setup) (bs : List Broker) (vs : List BrokerBook) : Type 0 where
   pub count : length vs ≡ length bs
   pub each : (k : ℕ) → k < length bs → IsRevived s k (slice_index_or bs k no_broker) (node_at vs k)

@@ -7,12 +7,12 @@ use Rattle.geo_base.specs.Plan.{done, halted}
 use Rattle.geo_base.specs.Run.{all_limits}
 use Rattle.geo_base.specs.Setup.{Setup}
 use Rattle.geo_base.specs.World.{World}
-use Rattle.broker_state.specs.Prepared.{PreparedBook, plan_in}
+use Rattle.broker_state.specs.Plan.{PlanBook, plan_in}
 use Rattle.broker_plans.specs.Prepared.{IsPrepared}
 use Rattle.world.specs.declared.place.Place.{Place}
 use Rattle.world.specs.World.{AreNodes, WorldBook, brokers_of, kept_of, node_at}
 use Rattle.broker.specs.Events.{plan_at_node}
-use Rattle.broker.specs.Node.{NodeBook}
+use Rattle.broker.specs.Node.{BrokerBook}
 use Rattle.world.specs.declared.fault.RunFault.{RunFault}
 use Rattle.world.specs.declared.fault.RunFault.TheVariants as fault
 use Rattle.links.specs.declared.name.LinkName.{LinkName}
@@ -29,7 +29,7 @@ abbrev pub place_at : Setup → Event → Place
 place_at s e = record { topic = topic_of s e; cluster = cluster_of e; takes = takes_of e }
 
 -- an event is prepared at broker n: whatever the packet that it takes stands for, it is the machine's plan of it there
-abbrev pub PreparesAt : WorldBook → ℕ → Option LinkName → Event → PreparedBook → Type 0
+abbrev pub PreparesAt : WorldBook → ℕ → Option LinkName → Event → PlanBook → Type 0
 PreparesAt b n takes e p = (v : Option Packet) → Both (StandsForPacket (node_at b.nodes n).site.clusters) (packet_on b.links takes) v
     → IsPrepared (node_at b.nodes n).site (node_at b.nodes n).broker (plan_at_node (node_at b.nodes n) e v) p
 
@@ -54,15 +54,15 @@ pub record IsLater (old new : WorldBook) : Type 0 where
   pub rounds : new.rounds ≡ old.rounds
 
 -- a broker after an event that was prepared there
-abbrev pub done_at : NodeBook → PreparedBook → Broker
+abbrev pub done_at : BrokerBook → PlanBook → Broker
 done_at v p = done v.site.per_ledger v.broker (plan_in v.broker p)
 
 -- and after a stop in an event, which takes a packet that stands for v
-abbrev pub halted_at : NodeBook → Event → ℕ → Option Packet → Broker
+abbrev pub halted_at : BrokerBook → Event → ℕ → Option Packet → Broker
 halted_at u e k v = halted u.site.per_ledger u.broker k (plan_at_node u e v)
 
 -- one broker has another state, and knows the same of the setup
-pub record IsSetNode (old new : List NodeBook) (n : ℕ) (b : Broker) : Type 0 where
+pub record IsSetNode (old new : List BrokerBook) (n : ℕ) (b : Broker) : Type 0 where
   pub brokers : brokers_of new ≡ slice_set (brokers_of old) n b
   pub same : (s : Setup) → AreNodes s old → AreNodes s new
 
@@ -78,7 +78,7 @@ pub record IsCommitted (place : Place) (n stamp : ℕ) (old new : WorldBook) : T
   pub frame_bytes : new.frame_bytes ≡ old.frame_bytes
 
 -- what was prepared at broker n is done, and its packets are on their links
-pub record IsFinished (place : Place) (n : ℕ) (p : PreparedBook) (old new : WorldBook) : Type 0 where
+pub record IsFinished (place : Place) (n : ℕ) (p : PlanBook) (old new : WorldBook) : Type 0 where
   pub kept : kept_of new ≡ broker_acted (kept_of old) n (wire_node.Broker place.topic place.cluster) place.takes (done_at (node_at old.nodes n) p) p.sent
   pub same : (s : Setup) → AreNodes s old.nodes → AreNodes s new.nodes
 

@@ -6,9 +6,9 @@ use Rattle.geo_base.specs.Run.{most_events, most_sent_bytes}
 use Rattle.geo_base.specs.Scripted.{IsScripted}
 use Rattle.geo_base.specs.Setup.{Setup}
 use Rattle.geo_base.specs.World.{World, node}
-use Rattle.broker_state.specs.Prepared.{IsEmptyPlan, PreparedBook}
+use Rattle.broker_state.specs.Plan.{IsEmptyPlan, PlanBook}
 use Rattle.broker.specs.Events.{IsNodeOf}
-use Rattle.broker.specs.Node.{NodeBook}
+use Rattle.broker.specs.Node.{BrokerBook}
 use Rattle.links.specs.Queues.{WireLinks}
 use Rattle.world_kept.specs.Kept.{Kept}
 use Rattle.world_kept.specs.Standing.{Stands}
@@ -17,7 +17,7 @@ use Rattle.world_laws.specs.Starts.{most_at_start}
 
 -- brokers by topic and then by cluster, clients by number; a clock is a node's last stamp
 pub record WorldBook : Type 0 where
-  pub nodes : List NodeBook
+  pub nodes : List BrokerBook
   pub clients : List Client
   pub links : WireLinks
   pub broker_clocks : List ℕ
@@ -29,18 +29,18 @@ pub record WorldBook : Type 0 where
 
 -- what always holds between events, of a plan, n rounds and m events: no event is prepared; and each round that was counted did an
 -- event, but for those of a file
-pub record WorldHolds (q : PreparedBook) (n m : ℕ) : Type 0 where
+pub record WorldHolds (q : PlanBook) (n m : ℕ) : Type 0 where
   pub plan : IsEmptyPlan q
   pub rounds : n ≤ most_at_start + m
 
-abbrev pub no_node : NodeBook
+abbrev pub no_node : BrokerBook
 no_node = record { topic = 0; site = record { own = 0; clusters = []; topic = []; per_ledger = 0 }; names = []; broker = no_broker; room = record { entries = 0; streams = 0; places = 0; subs = []; senders = 0 } }
 
-abbrev pub node_at : List NodeBook → ℕ → NodeBook
+abbrev pub node_at : List BrokerBook → ℕ → BrokerBook
 node_at vs n = slice_index_or vs n no_node
 
-abbrev pub brokers_of : List NodeBook → List Broker
-brokers_of vs = map (λ (v : NodeBook). v.broker) vs
+abbrev pub brokers_of : List BrokerBook → List Broker
+brokers_of vs = map (λ (v : BrokerBook). v.broker) vs
 
 -- without what its brokers know of the setup, and the room that they have
 abbrev pub kept_of : WorldBook → Kept
@@ -57,7 +57,7 @@ kept_of b = record {
 }
 
 -- the brokers are those of a setup
-pub record AreNodes (s : Setup) (vs : List NodeBook) : Type 0 where
+pub record AreNodes (s : Setup) (vs : List BrokerBook) : Type 0 where
   pub count : length vs ≡ length s.topics * length s.clusters
   pub each : (t x : ℕ) → t < length s.topics → x < length s.clusters → IsNodeOf s t x (node_at vs (node s t x))
 

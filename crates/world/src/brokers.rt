@@ -1,6 +1,6 @@
 //! An event of a broker: prepared there, its packets delivered, committed.
 ghost use Rattle.std.specs.Prelude.{◌≡◌, ℕ, ◌<◌, ◌+◌, ◌^◌, false, length, IfOk, OnErr, OnOk, None, Some, Ok, Err};
-ghost use Rattle.broker_state.specs.Prepared.{IsEmptyPlan};
+ghost use Rattle.broker_state.specs.Plan.{IsEmptyPlan};
 ghost use Rattle.geo_base.specs.Happening.{happens};
 ghost use Rattle.geo_base.specs.World.{World as Machine};
 ghost use Rattle.world.specs.declared.fault.RunFault.TheVariants as fault;
@@ -18,7 +18,7 @@ ghost use Rattle.world_kept.specs.Reached.{Reached};
 use crate::fault::RunFault;
 use crate::place::{Place, place_of};
 use crate::world::{World, node_number};
-use broker_state::Prepared;
+use broker_state::Plan;
 use geo_base::limits::{EVENTS, SENT_BYTES};
 use geo_base::{Event, Memory, Stamp, WireOut};
 use links::{LinkName, frame_bytes};
@@ -79,15 +79,15 @@ impl World {
     }
 
     /// The world's plan, taken out to be filled.
-    fn take_plan(&mut self, alloc: Global) -> Prepared
+    fn take_plan(&mut self, alloc: Global) -> Plan
         ensures empty { IsEmptyPlan result }
         ensures same { self.new ≡ self.old }
     {
-        std::mem::replace(&mut self.plan, Prepared::new(alloc))
+        std::mem::replace(&mut self.plan, Plan::new(alloc))
     }
 
     /// Keeps the plan, which is empty, for the next event.
-    fn keep_plan(&mut self, plan: Prepared)
+    fn keep_plan(&mut self, plan: Plan)
         requires { IsEmptyPlan plan }
         ensures { self.new ≡ self.old }
     {
@@ -100,7 +100,7 @@ impl World {
         alloc: Global,
         scenario: &Scenario,
         event: &Event,
-        plan: &mut Prepared,
+        plan: &mut Plan,
     ) -> Result<bool, RunFault>
         requires at { IsAt scenario.now.setup self.old }
         requires broker { IsBrokers event.now }
@@ -131,7 +131,7 @@ impl World {
         number: usize,
         event: &Event,
         takes: Option<LinkName>,
-        plan: &mut Prepared,
+        plan: &mut Plan,
     ) -> Result<(), Memory>
         requires node { number < length self.old.nodes }
         requires of { IsOfNode (node_at self.old.nodes number) event.now }
@@ -167,7 +167,7 @@ impl World {
         alloc: Global,
         place: Place,
         number: usize,
-        plan: &mut Prepared,
+        plan: &mut Plan,
     ) -> Result<(), RunFault>
         requires node { number < length self.old.nodes }
         requires clock { number < length self.old.broker_clocks }
@@ -190,7 +190,7 @@ impl World {
 
     /// Takes the packet of an event whose packets were delivered, and does what was prepared.
     #[tactic(auto, using(crate::proofs::Nodes::set_node))]
-    fn commit_at(&mut self, place: Place, number: usize, plan: &mut Prepared, stamp: u64)
+    fn commit_at(&mut self, place: Place, number: usize, plan: &mut Plan, stamp: u64)
         requires node { number < length self.old.nodes }
         requires clock { number < length self.old.broker_clocks }
         requires ready { IsReady (node_at self.old.nodes number) plan.old }

@@ -1,6 +1,6 @@
 //! What an event of a broker would do, without doing it.
 ghost use Rattle.std.specs.Prelude.{◌≡◌, IfOk, OnOk};
-ghost use Rattle.broker_state.specs.Prepared.{IsEmptyPlan};
+ghost use Rattle.broker_state.specs.Plan.{IsEmptyPlan};
 ghost use Rattle.geo_base.specs.World.{World as Machine};
 ghost use Rattle.script_text.specs.Scenario.{IsEvent};
 ghost use Rattle.world.specs.Foreseen.{IsForeseen};
@@ -12,7 +12,7 @@ ghost use Rattle.world_kept.specs.Standing.{Stands};
 
 use crate::place::{Place, place_of};
 use crate::world::{World, node_number};
-use broker_state::Prepared;
+use broker_state::Plan;
 use geo_base::{Event, Memory};
 use script_text::Scenario;
 use std::alloc::Global;
@@ -25,7 +25,7 @@ impl World {
         alloc: Global,
         scenario: &Scenario,
         event: &Event,
-        plan: &mut Prepared,
+        plan: &mut Plan,
     ) -> Result<Place, Memory>
         requires at { IsAt scenario.now.setup self.old }
         requires broker { IsBrokers event.now }

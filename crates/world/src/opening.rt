@@ -6,8 +6,8 @@ ghost use Rattle.world.specs.World.{IsAt, kept_of};
 ghost use Rattle.world_kept.specs.Kept.{opening_kept};
 
 use crate::world::World;
-use broker::TopicNode;
-use broker_state::Prepared;
+use broker::Broker;
+use broker_state::Plan;
 use client::Client;
 use geo_base::Memory;
 use links::Links;
@@ -37,13 +37,13 @@ impl World {
                 rounds: 0,
                 frame_bytes: 0,
             },
-            plan: Prepared::new(alloc),
+            plan: Plan::new(alloc),
         })
     }
 }
 
 /// The brokers of all topics, by topic and then by cluster.
-fn new_nodes(alloc: Global, scenario: &Scenario) -> Result<Vec<TopicNode>, Memory>
+fn new_nodes(alloc: Global, scenario: &Scenario) -> Result<Vec<Broker>, Memory>
     ensures { IfOk result (λ vs. AreNew scenario.now.setup (length scenario.now.setup.topics * length scenario.now.setup.clusters) vs.items) }
 {
     let mut nodes = Vec::new(alloc);
@@ -58,7 +58,7 @@ fn add_nodes(
     alloc: Global,
     scenario: &Scenario,
     topic: u32,
-    nodes: &mut Vec<TopicNode>,
+    nodes: &mut Vec<Broker>,
 ) -> Result<(), Memory>
     requires topic { topic < length scenario.now.setup.topics }
     requires before { AreNew scenario.now.setup (topic * length scenario.now.setup.clusters) nodes.old.items }

@@ -13,8 +13,8 @@ ghost use Rattle.world_kept.specs.Reached.{Reached};
 ghost use Rattle.world_kept.specs.Standing.{Stands};
 
 use crate::world::World;
-use broker::TopicNode;
-use broker_state::Prepared;
+use broker::Broker;
+use broker_state::Plan;
 use client::{Client, ClientState};
 use geo_base::Memory;
 use links::Links;
@@ -55,7 +55,7 @@ impl World {
             broker_clocks: vec![in alloc; 0; brokers]?,
             client_clocks: vec![in alloc; 0; declared]?,
             counts,
-            plan: Prepared::new(alloc),
+            plan: Plan::new(alloc),
         };
         Ok((scenario, world))
     }
@@ -66,7 +66,7 @@ fn revived_nodes(
     alloc: Global,
     scenario: &Scenario,
     parts: Vec<NodeParts>,
-) -> Result<Vec<TopicNode>, Memory>
+) -> Result<Vec<Broker>, Memory>
     requires known { AllFit (IsKnownBehind scenario.now.setup) [] (map broker_of parts.items) }
     requires count { length parts.items ≡ length scenario.now.setup.topics * length scenario.now.setup.clusters }
     ensures { IfOk result (λ vs. AreRevived scenario.now.setup (map broker_of parts.items) vs.items) }
@@ -85,7 +85,7 @@ fn revived_node(
     scenario: &Scenario,
     number: usize,
     part: NodeParts,
-) -> Result<TopicNode, Memory>
+) -> Result<Broker, Memory>
     requires number { number < length scenario.now.setup.topics * length scenario.now.setup.clusters }
     requires known { IsKnownNode scenario.now.setup.per_ledger scenario.now.setup.clusters (number % length scenario.now.setup.clusters) (broker_of part) }
     ensures { IfOk result (λ v. IsRevived scenario.now.setup number (broker_of part) v) }
@@ -99,7 +99,7 @@ fn revived_node(
     let site = new_site(alloc, scenario, topic, cluster)?;
     let names = sub_names(alloc, scenario, topic)?;
     let durable = part.into_durable(alloc, cluster, scenario.per_ledger())?;
-    TopicNode::from_durable(alloc, topic, site, names, durable, scenario.clients().len())
+    Broker::from_durable(alloc, topic, site, names, durable, scenario.clients().len())
 }
 
 /// Clients from what a stop left of them.

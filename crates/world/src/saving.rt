@@ -1,7 +1,7 @@
 //! What a file holds of a world: the state that a stop of everything would leave.
 ghost use Rattle.std.specs.Prelude.{◌≡◌, ◌+◌, ◌<◌, ◌^◌, All, IfOk, map};
 ghost use Rattle.client.specs.State.{stopped};
-ghost use Rattle.geo_base.specs.Broker.{Broker};
+ghost use Rattle.geo_base.specs.Broker.{Broker as MachineBroker};
 ghost use Rattle.geo_base.specs.Client.{unconnected};
 ghost use Rattle.geo_base.specs.World.{World as Machine};
 ghost use Rattle.state_file.specs.State.{state_of};
@@ -14,7 +14,7 @@ ghost use Rattle.world_kept.specs.Standing.{Stands};
 
 use crate::fault::RunFault;
 use crate::world::World;
-use broker::TopicNode;
+use broker::Broker;
 use client::{Client, ClientState};
 use geo_base::{EntryStore, Ident, Memory};
 use script_text::Scenario;
@@ -57,9 +57,9 @@ impl World {
 }
 
 /// What is durable of brokers behind a stop.
-fn saved_nodes(alloc: Global, nodes: &[TopicNode]) -> Result<Vec<NodeParts>, Memory>
+fn saved_nodes(alloc: Global, nodes: &[Broker]) -> Result<Vec<NodeParts>, Memory>
     ensures nodes { IfOk result (λ ps. map broker_of ps.items ≡ map behind_stop (brokers_of nodes.now)) }
-    ensures rests { IfOk result (λ ps. All (λ (b : Broker). HaveRests b.entries) (map broker_of ps.items)) }
+    ensures rests { IfOk result (λ ps. All (λ (b : MachineBroker). HaveRests b.entries) (map broker_of ps.items)) }
 {
     let mut parts = Vec::new(alloc);
     for node in nodes {
@@ -69,7 +69,7 @@ fn saved_nodes(alloc: Global, nodes: &[TopicNode]) -> Result<Vec<NodeParts>, Mem
 }
 
 /// What is durable of a broker behind a stop: a new ledger is open.
-fn saved_node(alloc: Global, node: &TopicNode) -> Result<NodeParts, Memory>
+fn saved_node(alloc: Global, node: &Broker) -> Result<NodeParts, Memory>
     ensures node { IfOk result (λ p. broker_of p ≡ behind_stop node.now.broker) }
     ensures rests { IfOk result (λ p. HaveRests p.entries.items) }
 {

@@ -3,7 +3,7 @@
 //! The brokers start again in a recursion: on the way in each takes the memory that it needs, and on the way back, which cannot
 //! fail any more, each does it. So all of them start again or none.
 ghost use Rattle.std.specs.Prelude.{◌≡◌, OnErr, OnOk, map};
-ghost use Rattle.broker_state.specs.Prepared.{IsEmptyPlan, plan_in};
+ghost use Rattle.broker_state.specs.Plan.{IsEmptyPlan, plan_in};
 ghost use Rattle.geo_base.specs.Client.{unconnected};
 ghost use Rattle.geo_base.specs.Happening.{stops};
 ghost use Rattle.geo_base.specs.Plan.{done};
@@ -19,8 +19,8 @@ ghost use Rattle.world_kept.specs.Reached.{Reached};
 
 use crate::fault::RunFault;
 use crate::world::World;
-use broker::TopicNode;
-use broker_state::Prepared;
+use broker::Broker;
+use broker_state::Plan;
 use client::Client;
 use geo_base::{Event, Memory};
 use script_text::Scenario;
@@ -47,14 +47,14 @@ impl World {
 }
 
 /// Starts brokers again: all of them, or none where memory is wanting.
-fn restart_all(alloc: Global, nodes: &mut [TopicNode]) -> Result<(), Memory>
+fn restart_all(alloc: Global, nodes: &mut [Broker]) -> Result<(), Memory>
     ensures ok { OnOk result (Each IsRestarted nodes.old nodes.new) }
     ensures err { OnErr result (Each IsSame nodes.old nodes.new) }
 {
     let Some((first, rest)) = nodes.split_first_mut() else {
         return Ok(());
     };
-    let mut plan = Prepared::new(alloc);
+    let mut plan = Plan::new(alloc);
     prepare_restart(alloc, first, &mut plan)?;
     restart_all(alloc, rest)?;
     first.commit(&mut plan);
@@ -62,7 +62,7 @@ fn restart_all(alloc: Global, nodes: &mut [TopicNode]) -> Result<(), Memory>
 }
 
 /// What a broker will do to start again; it takes all the memory.
-fn prepare_restart(alloc: Global, node: &mut TopicNode, plan: &mut Prepared) -> Result<(), Memory>
+fn prepare_restart(alloc: Global, node: &mut Broker, plan: &mut Plan) -> Result<(), Memory>
     requires { IsEmptyPlan plan.old }
     ensures ready { OnOk result (IsReady node.new plan.new) }
     ensures restarts { OnOk result (done node.old.site.per_ledger node.old.broker (plan_in node.old.broker plan.new) ≡ done node.old.site.per_ledger node.old.broker restart) }

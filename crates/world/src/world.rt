@@ -6,8 +6,8 @@ ghost use Rattle.world.specs.World.{AreNodes, IsAt, kept_of, node_at};
 ghost use Rattle.world_kept.specs.Kept.{opening_kept};
 ghost use Rattle.world_laws.specs.Starts.{most_at_start};
 
-use broker::TopicNode;
-use broker_state::Prepared;
+use broker::Broker;
+use broker_state::Plan;
 use client::Client;
 use geo_base::Memory;
 use links::Links;
@@ -20,13 +20,13 @@ use std::marker::Model;
 /// events are prepared in one plan, whose queues keep their memory; between events it is empty.
 #[derive(Drop)]
 pub struct World {
-    pub(crate) nodes: Vec<TopicNode>,
+    pub(crate) nodes: Vec<Broker>,
     pub(crate) clients: Vec<Client>,
     pub(crate) links: Links,
     pub(crate) broker_clocks: Vec<u64>,
     pub(crate) client_clocks: Vec<u64>,
     pub(crate) counts: Counts,
-    pub(crate) plan: Prepared,
+    pub(crate) plan: Plan,
 }
 
 impl Model for World {
@@ -66,7 +66,7 @@ impl World {
     }
 
     /// The broker of a topic at a cluster.
-    pub fn topic(&self, scenario: &Scenario, topic: u32, cluster: u32) -> &TopicNode
+    pub fn topic(&self, scenario: &Scenario, topic: u32, cluster: u32) -> &Broker
         requires nodes { AreNodes scenario.now.setup self.now.nodes }
         requires topic { topic < length scenario.now.setup.topics }
         requires cluster { cluster < length scenario.now.setup.clusters }

@@ -4,7 +4,7 @@ use Rattle.geo_base.specs.Broker.{Broker}
 use Rattle.geo_base.specs.Updating.{passed_over}
 use Rattle.sub_update.specs.Alone.{alone}
 use Rattle.broker_subs.specs.declared.writing.SubWrite.TheVariants as sub_write
-use Rattle.broker_state.specs.Prepared.{quiet_book}
+use Rattle.broker_state.specs.Plan.{quiet_book}
 use Rattle.broker_plans.proofs.Places.{many}
 use Rattle.broker_reading.specs.Updating.{update_acks}
 use Rattle.broker_reading.proofs.Acknowledged.{created, created_steps}

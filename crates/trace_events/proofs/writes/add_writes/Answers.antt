@@ -1,5 +1,5 @@
 use Rattle.std.proofs.Common.{◌<◌, arith}
-use Rattle.broker_state.specs.Prepared.{name_in}
+use Rattle.broker_state.specs.Plan.{name_in}
 use Rattle.geo_base.specs.Traced.{cause_of}
 use Rattle.trace_events.proofs.Steps.{within_at, write_added}
 use Rattle.trace_events.proofs.writes.add_writes.Goals as goal

@@ -1,6 +1,6 @@
 use Rattle.std.proofs.Common.{◌≡◌, ◌++◌, drop}
 use Rattle.std.specs.Prelude.{take}
-use Rattle.broker_state.specs.Prepared.{plan_in}
+use Rattle.broker_state.specs.Plan.{plan_in}
 use Rattle.geo_base.specs.Traced.{cause_of}
 use Rattle.trace_acts.specs.Acts.{acts_before}
 use Rattle.trace_events.specs.Writes.{lines_of}

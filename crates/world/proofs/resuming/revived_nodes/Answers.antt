@@ -2,7 +2,7 @@ use Rattle.std.proofs.Common.{◌≡◌, ◌%◌, ℕ, List, length, map, ap, su
 use Rattle.state_brokers.specs.declared.nodes.NodeParts.{NodeParts}
 use Rattle.state_brokers.specs.Known.{IsKnownNode}
 use Rattle.state_brokers.specs.Nodes.{broker_of}
-use Rattle.broker.specs.Node.{NodeBook}
+use Rattle.broker.specs.Node.{BrokerBook}
 use Rattle.world.specs.Saving.{IsRevived}
 use Rattle.world.proofs.RevivedNodes.{IsOnTheWay, next_known, one_more}
 use Rattle.world.proofs.resuming.revived_nodes.Goals as goal
@@ -22,6 +22,6 @@ loop-part-preserved c =
     let left = c.loop-part.part-iterator.rest.items in let rest = c.next.new.self.rest.items in let made = c.loop-part.nodes in
     let b = broker_of c.in-Some.part in let v = c.in_ok-revived_node.field-0 in
     let size : c.len-number.result ≡ length made.items = omega (arith, made.ok.0, c.len-number.ensures) in
-    subst (λ (vs : List NodeBook). IsOnTheWay s all (map broker_of rest) vs) (sym c.in_ok-push.ensures.items)
+    subst (λ (vs : List BrokerBook). IsOnTheWay s all (map broker_of rest) vs) (sym c.in_ok-push.ensures.items)
     (one_more s all (map broker_of left) (map broker_of rest) b made.items v (ap (λ (ps : List NodeParts). map broker_of ps) c.in-Some.ensures.steps.0) c.loop-part.invariant
     (subst (λ (n : ℕ). IsRevived s n b v) size c.in_ok-revived_node.ensures))

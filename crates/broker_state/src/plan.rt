@@ -1,0 +1,150 @@
+//! What an event will do at a broker.
+ghost use Rattle.std.specs.Prelude.{◌≡◌, ℕ, ◌<◌, ◌++◌, ◌∷◌, [], IfOk, OnOk, Some, length, slice_get};
+ghost use Rattle.geo_base.specs.Broker.{Broker};
+ghost use Rattle.geo_base.specs.Plan.{done, halted};
+ghost use Rattle.broker_state.specs.Plan.{IsEmptyPlan, halted_book, plan_in, quiet_book};
+
+use crate::change::BookChange;
+use crate::write::BookWrite;
+use geo_base::{Memory, WireOut};
+use std::alloc::Global;
+use std::collections::VecDeque;
+use std::marker::Model;
+
+/// An event that is prepared: its writes, changes and packets hold all the memory that it takes. `sub` is the place of the
+/// subscription that it is about.
+#[derive(Debug, Drop)]
+pub struct Plan {
+    idle: bool,
+    pub(crate) sub: usize,
+    pub(crate) writes: VecDeque<BookWrite>,
+    pub(crate) changes: VecDeque<BookChange>,
+    sent: Vec<WireOut>,
+}
+
+impl Model for Plan {
+    ghost use Rattle.broker_state.specs.Plan.{PlanBook};
+
+    ghost Value = { PlanBook };
+
+    ghost view = { λ p. record { idle = p.idle; sub = p.sub; writes = p.writes.items; changes = p.changes.items; sent = p.sent.items } };
+}
+
+impl Plan {
+    /// A plan in which no event is prepared yet; takes no memory.
+    pub fn new(alloc: Global) -> Plan
+        ensures { IsEmptyPlan result }
+    {
+        Plan {
+            idle: true,
+            sub: 0,
+            writes: VecDeque::new(alloc),
+            changes: VecDeque::new(alloc),
+            sent: Vec::new(alloc),
+        }
+    }
+
+    /// Empties a plan that was given up; its queues keep their memory.
+    pub fn clear(&mut self)
+        ensures { IsEmptyPlan self.new }
+    {
+        self.idle = true;
+        self.sub = 0;
+        self.writes.clear();
+        self.changes.clear();
+        self.sent.clear();
+    }
+
+    /// An event that is enabled and does nothing yet, about the subscription at a place, if it is about one.
+    pub fn begin(&mut self, sub: usize)
+        requires { IsEmptyPlan self.old }
+        ensures { self.new ≡ quiet_book sub }
+    {
+        self.idle = false;
+        self.sub = sub;
+    }
+
+    /// One more durable write.
+    pub fn write(&mut self, write: BookWrite) -> Result<(), Memory>
+        ensures { OnOk result (self.new ≡ record self.old { writes = self.old.writes ++ write ∷ [] }) }
+    {
+        Ok(self.writes.push_back(write)?)
+    }
+
+    /// One more change in memory.
+    pub fn change(&mut self, change: BookChange) -> Result<(), Memory>
+        ensures { OnOk result (self.new ≡ record self.old { changes = self.old.changes ++ change ∷ [] }) }
+    {
+        Ok(self.changes.push_back(change)?)
+    }
+
+    /// One more packet to a peer.
+    pub fn send(&mut self, packet: WireOut) -> Result<(), Memory>
+        ensures { OnOk result (self.new ≡ record self.old { sent = self.old.sent ++ packet ∷ [] }) }
+    {
+        Ok(self.sent.push(packet)?)
+    }
+
+    /// Whether the event is not enabled.
+    pub fn is_idle(&self) -> bool
+        ensures { result ≡ self.now.idle }
+    {
+        self.idle
+    }
+
+    /// How many durable writes it does.
+    pub fn write_count(&self) -> usize
+        ensures { result ≡ length self.now.writes }
+    {
+        self.writes.len()
+    }
+
+    /// The place of the subscription that the event is about.
+    pub fn place(&self) -> usize
+        ensures { result ≡ self.now.sub }
+    {
+        self.sub
+    }
+
+    /// The durable write of a number, in the order in which they are done.
+    pub fn write_at(&self, number: usize) -> &BookWrite
+        requires { number < length self.now.writes }
+        ensures { slice_get self.now.writes number ≡ Some result.now }
+    {
+        &self.writes[number]
+    }
+
+    /// The packets to send.
+    pub fn sent(&self) -> &[WireOut]
+        ensures { result.now ≡ self.now.sent }
+    {
+        self.sent.as_slice()
+    }
+
+    /// The packets to send, which are taken out.
+    pub fn take_sent(&mut self, alloc: Global) -> Vec<WireOut>
+        ensures sent { result.items ≡ self.old.sent }
+        ensures rest { self.new ≡ record self.old { sent = [] } }
+    {
+        std::mem::replace(&mut self.sent, Vec::new(alloc))
+    }
+
+    /// The event becomes a stop behind its first `k` durable writes: a ledger opens, what is in memory is lost, and nothing is sent.
+    pub fn halt_behind(&mut self, k: usize) -> Result<(), Memory>
+        ensures book { OnOk result (self.new ≡ halted_book k self.old) }
+        ensures halted { OnOk result ((per : ℕ) (b : Broker) → done per b (plan_in b self.new) ≡ halted per b k (plan_in b self.old)) }
+    {
+        self.stop_behind(k)
+    }
+
+    fn stop_behind(&mut self, k: usize) -> Result<(), Memory>
+        ensures { OnOk result (self.new ≡ halted_book k self.old) }
+    {
+        self.idle = false;
+        self.writes.truncate(k);
+        self.changes.clear();
+        self.sent.clear();
+        self.write(BookWrite::Ledger)?;
+        self.change(BookChange::Forget)
+    }
+}

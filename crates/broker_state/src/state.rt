@@ -1,0 +1,201 @@
+//! A broker's state.
+ghost use Rattle.std.specs.Prelude.{◌≡◌, ◌<◌, length, replicate, IfOk, IfSome};
+ghost use Rattle.std.specs.Option.{option_copied};
+ghost use Rattle.geo_base.specs.Broker.{new_broker, receiver_at, sender_at, session_at};
+ghost use Rattle.geo_base.specs.Topic.{accepts, index_of};
+ghost use Rattle.broker_subs.specs.SubBook.{subs_of};
+ghost use Rattle.broker_subs.specs.Table.{rooms_of};
+ghost use Rattle.broker_state.specs.State.{StateBook, marker_number, no_room};
+ghost use Rattle.broker_state.specs.Site.{IsSite};
+
+use crate::sender_row::SenderRow;
+use crate::senders::SenderTable;
+use crate::site::Site;
+use broker_subs::SubTable;
+use dedup_table::{DedupTable, Stream, Verdict};
+use geo_base::{EntryStore, Memory, Position, Session};
+use replicator::Receiver;
+use snapshot_builder::Builder;
+use std::alloc::Global;
+use std::marker::Model;
+use topic_ledger::TopicLedger;
+
+/// What a broker knows of the setup; its topic, with the table of its duplicates and the sequence id of the cluster's next marker;
+/// the senders and receivers by cluster; the subscriptions; the clients' sessions; and the snapshot that is being made.
+#[derive(Debug, Drop)]
+pub struct BrokerState {
+    pub(crate) site: Site,
+    pub(crate) store: TopicLedger,
+    pub(crate) dedup: DedupTable,
+    pub(crate) next_marker: u64,
+    pub(crate) senders: SenderTable,
+    pub(crate) receivers: Vec<Receiver>,
+    pub(crate) subs: SubTable,
+    pub(crate) sessions: Vec<Option<Session>>,
+    pub(crate) builder: Option<Builder>,
+}
+
+impl Model for BrokerState {
+    ghost use Rattle.std.specs.Prelude.{length};
+    ghost use Rattle.broker_subs.specs.SubBook.{subs_of};
+    ghost use Rattle.broker_subs.specs.Table.{rooms_of};
+    ghost use Rattle.broker_state.specs.State.{BookHolds, StateBook};
+
+    ghost Value = { StateBook };
+
+    ghost view = { λ b. record {
+      site = b.site;
+      broker = record { entries = b.store.entries; ledgers = b.store.ledgers; senders = b.senders.senders; receivers = b.receivers.items; subs = subs_of b.subs.subs; sessions = b.sessions.items; builder = b.builder };
+      room = record { entries = b.store.spare; streams = b.dedup.room; places = b.subs.room; subs = rooms_of b.subs.subs; senders = b.senders.room };
+    } };
+
+    ghost invariant = { λ b. BookHolds b.site b.store.per_ledger b.next_marker (length b.senders.senders) (length b.receivers.items) b.dedup.rows b.store.entries };
+}
+
+impl BrokerState {
+    /// The broker of a site, with an empty topic and no session of so many clients.
+    #[tactic(auto, using(dedup_table::proofs::Tells::tells_none))]
+    pub fn new(alloc: Global, site: Site, clients: usize) -> Result<BrokerState, Memory>
+        requires { 0 < site.per_ledger }
+        ensures { IfOk result (λ b. b ≡ record { site = site; broker = new_broker (length site.clusters) clients; room = no_room }) }
+    {
+        let clusters = site.clusters().len();
+        Ok(BrokerState {
+            store: TopicLedger::new(alloc, site.per_ledger())?,
+            dedup: DedupTable::new(alloc),
+            next_marker: 0,
+            senders: SenderTable::new(alloc, site.own(), clusters as u32)?,
+            receivers: closed_receivers(alloc, clusters)?,
+            subs: SubTable::new(alloc),
+            sessions: no_sessions(alloc, clients)?,
+            builder: None,
+            site,
+        })
+    }
+
+    /// What the broker knows of the setup. There is a sender and a receiver for each of its clusters.
+    pub fn site(&self) -> &Site
+        ensures value { result.now ≡ self.now.site }
+        ensures known { IsSite self.now.site }
+        ensures senders { length self.now.broker.senders ≡ length self.now.site.clusters }
+        ensures receivers { length self.now.broker.receivers ≡ length self.now.site.clusters }
+    {
+        let _own = self.site.own();
+        &self.site
+    }
+
+    /// The topic's entries and ledgers.
+    pub fn store(&self) -> &TopicLedger
+        ensures entries { result.now.entries ≡ self.now.broker.entries }
+        ensures ledgers { result.now.ledgers ≡ self.now.broker.ledgers }
+        ensures per_ledger { result.now.per_ledger ≡ self.now.site.per_ledger }
+    {
+        &self.store
+    }
+
+    /// The index that a position counts to; `None` exactly where nothing stands there.
+    #[tactic(auto, using(crate::proofs::Indexes::index_within))]
+    pub fn index_of(&self, position: Position) -> Option<u64>
+        ensures index { result ≡ index_of self.now.broker.ledgers position }
+        ensures within { IfSome result (λ i. i < length self.now.broker.entries) }
+    {
+        let _len = self.store.len();
+        match self.store.index_of(position) {
+            None => None,
+            Some(index) => Some(index as u64),
+        }
+    }
+
+    /// Whether the topic would store a sequence id of a stream.
+    pub fn accepts(&self, stream: &Stream, seq: u64) -> bool
+        ensures { result ≡ accepts self.now.broker.entries (record { origin = stream.now.origin; producer = stream.now.producer; seq = seq }) }
+    {
+        matches!(self.dedup.check(stream, seq), Verdict::New)
+    }
+
+    /// The sequence id of the cluster's next own marker; the greatest number where it would pass that.
+    pub fn next_marker(&self) -> u64
+        ensures { result ≡ marker_number self.now.site.own self.now.broker.entries }
+    {
+        self.next_marker
+    }
+
+    /// The sender to a cluster.
+    pub fn sender(&self, remote: u32) -> &SenderRow
+        requires { remote < length self.now.broker.senders }
+        ensures { result.now.sender ≡ sender_at self.now.broker remote }
+    {
+        self.senders.at(remote)
+    }
+
+    /// How many senders there are: one for each cluster.
+    pub fn senders(&self) -> usize
+        ensures { result ≡ length self.now.broker.senders }
+    {
+        self.senders.len()
+    }
+
+    /// The session that is open on the forward link from a cluster.
+    pub fn receiver(&self, source: u32) -> &Receiver
+        requires { source < length self.now.broker.receivers }
+        ensures { result.now ≡ receiver_at self.now.broker source }
+    {
+        &self.receivers[source as usize]
+    }
+
+    /// The subscriptions.
+    pub fn subs(&self) -> &SubTable
+        ensures subs { subs_of result.now.subs ≡ self.now.broker.subs }
+        ensures rooms { rooms_of result.now.subs ≡ self.now.room.subs }
+    {
+        &self.subs
+    }
+
+    /// The clients' sessions.
+    pub fn sessions(&self) -> &[Option<Session>]
+        ensures { result.now ≡ self.now.broker.sessions }
+    {
+        self.sessions.as_slice()
+    }
+
+    /// The session that a client has open.
+    pub fn session(&self, client: u32) -> Option<&Session>
+        requires { client < length self.now.broker.sessions }
+        ensures { option_copied result ≡ session_at self.now.broker client }
+    {
+        self.sessions[client as usize].as_ref()
+    }
+
+    /// The snapshot that is being made.
+    pub fn builder(&self) -> Option<&Builder>
+        ensures { option_copied result ≡ self.now.broker.builder }
+    {
+        self.builder.as_ref()
+    }
+}
+
+pub(crate) fn closed_receivers(alloc: Global, clusters: usize) -> Result<Vec<Receiver>, Memory>
+    ensures { IfOk result (λ rs. rs.items ≡ replicate clusters None) }
+{
+    let mut receivers = Vec::new(alloc);
+    while receivers.len() < clusters {
+        match receivers.push(Receiver::new()) {
+            Ok(()) => {}
+            Err(_) => return Err(Memory),
+        }
+    }
+    Ok(receivers)
+}
+
+pub(crate) fn no_sessions(alloc: Global, clients: usize) -> Result<Vec<Option<Session>>, Memory>
+    ensures { IfOk result (λ ss. ss.items ≡ replicate clients None) }
+{
+    let mut sessions = Vec::new(alloc);
+    while sessions.len() < clients {
+        match sessions.push(None) {
+            Ok(()) => {}
+            Err(_) => return Err(Memory),
+        }
+    }
+    Ok(sessions)
+}
