@@ -13,11 +13,14 @@
 //! - [`MemSource`] and [`MemSink`] are for tests: they move few bytes in a call and fail at stated
 //!   calls.
 //!
+//! A run on threads asks a [`Gate`] before each turn, so that a caller may hold threads where it wants them; [`OpenGate`] holds none.
+//!
 //! Bytes that are read are a [`geo_base::Blob`], want of memory is [`geo_base::Memory`], as everywhere. The traits and their rules are this project's
 //! own, after `std::io::{Read, Write}`.
 #![tactic(auto)]
 
 mod fault;
+mod gate;
 mod mem_sink;
 mod mem_source;
 mod planned_faults;
@@ -28,6 +31,7 @@ mod steady;
 mod whole;
 
 pub use fault::Failed;
+pub use gate::{Gate, OpenGate};
 pub use mem_sink::MemSink;
 pub use mem_source::MemSource;
 pub use planned_faults::PlannedFaults;
