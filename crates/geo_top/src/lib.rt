@@ -2,6 +2,7 @@
 //!
 //! [`answer`] is the program as one call over bytes: what it answers to words and an input, a script or a state file, whose run
 //! `world` does. [`geo_alone`] reads the input from a source, and writes what is answered to a sink.
+//! [`report`] and [`refusal`] are for the one command that stands above this crate, since its nodes run on threads.
 #![tactic(auto)]
 
 mod compacted;
@@ -15,7 +16,8 @@ mod world_report;
 
 pub use law::resumed_runs_are_one;
 pub use top::alone::geo_alone;
-pub use top::answer::Answer;
+pub use top::answer::{Answer, refusal};
 pub use top::bytes::answer;
 pub use top::command::Word;
+pub use top::scripts::report;
 pub use top::status::Status;

@@ -14,7 +14,7 @@ pub struct Answer {
     pub bytes: Blob,
 }
 
-/// A refusal, with its one line.
+/// A refusal, with its one line. An `Err` is want of memory.
 pub fn refusal(alloc: Global, status: Status) -> Result<Answer, Memory>
     ensures { IfOk result (λ a. a ≡ refused status) }
 {

@@ -81,7 +81,7 @@ fn reported(alloc: Global, scenario: &Scenario) -> Result<Blob, RunFault>
     Ok(report(alloc, scenario, &world)?)
 }
 
-/// The report of a world.
+/// The report of a world. An `Err` is want of memory.
 pub fn report(alloc: Global, scenario: &Scenario, world: &World) -> Result<Blob, Memory>
     requires { IsAt scenario.now.setup world.now }
     ensures { IfOk result (λ bytes. bytes ≡ report scenario.now.setup (shown_world world.now)) }
