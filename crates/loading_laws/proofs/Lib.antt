@@ -1,0 +1,4 @@
+pub mod Leaving
+pub mod Shares
+pub mod Entries
+pub mod Loading
