@@ -1,0 +1,2 @@
+pub mod FewNodes
+pub mod Subs
