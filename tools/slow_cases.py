@@ -12,12 +12,14 @@ usage: slow_cases.py CASE SIZE ..           prints the script
                                   a subscription of its own
   late ENTRIES ROUNDS             a topic of ENTRIES markers, and behind them ROUNDS of a local and a replicated message, each offered
                                   and acknowledged
+  told ROUNDS                     ROUNDS of a message, a snapshot and the update that tells it, each behind all entries of the rounds before
+                                  (what is slow is their trace)
 
 What one more message costs is seen by two sizes: the time should rise as the size. What an event costs late is seen by four runs: `late E R`
 should take as much longer than `late E 0` as `late 0 R` takes longer than `late 0 0`. A script stays below 2,000,000 events and 67,108,864
 bytes, or it is refused. Sizes that serve:
 
-  resent 256 20000 · acknowledged 40000 first · acknowledged 40000 last · clients 16 32 10000 · late 1000000 50000
+  resent 256 20000 · acknowledged 40000 first · acknowledged 40000 last · clients 16 32 10000 · late 1000000 50000 · told 60000
 """
 import os
 import sys
@@ -25,7 +27,7 @@ import sys
 PER_LEDGER = 50000
 MOST_EVENTS, MOST_BYTES = 2000000, 67108864
 STRIDE = 7919
-SMALL = ['resent 2 3', 'resent 3 1', 'acknowledged 3 first', 'acknowledged 3 last', 'acknowledged 5 mixed', 'acknowledged 3 upto', 'clients 2 2 2', 'clients 1 3 1', 'late 0 2', 'late 3 2']
+SMALL = ['resent 2 3', 'resent 3 1', 'acknowledged 3 first', 'acknowledged 3 last', 'acknowledged 5 mixed', 'acknowledged 3 upto', 'clients 2 2 2', 'clients 1 3 1', 'late 0 2', 'late 3 2', 'told 1', 'told 3']
 
 
 class Case:
@@ -85,6 +87,11 @@ def placed(idents, ledger=0):
     """Entry lines of messages from the start of a ledger on: origin, producer and sequence id, and the text."""
     return ['entry %d:%d %s * data - %s' % (ledger + i // PER_LEDGER, i % PER_LEDGER, ident, text)
             for i, (ident, text) in enumerate(idents)]
+
+
+def place(i):
+    """The position of an index, where no ledger was left before it was full."""
+    return '%d:%d' % divmod(i, PER_LEDGER)
 
 
 def published(cluster, client, count):
@@ -227,7 +234,47 @@ def late(entries, rounds):
     return case
 
 
-CASES = {'resent': resent, 'acknowledged': acknowledged, 'clients': clients, 'late': late}
+def told(rounds):
+    rounds = int(rounds)
+    case = Case(['t'], {'p': ('t', 'a'), 'c': ('t', 'a')})
+    messages = published('a', 'p', rounds)
+    case.do('p', 'produce', *pubs('p', rounds))
+    case.do('c', 'sub s exclusive earliest replicated', flow(rounds), *acks(messages))
+    case.connects('p', 1)
+    case.connects('c', 2)
+    case.opens('t', 'a', 'b')
+    case.opens('t', 'b', 'a')
+    here, there = [], []
+    for i, message in enumerate(messages):
+        case.goes('p')
+        case.say('get p', 'snap t a')
+        # b stores the message and the request, passes over the message, and answers the request
+        case.say(*['read t a b'] * 2, *['take t a b good'] * 2, *['receipt t a b good'] * 2, *['read t b a'] * 3)
+        # a stores the response and, once it has read it, the snapshot
+        case.say('take t b a good', 'receipt t b a good', 'read t a b', *['offer t a s'] * 4, 'get c')
+        # the acknowledgement passes the snapshot: a stores an update, passes over the snapshot and sends the update, which b reads
+        case.goes('c')
+        case.say('offer t a s', 'read t a b')
+        case.replicates('t', 'a', 'b')
+        case.say('read t b a')
+        of, cut = 'a:' + place(len(here) + 1), 'b=' + place(len(there) + 1)
+        request = ('a pulsar.marker %d *' % (3 * i), 'request %s a' % of)
+        response = ('b pulsar.marker %d a' % i, 'response %s %s' % (of, cut))
+        snapshot = ('a pulsar.marker %d a' % (3 * i + 1), 'snapshot %s %s %s' % (of, place(len(here) + 2), cut))
+        update = ('a pulsar.marker %d *' % (3 * i + 2), 'update s ' + cut)
+        data = (message[0] + ' *', 'data - ' + message[1])
+        here += [data, request, response, snapshot, update]
+        there += [data, request, response, update]
+    for cluster, other, entries, mark in (('a', 'b', here, len(here)), ('b', 'a', there, max(0, len(there) - 2))):
+        case.brokers['t', cluster] = ['entry %s %s %s' % (place(i), *entry) for i, entry in enumerate(entries)]
+        case.brokers['t', cluster] += [sender(other, 'session 1 open', len(entries))]
+        case.brokers['t', cluster] += ['sub s exclusive replicated mark %d backlog 0' % mark]
+    case.answers['p'] = 'receipts %d duplicates 0 errors 0' % rounds
+    case.got['c'] = [ident for ident, _ in messages]
+    return case
+
+
+CASES = {'resent': resent, 'acknowledged': acknowledged, 'clients': clients, 'late': late, 'told': told}
 
 
 def text(lines):

@@ -1,4 +1,5 @@
 pub mod Lines
 pub mod RangeTexts
 pub mod Gains
-pub mod Snapshots
+pub mod Keys
+pub mod Tables

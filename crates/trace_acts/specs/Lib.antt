@@ -1,4 +1,5 @@
 pub mod Naming
 pub mod Told
+pub mod Snapshots
 pub mod Ranges
 pub mod Acts

@@ -7,12 +7,15 @@
 
 mod acts;
 mod gained;
-mod named;
 mod naming;
 mod ranges;
-mod told;
+mod snapshot_key;
+mod snapshot_table;
+mod snapshot_tables;
+mod telling;
 
 pub use acts::{add_acks, add_append, add_begin, add_create, add_delete, add_seek};
 pub use gained::{gained_each, gained_passed, gained_to};
 pub use naming::Naming;
-pub use told::snapshot_told;
+pub use snapshot_tables::SnapshotTables;
+pub use telling::Telling;

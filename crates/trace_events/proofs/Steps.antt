@@ -3,16 +3,13 @@ use Rattle.std.proofs.Common.{◌≡◌, ℕ, zero, suc, ◌+◌, ◌<◌, ◌�
 use Rattle.std.proofs.lemmas.List.{append-nil}
 use Rattle.std.specs.Prelude.{Some, min, slice_get, take, find, if◌then◌else◌}
 use Rattle.std.specs.Str.{bytes_eq}
-use Rattle.geo_base.specs.declared.entry.Content.{Content}
-use Rattle.geo_base.specs.declared.entry.Content.TheVariants as content
 use Rattle.geo_base.specs.declared.entry.Entry.{Entry}
-use Rattle.geo_base.specs.declared.marker.Marker.TheVariants as marker
 use Rattle.geo_base.specs.declared.planned.Cause.{Cause}
 use Rattle.geo_base.specs.declared.write.Write.{Write}
 use Rattle.geo_base.specs.Broker.{Broker, Site, written}
 use Rattle.geo_base.specs.Subscription.{Subscription}
 use Rattle.geo_base.specs.TraceItems.{Act}
-use Rattle.geo_base.specs.Traced.{act_of, cursor_of, snapshot_told}
+use Rattle.geo_base.specs.Traced.{act_of, cursor_of}
 use Rattle.broker_subs.specs.Steps.{SubWriteFits}
 use Rattle.broker_subs.specs.declared.writing.SubWrite.{SubWrite}
 use Rattle.broker_subs.specs.declared.writing.SubWrite.TheVariants as sub_write
@@ -22,7 +19,6 @@ use Rattle.broker_state.specs.declared.write.BookWrite.TheVariants as book_write
 use Rattle.broker_state.specs.Fits.{AllWritesFit, WriteFits}
 use Rattle.broker_state.specs.Writes.{machine_write}
 use Rattle.trace_acts.specs.Naming.{act_line}
-use Rattle.trace_acts.specs.Told.{told_by}
 use Rattle.report_lines.proofs.Added.{drop_here}
 use Rattle.trace_acts.specs.Acts.{acts_before}
 use Rattle.trace_events.specs.Writes.{IsWithin, SubIsWithin, lines_of, naming}
@@ -34,17 +30,6 @@ one_line h a old new is = is ∙ ap (λ (t : List ℕ). old ++ t) (sym (append-n
 
 pub no_line : (old : List ℕ) → old ≡ old ++ []
 no_line old = sym (append-nil old)
-
-pub told_is : (h : Site) (b : Broker) (e : Entry) (n : ℕ) → n ≡ length h.clusters → told_by h.own n b.ledgers b.entries e e.content ≡ snapshot_told h b e e.content
-told_is h b e n is = rw is (by e.content)
-  where
-    by : (c : Content) → told_by h.own (length h.clusters) b.ledgers b.entries e c ≡ snapshot_told h b e c
-    by content.Data = refl
-    by (content.Marked (marker.Request id source)) = refl
-    by (content.Marked (marker.Response id answer)) = refl
-    by (content.Marked (marker.Snapshot id local remote)) = refl
-    by (content.Marked (marker.Update n remote)) = refl
-    by (content.Unread k) = refl
 
 -- ---- what a write gains is stored
 

@@ -6,6 +6,7 @@
 
 mod cause;
 mod naming;
+mod snapshots;
 mod subs;
 mod writes;
 

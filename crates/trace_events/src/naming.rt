@@ -1,5 +1,6 @@
 //! Where the lines of a broker stand.
 ghost use Rattle.std.specs.Prelude.{◌≡◌, ◌≤◌, length};
+ghost use Rattle.trace_events.specs.Snapshots.{number_of};
 ghost use Rattle.trace_events.specs.Writes.{naming};
 
 use broker::Broker;
@@ -16,4 +17,11 @@ pub(crate) fn naming(node: &Broker) -> Naming<'_>
         site.topic().as_str(),
         site.cluster_name(site.own()).as_str(),
     )
+}
+
+/// The number of a broker among all: its topic first, then its cluster.
+pub(crate) fn number(node: &Broker) -> usize
+    ensures { result ≡ number_of node.now }
+{
+    node.topic() as usize * node.site().clusters().len() + node.cluster() as usize
 }

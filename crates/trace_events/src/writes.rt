@@ -9,10 +9,12 @@ ghost use Rattle.geo_base.specs.Topic.{next_position};
 ghost use Rattle.geo_base.specs.Traced.{act_of, cause_of, snapshot_told};
 ghost use Rattle.trace_acts.specs.Acts.{acts_before};
 ghost use Rattle.trace_acts.specs.Naming.{act_line};
+ghost use Rattle.trace_events.specs.Snapshots.{HaveSeen, Knows};
 ghost use Rattle.trace_events.specs.Writes.{IsWithin, ReadsWithin, SubIsWithin, lines_of, naming};
 
 use crate::cause::cause_of;
 use crate::naming::naming;
+use crate::snapshots::snapshot_told;
 use crate::subs::{cursor_of, name_of};
 use broker::Broker;
 use broker_state::{BookWrite, Plan};
@@ -21,8 +23,8 @@ use cursor_acks::Cursor;
 use geo_base::{Blob, Cause, Entry, EntryStore, Event, Memory};
 use std::alloc::Global;
 use trace_acts::{
-    add_acks, add_append, add_create, add_delete, add_seek, gained_each, gained_passed, gained_to,
-    snapshot_told,
+    Telling, add_acks, add_append, add_create, add_delete, add_seek, gained_each, gained_passed,
+    gained_to,
 };
 
 /// Appends the lines of the first `count` durable writes of an event that is prepared at a broker, in their order. An `Err` is want of
@@ -30,7 +32,7 @@ use trace_acts::{
 #[tactic(auto, using(crate::proofs::Steps::no_line))]
 pub fn add_writes(
     alloc: Global,
-    lines: &mut Blob,
+    telling: &mut Telling,
     node: &Broker,
     event: &Event,
     plan: &Plan,
@@ -38,50 +40,62 @@ pub fn add_writes(
 ) -> Result<(), Memory>
     requires read { ReadsWithin node.now.site event.now }
     requires fits { PlanFits node.now.site.per_ledger node.now.broker plan.now }
-    ensures { OnOk result (lines.new ≡ lines.old ++ lines_of node.now.site (acts_before node.now.site (cause_of node.now.broker event.now) node.now.broker (take count (plan_in node.now.broker plan.now).writes))) }
+    requires known { Knows node.now telling.old.snapshots }
+    ensures told { OnOk result (telling.new.text ≡ telling.old.text ++ lines_of node.now.site (acts_before node.now.site (cause_of node.now.broker event.now) node.now.broker (take count (plan_in node.now.broker plan.now).writes))) }
+    ensures seen { HaveSeen node.now telling.old.snapshots telling.new.snapshots }
 {
     let cause = cause_of(node, event);
     let sub = name_of(node, plan);
     for number in 0..count.min(plan.write_count()) {
-        add_write(alloc, lines, node, cause, sub, plan.write_at(number))?;
+        add_write(alloc, telling, node, cause, sub, plan.write_at(number))?;
     }
     Ok(())
 }
 
 /// The line of a write, if it has one; `sub` is the name of the event's subscription.
-#[tactic(auto, using(crate::proofs::Steps::one_line))]
+#[tactic(auto, using(crate::proofs::Steps::one_line, crate::proofs::Seen::seen_same))]
 fn add_write(
     alloc: Global,
-    lines: &mut Blob,
+    telling: &mut Telling,
     node: &Broker,
     cause: Cause,
     sub: &[u8],
     write: &BookWrite,
 ) -> Result<(), Memory>
-    requires { IsWithin node.now.broker.entries write.now }
-    ensures { OnOk result (lines.new ≡ lines.old ++ lines_of node.now.site (act_of node.now.site cause node.now.broker (machine_write sub.now node.now.broker.entries write.now))) }
+    requires within { IsWithin node.now.broker.entries write.now }
+    requires known { Knows node.now telling.old.snapshots }
+    ensures told { OnOk result (telling.new.text ≡ telling.old.text ++ lines_of node.now.site (act_of node.now.site cause node.now.broker (machine_write sub.now node.now.broker.entries write.now))) }
+    ensures seen { HaveSeen node.now telling.old.snapshots telling.new.snapshots }
 {
     match write {
-        BookWrite::Append { entry, .. } => append(lines, node, entry),
+        BookWrite::Append { entry, .. } => append(alloc, telling, node, entry),
         BookWrite::Create { sub, latest } => {
             let name = sub.name().as_str().as_bytes();
-            add_create(lines, &naming(node), name, *latest)
+            add_create(&mut telling.text, &naming(node), name, *latest)
         }
-        BookWrite::Delete => add_delete(lines, &naming(node), sub),
-        BookWrite::Sub(write) => add_sub_write(alloc, lines, node, cause, sub, write),
+        BookWrite::Delete => add_delete(&mut telling.text, &naming(node), sub),
+        BookWrite::Sub(write) => {
+            add_sub_write(alloc, &mut telling.text, node, cause, sub, write)
+        },
         BookWrite::SenderAck { .. } | BookWrite::SessionNumber { .. } | BookWrite::Ledger => Ok(()),
     }
 }
 
 /// The line of an entry that is stored next.
-#[tactic(auto, using(crate::proofs::Steps::one_line, crate::proofs::Steps::told_is))]
-fn append(lines: &mut Blob, node: &Broker, entry: &Entry) -> Result<(), Memory>
-    ensures { OnOk result (lines.new ≡ lines.old ++ act_line (naming node.now.site) (Appends (next_position node.now.site.per_ledger node.now.broker.ledgers) entry.now (snapshot_told node.now.site node.now.broker entry.now entry.now.content))) }
+#[tactic(auto, using(crate::proofs::Steps::one_line))]
+fn append(alloc: Global, telling: &mut Telling, node: &Broker, entry: &Entry) -> Result<(), Memory>
+    requires known { Knows node.now telling.old.snapshots }
+    ensures told { OnOk result (telling.new.text ≡ telling.old.text ++ act_line (naming node.now.site) (Appends (next_position node.now.site.per_ledger node.now.broker.ledgers) entry.now (snapshot_told node.now.site node.now.broker entry.now entry.now.content))) }
+    ensures seen { HaveSeen node.now telling.old.snapshots telling.new.snapshots }
 {
-    let at = naming(node);
-    let clusters = node.site().clusters().len() as u32;
-    let by = snapshot_told(node.cluster(), clusters, node.store(), entry);
-    add_append(lines, &at, node.store().next(), entry, by)
+    let by = snapshot_told(alloc, &mut telling.snapshots, node, entry)?;
+    add_append(
+        &mut telling.text,
+        &naming(node),
+        node.store().next(),
+        entry,
+        by,
+    )
 }
 
 /// The line of a write of a subscription that is here, or was created before it.

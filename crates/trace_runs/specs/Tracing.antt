@@ -1,7 +1,8 @@
 -- A run with its lines: what is told of it so far, and what is left to tell.
-use Rattle.std.specs.Prelude.{◌≡◌, ℕ, Bool, true, false, List, [], ◌++◌, map, None, Some, Ok, Err, OnOk, Result, ⊤}
+use Rattle.std.specs.Prelude.{◌≡◌, ℕ, Bool, true, false, List, [], ◌++◌, length, map, None, Some, Ok, Err, OnOk, Result, slice_index_or, ⊤}
 use Rattle.geo_base.specs.declared.event.Event.{Event}
 use Rattle.geo_base.specs.declared.event.Event.TheVariants as event
+use Rattle.geo_base.specs.Broker.{no_broker}
 use Rattle.geo_base.specs.Report.{with_line_feeds}
 use Rattle.geo_base.specs.Run.{Ran, all_limits, all_settle, rounds_of}
 use Rattle.geo_base.specs.Setup.{Setup}
@@ -9,6 +10,7 @@ use Rattle.geo_base.specs.TraceItems.{Item}
 use Rattle.geo_base.specs.TraceText.{item_line}
 use Rattle.geo_base.specs.Traced.{rounds_items, settling_items}
 use Rattle.geo_base.specs.World.{World}
+use Rattle.trace_acts.specs.Snapshots.{Snapshots, TellsBeginning, table_at}
 use Rattle.world_kept.specs.Reached.{Reached}
 use Rattle.world_kept.specs.Standing.{Stands}
 use Rattle.world.specs.declared.fault.RunFault.{RunFault}
@@ -16,6 +18,10 @@ use Rattle.world.specs.declared.fault.RunFault.TheVariants as fault
 use Rattle.world.specs.Runs.{at_world}
 use Rattle.world.specs.Settling.{EndsWithin}
 use Rattle.world.specs.World.{WorldBook, kept_of}
+
+-- the table of each broker, by its number, tells a beginning of its topic
+pub record AreTables (s : Setup) (ts : List Snapshots) (b : WorldBook) : Type 0 where
+  pub at : (k : ℕ) → TellsBeginning (length s.clusters) (table_at ts k) (slice_index_or (kept_of b).brokers k no_broker).entries
 
 -- lines of a trace, each with its line feed
 abbrev pub item_lines : Setup → List Item → List ℕ

@@ -3,6 +3,7 @@ ghost use Rattle.std.specs.Prelude.{◌≡◌, ◌++◌, ◌+◌, ◌<◌, ◌^�
 ghost use Rattle.trace_acts.specs.Acts.{acts_before};
 ghost use Rattle.broker_state.specs.Fits.{PlanFits};
 ghost use Rattle.broker_state.specs.Plan.{plan_in};
+ghost use Rattle.trace_events.specs.Snapshots.{HaveSeen, Knows};
 ghost use Rattle.trace_events.specs.Writes.{ReadsWithin, lines_of};
 ghost use Rattle.geo_base.specs.declared.event.Step.TheVariants as step;
 ghost use Rattle.geo_base.specs.Run.{all_limits, steps};
@@ -19,7 +20,7 @@ ghost use Rattle.world.specs.World.{IsAt, SameWorld, kept_of};
 ghost use Rattle.world_kept.specs.Events.{IsBrokers};
 ghost use Rattle.world_kept.specs.Reached.{Reached};
 ghost use Rattle.world_kept.specs.Standing.{Stands};
-ghost use Rattle.trace_runs.specs.Tracing.{IsClients, item_lines};
+ghost use Rattle.trace_runs.specs.Tracing.{AreTables, IsClients, item_lines};
 
 use crate::trace::Trace;
 use broker::Broker;
@@ -40,12 +41,14 @@ impl Trace {
         event: &Event,
     ) -> Result<(), RunFault>
         requires at { IsAt scenario.now.setup world.old }
+        requires tables { AreTables scenario.now.setup self.old.telling.snapshots world.old }
         requires scripted { IsEvent scenario.now.setup event.now }
         ensures told { (w : Machine) → Reached scenario.now.setup w → Stands scenario.now.setup (kept_of world.old) w
-            → OnOk result (self.new.text ≡ self.old.text ++ item_lines scenario.now.setup (event_items scenario.now.setup w event.now)) }
+            → OnOk result (self.new.telling.text ≡ self.old.telling.text ++ item_lines scenario.now.setup (event_items scenario.now.setup w event.now)) }
         ensures comes { (w : Machine) → Reached scenario.now.setup w → Stands scenario.now.setup (kept_of world.old) w
             → Comes scenario.now.setup world.new (steps all_limits scenario.now.setup (at_world w) (step.Plain event.now)) result }
         ensures at { IsAt scenario.now.setup world.new }
+        ensures tables { OnOk result (AreTables scenario.now.setup self.new.telling.snapshots world.new) }
     {
         match *event {
             Event::Go { .. } | Event::Get { .. } | Event::Reconnect { .. } => {
@@ -65,20 +68,22 @@ impl Trace {
         event: &Event,
     ) -> Result<(), RunFault>
         requires at { IsAt scenario.now.setup world.old }
+        requires tables { AreTables scenario.now.setup self.old.telling.snapshots world.old }
         requires client { IsClients event.now }
         requires scripted { IsEvent scenario.now.setup event.now }
         ensures told { (w : Machine) → Reached scenario.now.setup w → Stands scenario.now.setup (kept_of world.old) w
-            → OnOk result (self.new.text ≡ self.old.text ++ item_lines scenario.now.setup (event_items scenario.now.setup w event.now)) }
+            → OnOk result (self.new.telling.text ≡ self.old.telling.text ++ item_lines scenario.now.setup (event_items scenario.now.setup w event.now)) }
         ensures comes { (w : Machine) → Reached scenario.now.setup w → Stands scenario.now.setup (kept_of world.old) w
             → Comes scenario.now.setup world.new (steps all_limits scenario.now.setup (at_world w) (step.Plain event.now)) result }
         ensures at { IsAt scenario.now.setup world.new }
+        ensures tables { OnOk result (AreTables scenario.now.setup self.new.telling.snapshots world.new) }
     {
         let before = world.events();
         world.event(alloc, scenario, event)?;
         if world.events() == before {
             return Ok(());
         }
-        add_begin(&mut self.text, before + 1)?;
+        add_begin(&mut self.telling.text, before + 1)?;
         Ok(())
     }
 
@@ -91,13 +96,15 @@ impl Trace {
         event: &Event,
     ) -> Result<(), RunFault>
         requires at { IsAt scenario.now.setup world.old }
+        requires tables { AreTables scenario.now.setup self.old.telling.snapshots world.old }
         requires broker { IsBrokers event.now }
         requires scripted { IsEvent scenario.now.setup event.now }
         ensures told { (w : Machine) → Reached scenario.now.setup w → Stands scenario.now.setup (kept_of world.old) w
-            → OnOk result (self.new.text ≡ self.old.text ++ item_lines scenario.now.setup (event_items scenario.now.setup w event.now)) }
+            → OnOk result (self.new.telling.text ≡ self.old.telling.text ++ item_lines scenario.now.setup (event_items scenario.now.setup w event.now)) }
         ensures comes { (w : Machine) → Reached scenario.now.setup w → Stands scenario.now.setup (kept_of world.old) w
             → Comes scenario.now.setup world.new (steps all_limits scenario.now.setup (at_world w) (step.Plain event.now)) result }
         ensures at { IsAt scenario.now.setup world.new }
+        ensures tables { OnOk result (AreTables scenario.now.setup self.new.telling.snapshots world.new) }
     {
         self.foretell(alloc, world, scenario, event)?;
         world.event(alloc, scenario, event)
@@ -112,12 +119,14 @@ impl Trace {
         event: &Event,
     ) -> Result<(), RunFault>
         requires at { IsAt scenario.now.setup world.old }
+        requires tables { AreTables scenario.now.setup self.old.telling.snapshots world.old }
         requires event { IsSettlingEvent scenario.now.setup event.now }
         ensures told { (w : Machine) → Reached scenario.now.setup w → Stands scenario.now.setup (kept_of world.old) w
-            → OnOk result (self.new.text ≡ self.old.text ++ item_lines scenario.now.setup (event_items scenario.now.setup w event.now)) }
+            → OnOk result (self.new.telling.text ≡ self.old.telling.text ++ item_lines scenario.now.setup (event_items scenario.now.setup w event.now)) }
         ensures leads { (w : Machine) → Reached scenario.now.setup w → Stands scenario.now.setup (kept_of world.old) w
             → Leads scenario.now.setup world.old world.new (settled_by scenario.now.setup w event.now) result }
         ensures at { IsAt scenario.now.setup world.new }
+        ensures tables { OnOk result (AreTables scenario.now.setup self.new.telling.snapshots world.new) }
         ensures later { IsLater world.old world.new }
         ensures err { OnErr result (SameWorld world.old world.new) }
     {
@@ -135,13 +144,15 @@ impl Trace {
         event: &Event,
     ) -> Result<(), RunFault>
         requires at { IsAt scenario.now.setup world.old }
+        requires tables { AreTables scenario.now.setup self.old.telling.snapshots world.old }
         requires broker { IsBrokers event.now }
         requires scripted { IsEvent scenario.now.setup event.now }
         ensures told { (w : Machine) → Reached scenario.now.setup w → Stands scenario.now.setup (kept_of world.old) w
-            → OnOk result (self.new.text ≡ self.old.text ++ item_lines scenario.now.setup (halt_items scenario.now.setup w writes event.now)) }
+            → OnOk result (self.new.telling.text ≡ self.old.telling.text ++ item_lines scenario.now.setup (halt_items scenario.now.setup w writes event.now)) }
         ensures comes { (w : Machine) → Reached scenario.now.setup w → Stands scenario.now.setup (kept_of world.old) w
             → Comes scenario.now.setup world.new (steps all_limits scenario.now.setup (at_world w) (step.Halt writes event.now)) result }
         ensures at { IsAt scenario.now.setup world.new }
+        ensures tables { OnOk result (AreTables scenario.now.setup self.new.telling.snapshots world.new) }
     {
         self.plan.clear();
         let place = world.foresee(alloc, scenario, event, &mut self.plan)?;
@@ -160,11 +171,13 @@ impl Trace {
         event: &Event,
     ) -> Result<(), Memory>
         requires at { IsAt scenario.now.setup world.old }
+        requires tables { AreTables scenario.now.setup self.old.telling.snapshots world.old }
         requires broker { IsBrokers event.now }
         requires scripted { IsEvent scenario.now.setup event.now }
         ensures told { (w : Machine) → Reached scenario.now.setup w → Stands scenario.now.setup (kept_of world.old) w
-            → OnOk result (self.new.text ≡ self.old.text ++ item_lines scenario.now.setup (event_items scenario.now.setup w event.now)) }
+            → OnOk result (self.new.telling.text ≡ self.old.telling.text ++ item_lines scenario.now.setup (event_items scenario.now.setup w event.now)) }
         ensures at { IsAt scenario.now.setup world.new }
+        ensures tables { OnOk result (AreTables scenario.now.setup self.new.telling.snapshots world.new) }
         ensures same { SameWorld world.old world.new }
     {
         self.plan.clear();
@@ -190,10 +203,12 @@ impl Trace {
         requires count { events + 1 < 2 ^ 64 }
         requires read { ReadsWithin node.now.site event.now }
         requires fits { PlanFits node.now.site.per_ledger node.now.broker self.old.plan }
-        ensures { (s : Setup) → OnOk result (self.new.text ≡ (self.old.text ++ (item_line s (Begins (events + 1)) ++ 10 ∷ []))
+        requires known { Knows node.now self.old.telling.snapshots }
+        ensures told { (s : Setup) → OnOk result (self.new.telling.text ≡ (self.old.telling.text ++ (item_line s (Begins (events + 1)) ++ 10 ∷ []))
             ++ lines_of node.now.site (acts_before node.now.site (cause_of node.now.broker event.now) node.now.broker (take writes (plan_in node.now.broker self.old.plan).writes))) }
+        ensures seen { OnOk result (HaveSeen node.now self.old.telling.snapshots self.new.telling.snapshots) }
     {
-        add_begin(&mut self.text, events + 1)?;
-        add_writes(alloc, &mut self.text, node, event, &self.plan, writes)
+        add_begin(&mut self.telling.text, events + 1)?;
+        add_writes(alloc, &mut self.telling, node, event, &self.plan, writes)
     }
 }

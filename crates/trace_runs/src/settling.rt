@@ -10,7 +10,7 @@ ghost use Rattle.world.specs.Steps.{IsLater};
 ghost use Rattle.world.specs.World.{IsAt, kept_of};
 ghost use Rattle.world_kept.specs.Reached.{Reached};
 ghost use Rattle.world_kept.specs.Standing.{Stands};
-ghost use Rattle.trace_runs.specs.Tracing.{Ends, IsTelling, IsTellingRounds, Tells, TellsRound, item_lines};
+ghost use Rattle.trace_runs.specs.Tracing.{AreTables, Ends, IsTelling, IsTellingRounds, Tells, TellsRound, item_lines};
 
 use crate::trace::Trace;
 use geo_base::Event;
@@ -27,11 +27,13 @@ impl Trace {
         scenario: &Scenario,
     ) -> Result<(), RunFault>
         requires at { IsAt scenario.now.setup world.old }
+        requires tables { AreTables scenario.now.setup self.old.telling.snapshots world.old }
         ensures told { (w : Machine) → Reached scenario.now.setup w → Stands scenario.now.setup (kept_of world.old) w
-            → OnOk result (self.new.text ≡ self.old.text ++ item_lines scenario.now.setup (step_items all_limits scenario.now.setup (at_world w) step.Settle)) }
+            → OnOk result (self.new.telling.text ≡ self.old.telling.text ++ item_lines scenario.now.setup (step_items all_limits scenario.now.setup (at_world w) step.Settle)) }
         ensures comes { (w : Machine) → Reached scenario.now.setup w → Stands scenario.now.setup (kept_of world.old) w
             → Comes scenario.now.setup world.new (steps all_limits scenario.now.setup (at_world w) step.Settle) result }
         ensures at { IsAt scenario.now.setup world.new }
+        ensures tables { OnOk result (AreTables scenario.now.setup self.new.telling.snapshots world.new) }
     {
         let events = SettlingEvents::of(alloc, scenario)?;
         self.settle_each(alloc, world, scenario, events.resets.as_slice())?;
@@ -47,10 +49,12 @@ impl Trace {
         round: &[Event],
     ) -> Result<(), RunFault>
         requires at { IsAt scenario.now.setup world.old }
+        requires tables { AreTables scenario.now.setup self.old.telling.snapshots world.old }
         requires round { round.now ≡ round_of (pairs scenario.now.setup) }
-        ensures ends { (r : Ran) (all : List ℕ) → IsTellingRounds scenario.now.setup world.old self.old.text r all
-            → Ends scenario.now.setup world.new self.new.text r all result }
+        ensures ends { (r : Ran) (all : List ℕ) → IsTellingRounds scenario.now.setup world.old self.old.telling.text r all
+            → Ends scenario.now.setup world.new self.new.telling.text r all result }
         ensures at { IsAt scenario.now.setup world.new }
+        ensures tables { OnOk result (AreTables scenario.now.setup self.new.telling.snapshots world.new) }
     {
         while self.round(alloc, world, scenario, round)? {}
         Ok(())
@@ -65,10 +69,12 @@ impl Trace {
         round: &[Event],
     ) -> Result<bool, RunFault>
         requires at { IsAt scenario.now.setup world.old }
+        requires tables { AreTables scenario.now.setup self.old.telling.snapshots world.old }
         requires round { round.now ≡ round_of (pairs scenario.now.setup) }
-        ensures tells { (r : Ran) (all : List ℕ) → IsTellingRounds scenario.now.setup world.old self.old.text r all
-            → TellsRound scenario.now.setup world.new self.new.text r all result }
+        ensures tells { (r : Ran) (all : List ℕ) → IsTellingRounds scenario.now.setup world.old self.old.telling.text r all
+            → TellsRound scenario.now.setup world.new self.new.telling.text r all result }
         ensures at { IsAt scenario.now.setup world.new }
+        ensures tables { OnOk result (AreTables scenario.now.setup self.new.telling.snapshots world.new) }
         ensures rises { result ≡ Ok true → world.old.events < world.new.events }
     {
         let before = world.events();
@@ -89,10 +95,12 @@ impl Trace {
         events: &[Event],
     ) -> Result<(), RunFault>
         requires at { IsAt scenario.now.setup world.old }
+        requires tables { AreTables scenario.now.setup self.old.telling.snapshots world.old }
         requires each { All (IsSettlingEvent scenario.now.setup) events.now }
-        ensures tells { (r : Ran) (all : List ℕ) → IsTelling scenario.now.setup world.old self.old.text events.now r all
-            → Tells scenario.now.setup world.new self.new.text r all result }
+        ensures tells { (r : Ran) (all : List ℕ) → IsTelling scenario.now.setup world.old self.old.telling.text events.now r all
+            → Tells scenario.now.setup world.new self.new.telling.text r all result }
         ensures at { IsAt scenario.now.setup world.new }
+        ensures tables { OnOk result (AreTables scenario.now.setup self.new.telling.snapshots world.new) }
         ensures later { IsLater world.old world.new }
     {
         for event in events {

@@ -4,29 +4,34 @@ ghost use Rattle.std.specs.Prelude.{◌≡◌};
 use broker_state::Plan;
 use geo_base::Blob;
 use std::alloc::Global;
+use trace_acts::{SnapshotTables, Telling};
 
-/// The text so far, and a plan, in which events are foreseen one after another: its queues keep their memory.
+/// The lines so far with what is known of snapshots, and a plan, in which events are foreseen one after another: its queues keep their
+/// memory.
 #[derive(Debug, Drop)]
 pub struct Trace {
-    pub(crate) text: Blob,
+    pub(crate) telling: Telling,
     pub(crate) plan: Plan,
 }
 
 impl Trace {
     /// A trace behind a text, which goes before its lines. It takes no memory.
     pub fn behind(alloc: Global, text: Blob) -> Trace
-        ensures { result.text ≡ text }
+        ensures { result.telling.text ≡ text }
     {
         Trace {
-            text,
+            telling: Telling {
+                text,
+                snapshots: SnapshotTables::new(alloc),
+            },
             plan: Plan::new(alloc),
         }
     }
 
     /// The text.
     pub fn into_text(self) -> Blob
-        ensures { result ≡ self.text }
+        ensures { result ≡ self.telling.text }
     {
-        self.text
+        self.telling.text
     }
 }

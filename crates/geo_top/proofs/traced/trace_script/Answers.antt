@@ -6,7 +6,7 @@ use Rattle.geo_top.proofs.traced.trace_script.Goals as goal
 pub returns-in-Ok-clause-done : goal.returns-in-Ok-clause-done
 returns-in-Ok-clause-done c =
     c.into_text.ensures
-    ∙ traced_run c.args.scenario.now c.in_ok-world.world c.steps.result.now c.behind-trace.result.text c.run.new.self.text c.run.result c.in-Ok.field-0 c.in_ok-world.ensures.kept c.steps.ensures.steps
+    ∙ traced_run c.args.scenario.now c.in_ok-world.world c.steps.result.now c.behind-trace.result.telling.text c.run.new.self.telling.text c.run.result c.in-Ok.field-0 c.in_ok-world.ensures.kept c.steps.ensures.steps
     (c.behind-trace.ensures ∙ c.in_ok-head.ensures) c.run.ensures.told c.in-Ok.is
 
 pub returns-in-Ok-clause-within : goal.returns-in-Ok-clause-within

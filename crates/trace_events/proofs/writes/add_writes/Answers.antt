@@ -1,17 +1,29 @@
-use Rattle.std.proofs.Common.{◌<◌, arith}
+use Rattle.std.proofs.Common.{◌<◌, arith, refl}
 use Rattle.broker_state.specs.Plan.{name_in}
 use Rattle.geo_base.specs.Traced.{cause_of}
+use Rattle.trace_events.proofs.Seen.{seen_both, seen_same}
 use Rattle.trace_events.proofs.Steps.{within_at, write_added}
 use Rattle.trace_events.proofs.writes.add_writes.Goals as goal
 
 pub add_write-requires : goal.add_write-requires
 add_write-requires c =
     let v = c.args.node.now in let p = c.args.plan.now in
-    within_at v.site.per_ledger (name_in v.broker.subs p) v.broker.entries p.sub v.broker p.writes c.loop-number.number c.write_at.result.now c.requires.fits.writes c.write_at.ensures
+    record {
+      within = within_at v.site.per_ledger (name_in v.broker.subs p) v.broker.entries p.sub v.broker p.writes c.loop-number.number c.write_at.result.now c.requires.fits.writes c.write_at.ensures;
+      known = c.loop-number.invariant.seen.known;
+    }
+
+pub loop-number-init : goal.loop-number-init
+loop-number-init c = record { told = refl; seen = seen_same c.args.node.now c.args.telling.now.snapshots c.requires.known }
 
 pub loop-number-preserved : goal.loop-number-preserved
 loop-number-preserved c =
     let v = c.args.node.now in let p = c.args.plan.now in
     let within : c.loop-number.number < c.args.count = omega (arith, c.loop-number-test.true, c.min-number-end.ensures) in
-    write_added v.site (cause_of v.broker c.args.event.now) c.cause_of-cause.result v.broker c.name_of-sub.result.now (name_in v.broker.subs p) c.args.count c.loop-number.number p.writes
-    c.write_at.result.now c.loop-number.lines c.add_write.new.lines _ c.write_at.ensures within c.cause_of-cause.ensures c.name_of-sub.ensures c.in_ok-add_write.ensures c.loop-number.invariant
+    record {
+      told =
+          write_added v.site (cause_of v.broker c.args.event.now) c.cause_of-cause.result v.broker c.name_of-sub.result.now (name_in v.broker.subs p) c.args.count c.loop-number.number p.writes
+          c.write_at.result.now c.loop-number.telling.text c.add_write.new.telling.text _ c.write_at.ensures within c.cause_of-cause.ensures c.name_of-sub.ensures c.in_ok-add_write.ensures.told
+          c.loop-number.invariant.told;
+      seen = seen_both v c.args.telling.now.snapshots c.loop-number.telling.snapshots c.add_write.new.telling.snapshots c.loop-number.invariant.seen c.in_ok-add_write.ensures.seen;
+    }

@@ -3,6 +3,7 @@ use Rattle.std.specs.Prelude.{take}
 use Rattle.broker_state.specs.Plan.{plan_in}
 use Rattle.geo_base.specs.Traced.{cause_of}
 use Rattle.trace_acts.specs.Acts.{acts_before}
+use Rattle.trace_events.specs.Snapshots.{HaveSeen}
 use Rattle.trace_events.specs.Writes.{lines_of}
 use Rattle.trace_events.proofs.Steps.{with_left}
 use Rattle.trace_events.proofs.writes.add_writes.Given as goal
@@ -11,4 +12,7 @@ use Rattle.trace_events.proofs.writes.add_writes.Given as goal
 abbrev pub invariant-loop-number : goal.invariant-loop-number
 invariant-loop-number l =
     let h = l.node.site in let b = l.node.broker in let c = cause_of b l.event in let ws = take l.count (plan_in b l.plan).writes in
-    with_left h c b l.lines (drop l.number ws) ≡ l.initial.lines ++ lines_of h (acts_before h c b ws)
+    record {
+      told : with_left h c b l.telling.text (drop l.number ws) ≡ l.initial.telling.text ++ lines_of h (acts_before h c b ws);
+      seen : HaveSeen l.node l.initial.telling.snapshots l.telling.snapshots;
+    }

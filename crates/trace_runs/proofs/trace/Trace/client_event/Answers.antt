@@ -5,6 +5,7 @@ use Rattle.geo_base.specs.declared.event.Step.TheVariants as step
 use Rattle.geo_base.specs.TraceItems.{Begins}
 use Rattle.geo_base.specs.TraceText.{item_line}
 use Rattle.world.proofs.RunSteps.{plain_comes}
+use Rattle.trace_runs.proofs.Knowing.{event_known}
 use Rattle.trace_runs.proofs.Telling.{client_still, client_told, comes_wants}
 use Rattle.trace_runs.proofs.trace.Trace.client_event.Goals as goal
 
@@ -17,7 +18,7 @@ returns-in_err-event-clause-comes c = λ w reached stands.
 
 pub returns-then-events-before-clause-told : goal.returns-then-events-before-clause-told
 returns-then-events-before-clause-told c = λ w reached stands.
-    client_still c.args.scenario.now.setup c.args.world.now c.event.new.self w c.args.event.now c.args.self.now.text tt c.requires.client stands (c.in_ok-event.ensures.leads w reached stands)
+    client_still c.args.scenario.now.setup c.args.world.now c.event.new.self w c.args.event.now c.args.self.now.telling.text tt c.requires.client stands (c.in_ok-event.ensures.leads w reached stands)
     (sym c.events.ensures.events ∙ (c.if-events-before.true ∙ c.events-before.ensures.events))
 
 pub returns-then-events-before-clause-comes : goal.returns-then-events-before-clause-comes
@@ -32,7 +33,7 @@ returns-in_err-add_begin-clause-comes c = λ w reached stands.
 
 pub returns-clause-told : goal.returns-clause-told
 returns-clause-told c = λ w reached stands.
-    let s = c.args.scenario.now.setup in let text = c.args.self.now.text in
+    let s = c.args.scenario.now.setup in let text = c.args.self.now.telling.text in
     client_told s c.args.world.now c.event.new.self w c.args.event.now text c.add_begin.new.lines tt c.requires.client stands (c.in_ok-event.ensures.leads w reached stands)
     (λ same. c.if-events-before.false (c.events.ensures.events ∙ (same ∙ sym c.events-before.ensures.events)))
     (c.in_ok-add_begin.ensures s ∙ ap (λ (n : ℕ). text ++ (item_line s (Begins (n + 1)) ++ 10 ∷ [])) c.events-before.ensures.events)
@@ -41,3 +42,15 @@ pub returns-clause-comes : goal.returns-clause-comes
 returns-clause-comes c = λ w reached stands.
     plain_comes c.args.scenario.now.setup c.args.world.now c.event.new.self w (step.Plain c.args.event.now) c.args.event.now (Ok tt) refl stands
     (c.in_ok-event.ensures.leads w reached stands) tt
+
+pub returns-then-events-before-clause-tables : goal.returns-then-events-before-clause-tables
+returns-then-events-before-clause-tables c =
+    let h = c.requires.at in
+    event_known c.args.scenario.now.setup c.args.self.now.telling.snapshots c.args.world.now c.event.new.self h.world c.args.event.now (Ok tt) h.stands c.requires.tables
+    (c.in_ok-event.ensures.leads h.world h.reached h.stands)
+
+pub returns-clause-tables : goal.returns-clause-tables
+returns-clause-tables c =
+    let h = c.requires.at in
+    event_known c.args.scenario.now.setup c.args.self.now.telling.snapshots c.args.world.now c.event.new.self h.world c.args.event.now (Ok tt) h.stands c.requires.tables
+    (c.in_ok-event.ensures.leads h.world h.reached h.stands)

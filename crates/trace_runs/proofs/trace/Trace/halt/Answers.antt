@@ -1,5 +1,6 @@
 use Rattle.world.specs.World.{node_at}
 use Rattle.world_kept.specs.Events.{node_of}
+use Rattle.trace_runs.proofs.Knowing.{halt_known, knows_there, same_known, seen_there}
 use Rattle.trace_runs.proofs.Steps.{halting_comes}
 use Rattle.trace_runs.proofs.Telling.{always, events_are, fits_there, foreseen_there, halt_told, there}
 use Rattle.trace_runs.proofs.trace.Trace.halt.Goals as goal
@@ -17,10 +18,28 @@ returns-clause-told c = λ w reached stands.
     let is = there s e nodes c.in_ok-place.place u c.in_ok-place.ensures.place c.topic-node.ensures in
     let f = foreseen_there s w e u (node_at nodes (node_of s e)) p is (c.in_ok-place.ensures.foreseen w reached stands) in
     always _ c.halt.result
-    (halt_told s w e u p c.args.writes c.events-events.result c.args.self.now.text c.tell.new.self.text c.requires.broker c.requires.scripted f
-    (events_are s c.args.world.now c.foresee.new.self w c.events-events.result c.events-events.ensures.events c.foresee.ensures.same stands) (c.in_ok-tell.ensures s))
+    (halt_told s w e u p c.args.writes c.events-events.result c.args.self.now.telling.text c.tell.new.self.telling.text c.requires.broker c.requires.scripted f
+    (events_are s c.args.world.now c.foresee.new.self w c.events-events.result c.events-events.ensures.events c.foresee.ensures.same stands) (c.in_ok-tell.ensures.told s))
 
 pub returns-clause-comes : goal.returns-clause-comes
 returns-clause-comes c = λ w reached stands.
     halting_comes c.args.scenario.now.setup c.args.world.now c.foresee.new.self c.halt.new.self w c.args.writes c.args.event.now c.halt.result c.foresee.ensures.same stands
     (λ there. c.halt.ensures.leads w reached there) c.halt.ensures.err
+
+pub tell-requires-clause-known : goal.tell-requires-clause-known
+tell-requires-clause-known c =
+    let s = c.args.scenario.now.setup in let e = c.args.event.now in let nodes = c.foresee.new.self.nodes in let u = c.topic-node.result.now in
+    let is = there s e nodes c.in_ok-place.place u c.in_ok-place.ensures.place c.topic-node.ensures in
+    let h = c.requires.at in
+    let f = foreseen_there s h.world e u (node_at nodes (node_of s e)) c.foresee.new.plan is (c.in_ok-place.ensures.foreseen h.world h.reached h.stands) in
+    knows_there s c.args.self.now.telling.snapshots c.args.world.now h.world e u c.foresee.new.plan h.stands f c.requires.tables
+
+pub returns-clause-tables : goal.returns-clause-tables
+returns-clause-tables c =
+    let s = c.args.scenario.now.setup in let e = c.args.event.now in let nodes = c.foresee.new.self.nodes in let u = c.topic-node.result.now in
+    let is = there s e nodes c.in_ok-place.place u c.in_ok-place.ensures.place c.topic-node.ensures in
+    let h = c.requires.at in let mid = c.foresee.ensures.at in
+    let f = foreseen_there s h.world e u (node_at nodes (node_of s e)) c.foresee.new.plan is (c.in_ok-place.ensures.foreseen h.world h.reached h.stands) in
+    let seen = seen_there s c.args.self.now.telling.snapshots c.tell.new.self.telling.snapshots c.args.world.now h.world e u c.foresee.new.plan h.stands f c.requires.tables c.in_ok-tell.ensures.seen in
+    halt_known s c.tell.new.self.telling.snapshots c.foresee.new.self c.halt.new.self mid.world c.args.writes e c.halt.result mid.stands
+    (same_known s c.tell.new.self.telling.snapshots c.args.world.now c.foresee.new.self c.foresee.ensures.same seen) (c.halt.ensures.leads mid.world mid.reached mid.stands)
