@@ -1,0 +1,26 @@
+use Rattle.std.proofs.Common.{refl}
+use Rattle.geo_base.specs.declared.packet.Peer.TheVariants as peer
+use Rattle.node_book.proofs.ClientActs.{get_done, get_grown, get_held}
+use Rattle.node_book.proofs.getting.get.Goals as goal
+
+pub returns-in_default-clause-outcome : goal.returns-in_default-clause-outcome
+returns-in_default-clause-outcome g c =
+    get_held c.args.scenario.now c.args.own.now c.get_from.new.own c.args.log.now.history.items c.reserve.new.self.items c.args.log.now.clock c.args.event.now g.E.End.sent g.E.End.taken g.E.End.shown g.E.End.free g.E.End.looks
+    c.view.result (peer.Broker c.view.result.cluster) c.args.ends.now.rows.items c.get_from.new.ends.rows.items c.in_ok-last.field-0 c.requires.get c.view.ensures refl c.in_default.is
+    c.in_ok-last.ensures.none c.in_ok-last.ensures.stays c.in_ok-last.ensures.looks c.get_from.ensures.sends c.get_from.ensures.taken c.reserve.ensures.items
+
+pub returns-clause-holds : goal.returns-clause-holds
+returns-clause-holds g c =
+    get_grown c.args.scenario.now c.args.own.now c.get_from.new.own c.args.log.now.history.items c.reserve.new.self.items c.finish.new.log.history.items c.args.log.now.clock c.finish.new.log.clock c.args.event.now
+    g.E.End.sent g.E.End.taken g.E.End.shown g.E.End.free g.E.End.fits c.view.result (peer.Broker c.view.result.cluster) c.in-Some.last c.new.result (record { stamp = c.new.result; sent = c.new-2.result; parcels = c.new-3.result })
+    c.args.ends.now.rows.items c.get_from.new.ends.rows.items c.finish.new.ends.rows.items c.in_ok-last.field-0 c.requires.holds c.requires.at c.requires.numbers c.requires.get c.view.ensures refl c.in-Some.is
+    c.in_ok-last.ensures.got c.get_from.ensures.sends c.get_from.ensures.taken c.reserve.ensures.items c.get_from.ensures.number c.new.ensures refl c.new-2.ensures.items c.new-3.ensures.items c.finish.ensures.finished
+    c.finish.ensures.clock c.get_from.ensures.peers c.finish.ensures.peers
+
+pub returns-clause-outcome : goal.returns-clause-outcome
+returns-clause-outcome g c =
+    get_done c.args.scenario.now c.args.own.now c.get_from.new.own c.args.log.now.history.items c.reserve.new.self.items c.finish.new.log.history.items c.args.log.now.clock c.finish.new.log.clock c.args.event.now
+    g.E.End.sent g.E.End.taken g.E.End.shown g.E.End.free g.E.End.fits c.view.result (peer.Broker c.view.result.cluster) c.in-Some.last c.new.result (record { stamp = c.new.result; sent = c.new-2.result; parcels = c.new-3.result })
+    c.args.ends.now.rows.items c.get_from.new.ends.rows.items c.finish.new.ends.rows.items c.in_ok-last.field-0 c.requires.holds c.requires.at c.requires.numbers c.requires.get c.view.ensures refl c.in-Some.is
+    c.in_ok-last.ensures.got c.get_from.ensures.sends c.get_from.ensures.taken c.reserve.ensures.items c.get_from.ensures.number c.new.ensures refl c.new-2.ensures.items c.new-3.ensures.items c.finish.ensures.finished
+    c.finish.ensures.clock

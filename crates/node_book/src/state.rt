@@ -1,0 +1,17 @@
+//! The state of a node.
+use broker::Broker;
+use client::Client;
+
+/// A client and its number.
+#[derive(Debug, Drop)]
+pub struct NumberedClient {
+    pub number: u32,
+    pub client: Client,
+}
+
+/// The state of a broker, or of a client.
+#[derive(Debug, Drop)]
+pub enum NodeState {
+    Broker(Broker),
+    Client(NumberedClient),
+}
