@@ -1,0 +1,133 @@
+//! The actors of a worker, in rotation.
+ghost use Rattle.std.specs.Prelude.{◌<◌};
+
+use crate::books::LockedBook;
+use actor_roles::Role;
+use actors::Actor;
+use geo_base::Memory;
+use geo_io::Gate;
+use node_numbers::{broker_number, client_number, cluster_count};
+use script_text::Scenario;
+use std::alloc::Global;
+use std::sync::Wait;
+
+/// An actor, and the nodes at whose books it takes its turns: so many from one on.
+#[derive(Drop)]
+struct Member {
+    actor: Actor,
+    first: usize,
+    nodes: usize,
+}
+
+impl Member {
+    /// The actor of a number and a role. A server goes to the topic's brokers at all clusters, every other actor to one node.
+    fn new(scenario: &Scenario, number: u32, role: Role) -> Member {
+        let (first, nodes) = match role {
+            Role::Sender(link) => (broker_number(scenario, link.topic, link.source), 1),
+            Role::Receiver(link) => (broker_number(scenario, link.topic, link.target), 1),
+            Role::Controller { topic, cluster } | Role::Dispatcher { topic, cluster, .. } => {
+                (broker_number(scenario, topic, cluster), 1)
+            }
+            Role::Client { client } => (client_number(scenario, client), 1),
+            Role::Server { topic, .. } => (
+                broker_number(scenario, topic, 0),
+                cluster_count(scenario) as usize,
+            ),
+        };
+        Member {
+            actor: Actor::new(scenario, number, role),
+            first,
+            nodes,
+        }
+    }
+
+    /// A turn: the books of its nodes are taken in order, one at a time, until the actor does an event. An `Err` is want of memory.
+    fn turn<R: Wait>(&mut self, rt: &R, alloc: Global, books: &[LockedBook]) -> Result<(), Memory> {
+        for locked in books.iter().skip(self.first).take(self.nodes) {
+            let mut book = locked.lock(rt);
+            if self.actor.turn(alloc, &mut book)? {
+                break;
+            }
+        }
+        Ok(())
+    }
+}
+
+/// A worker: its actors, the one whose turn is next, and whether memory was wanting in a turn.
+#[derive(Drop)]
+pub(crate) struct Crew {
+    alloc: Global,
+    worker: u32,
+    members: Vec<Member>,
+    next: usize,
+    is_short: bool,
+}
+
+impl Crew {
+    /// The crew of a worker: each actor whose number is the worker's, modulo the number of workers (own: so that a scenario and a
+    /// number of workers say who does what). An `Err` is want of memory.
+    pub(crate) fn new(
+        alloc: Global,
+        scenario: &Scenario,
+        roles: &[Role],
+        worker: u32,
+        workers: u32,
+    ) -> Result<Crew, Memory>
+        requires { 0 < workers }
+    {
+        let mut members = Vec::new(alloc);
+        for (number, role) in (0..u32::MAX).zip(roles) {
+            if number % workers == worker {
+                members.push(Member::new(scenario, number, *role))?;
+            }
+        }
+        Ok(Crew {
+            alloc,
+            worker,
+            members,
+            next: 0,
+            is_short: false,
+        })
+    }
+
+    /// Whether memory was wanting in a turn.
+    pub(crate) fn is_short(&self) -> bool {
+        self.is_short
+    }
+
+    /// So many turns, unless memory is wanting in one.
+    pub(crate) fn run<R: Wait, G: Gate>(
+        &mut self,
+        rt: &R,
+        books: &[LockedBook],
+        turns: u64,
+        gate: &G,
+    ) {
+        for turn in 0..turns {
+            if self.turn(rt, books, turn, gate).is_err() {
+                self.is_short = true;
+                return;
+            }
+        }
+    }
+
+    /// The turn of the next actor. A worker without actors has idle turns, for which there is no gate.
+    fn turn<R: Wait, G: Gate>(
+        &mut self,
+        rt: &R,
+        books: &[LockedBook],
+        turn: u64,
+        gate: &G,
+    ) -> Result<(), Memory> {
+        if self.next >= self.members.len() {
+            self.next = 0;
+        }
+        let Some(member) = self.members.get_mut(self.next) else {
+            return Ok(());
+        };
+        gate.pass(self.worker, member.actor.number(), turn);
+        member.turn(rt, self.alloc, books)?;
+        self.next += 1;
+        Ok(())
+    }
+}
