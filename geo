@@ -5,7 +5,8 @@
 #   ./geo run SCRIPT        this wrapper reads a file that stands behind run, save, resume, trace or audit in place of standard input;
 #   ./geo run SCRIPT ..     several behind run are several runs, each answer under a line `== SCRIPT`,
 #   ./geo resume STATE ..   and several behind resume are read one behind the other, as a state and the events behind it
-#   ./geo compact 100 SCRIPT  a file that stands behind the horizon of compact, or behind the number of tiered, is read in the same way
+#   ./geo compact 100 SCRIPT  a file that stands behind the horizon of compact, behind the number of tiered, or behind the two numbers
+#                             of live, is read in the same way
 #
 # Where tools/build has made the program (.built/geo) and no source is newer, that is what runs. Else the source is compiled and
 # run without its proof, by the toolchain's `rt try`, which keeps nothing from one call to the next; several runs are compiled for once.
@@ -27,6 +28,10 @@ run:* | resume:* | save:2 | trace:2 | audit:2)
 compact:3 | tiered:3)
     words=("$1" "$2")
     files=("$3")
+    ;;
+live:4)
+    words=("$1" "$2" "$3")
+    files=("$4")
     ;;
 esac
 for file in ${files+"${files[@]}"}; do
@@ -108,7 +113,7 @@ fi
 # `rt try` does not wait for a pipe to end, so what the program reads is read here
 input=/dev/null
 case "${words[*]-}" in
-run | save | resume | trace | audit | compact\ * | tiered\ *)
+run | save | resume | trace | audit | compact\ * | tiered\ * | live\ *)
     input=$room/input
     # what the program says of a directory and of a standard input that is closed
     if ! cat ${files+"${files[@]}"} >"$input" 2>/dev/null; then

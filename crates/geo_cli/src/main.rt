@@ -2,8 +2,9 @@
 #![tactic(auto)]
 
 use geo_base::Text;
-use geo_io::{StdSink, StdSource};
-use geo_top::{Status, Word, geo_alone};
+use geo_io::{OpenGate, StdSink, StdSource};
+use geo_live::geo_main;
+use geo_top::{Status, Word};
 use std::process::ExitCode;
 use std::rt::Env;
 use std::{env, io};
@@ -13,7 +14,14 @@ fn main(rt: HostRuntime) -> ExitCode {
         Ok(words) => {
             let mut source = StdSource::new(rt.stdin());
             let mut sink = StdSink::new(rt.stdout());
-            geo_alone(rt.alloc(), words.as_slice(), &mut source, &mut sink)
+            geo_main(
+                &rt,
+                rt.alloc(),
+                words.as_slice(),
+                &mut source,
+                &mut sink,
+                &OpenGate,
+            )
         }
         // The one thing that is refused before the program's own words are read.
         Err(_) => Status::OutOfMemory,

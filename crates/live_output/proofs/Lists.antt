@@ -1,0 +1,36 @@
+-- Lists of books, as the merge sees them.
+use Rattle.std.proofs.Common.{◌≡◌, ℕ, zero, suc, List, [], ◌∷◌, length, sym, ap, subst, ◌∙◌}
+use Rattle.std.proofs.lemmas.List.{length-map}
+use Rattle.std.proofs.lemmas.Option.{none-some, same_Some}
+use Rattle.std.specs.Prelude.{Result, IfOk}
+use Rattle.std.specs.List.{AllByRecursion}
+use Rattle.geo_base.specs.declared.memory.Memory.{Memory}
+use Rattle.geo_base.specs.NodeState.{NodeState}
+use Rattle.book_laws.specs.Books.{IsBookOf}
+use Rattle.script_text.specs.Script.{Script}
+use Rattle.merge_history.specs.declared.merge.Merged.{Merged}
+use Rattle.merge_history.specs.Books.{AreBooks, BookView}
+use Rattle.merge_history.specs.Merges.{IsMerged}
+use Rattle.node_book.specs.Books.{BookValue, IsReplayed}
+use Rattle.live_output.specs.Lists.{IsMergeOf, state_in, view_of, views_of}
+
+clock_in : {E : Type 0} → List (BookValue E) → ℕ → ℕ
+clock_in [] n = 0
+clock_in (b ∷ bs) zero = b.clock
+clock_in (b ∷ bs) (suc n) = clock_in bs n
+
+are_books : {E : Type 0} (bs : List (BookValue E)) → AllByRecursion IsReplayed bs → AreBooks (views_of bs) (state_in bs) (clock_in bs)
+unfolding clock_in
+are_books [] h n v at = absurd (none-some v at)
+are_books (b ∷ bs) h zero v at =
+    subst (λ (v : BookView). IsBookOf v.scenario.setup v.node v.history b.state b.clock) (same_Some (view_of b) v at) h.0
+are_books (b ∷ bs) h (suc n) v at = are_books bs h.1 n v at
+
+pub merge_of_list : {E : Type 0} (c : Script) (bs : List (BookValue E)) (vs : List BookView) (r : Result Merged Memory) → vs ≡ views_of bs → AllByRecursion IsReplayed bs
+    → ((st : ℕ → NodeState) (clock : ℕ → ℕ) → AreBooks vs st clock → IfOk r (IsMerged c vs st)) → IfOk r (IsMergeOf c bs)
+merge_of_list c bs vs r is replayed merged =
+    subst (λ (us : List BookView). IfOk r (IsMerged c us (state_in bs))) is
+    (merged (state_in bs) (clock_in bs) (subst (λ (us : List BookView). AreBooks us (state_in bs) (clock_in bs)) (sym is) (are_books bs replayed)))
+
+pub many_views : {E : Type 0} (bs : List (BookValue E)) (vs : List BookView) (n : ℕ) → vs ≡ views_of bs → length bs ≡ n → length vs ≡ n
+many_views bs vs n is many = ap (λ (us : List BookView). length us) is ∙ (length-map bs view_of ∙ many)

@@ -1,0 +1,4 @@
+pub mod Schedules
+pub mod Lists
+pub mod Playing
+pub mod LiveRuns

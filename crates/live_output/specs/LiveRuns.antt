@@ -1,0 +1,50 @@
+-- What is written of a run whose nodes kept books (own): the report of a run of the machine, and its schedule.
+use Rattle.std.specs.Prelude.{◌≡◌, ℕ, List, ◌++◌, None, Ok, All, codes}
+use Rattle.geo_base.specs.declared.event.Step.{Step}
+use Rattle.geo_base.specs.History.{RecordedEvent}
+use Rattle.geo_base.specs.Merge.{merge_of, steps_of}
+use Rattle.script_text.specs.Naming.{names_of}
+use Rattle.script_text.specs.Scenario.{IsStep}
+use Rattle.script_text.specs.Schedule.{schedule_of, schedule_text}
+use Rattle.script_text.specs.Script.{Script}
+use Rattle.history_packets.specs.Ends.{AreStood, layout_of}
+use Rattle.history_packets.specs.Kept.{Kept}
+use Rattle.merge_history.specs.Books.{AreKept, BookView}
+use Rattle.geo_top.specs.Headline.{IsAlwaysKept, IsAlwaysOnce, IsAlwaysSafe, IsAlwaysSettled, NothingComesAgain}
+use Rattle.geo_top.specs.Outputs.{passed_limit, report_of}
+use Rattle.live_output.specs.Playing.{with_steps}
+use Rattle.live_output.specs.Schedules.{EndsSettled, scheduled}
+
+-- the report of the run of these steps, the line `schedule`, and the steps, a line each
+abbrev pub live_text : Script → List Step → List ℕ
+live_text n es = report_of (with_steps n es) ++ (codes "schedule\n" ++ schedule_text (names_of n.setup) es)
+
+-- What holds of a schedule that is written, and of the run over it.
+pub record IsLiveRun (n : Script) (es : List Step) : Type 0 where
+  -- Each step is one that the script may schedule, so what is written reads back as these steps.
+  pub steps : All (IsStep n.setup) es
+  pub reads_back : schedule_of n.setup (schedule_text (names_of n.setup) es) ≡ Ok es
+  -- Their run passes no limit; the last step settles, or settling behind it would pass one.
+  pub within : passed_limit (with_steps n es) ≡ None
+  pub last : EndsSettled n.setup es
+  -- All that is claimed of the run of a script holds of it.
+  pub once : IsAlwaysOnce (with_steps n es)
+  pub safe : IsAlwaysSafe (with_steps n es)
+  pub kept : IsAlwaysKept (with_steps n es)
+  pub settled : IsAlwaysSettled (with_steps n es)
+  pub again : NothingComesAgain (with_steps n es)
+
+-- Of books that the merge sees: what counts of them stands for histories of values, each of which replays; and what is written are
+-- report and schedule of as much of the merge of these as the limits allow, with settling behind it where that fits.
+pub record IsOutputOf (c : Script) (bs : List BookView) (output : List ℕ) : Type 0 where
+  pub kept : List (List Kept)
+  pub counts : AreKept c bs kept
+  pub said : List (List RecordedEvent)
+  pub stands : AreStood c.setup (layout_of c.setup) kept said
+  pub text : output ≡ live_text c (scheduled c.setup (steps_of (merge_of said)))
+
+-- what is written is report and schedule of some run
+pub record TellsRun (n : Script) (output : List ℕ) : Type 0 where
+  pub schedule : List Step
+  pub run : IsLiveRun n schedule
+  pub text : output ≡ live_text n schedule

@@ -1,0 +1,15 @@
+//! What the program writes of a run whose nodes each kept a book.
+//!
+//! [`merge`] makes one schedule of the events of all books, and [`live_output`] the report and the schedule of its run: as many of its
+//! steps as the limits of a run allow, with settling behind them where that fits. Where the books come from is open: nothing here
+//! knows of a thread.
+#![tactic(auto)]
+
+mod law;
+mod merging;
+mod output;
+mod played;
+
+pub use law::law_schedules;
+pub use merging::merge;
+pub use output::live_output;
