@@ -1,0 +1,47 @@
+//! An event whose packets do not all fit is not done.
+use crate::books::{Books, act, add_client, events_of, next_of, scenario};
+use geo_base::{Event, Memory, Peer};
+use std::alloc::Global;
+use std::test::Fail;
+
+/// Whether the client connects again, which sends two packets from the first line on, or does its next line, which sends one; how many
+/// packets the broker has taken before it; whether it is done; and how many events are.
+const ROWS: [(bool, u32, bool, usize); 6] = [
+    (true, 0, true, 1),
+    (false, 0, true, 2),
+    // Both places are full, and then one.
+    (true, 0, false, 2),
+    (true, 1, false, 2),
+    (true, 1, true, 3),
+    (false, 2, true, 4),
+];
+
+/// The first row at which the book is another than it says; the number of rows where there is none.
+fn first_wrong(alloc: Global, books: &mut Books) -> Result<usize, Memory> {
+    for (number, &(is_again, taken, is_done, events)) in ROWS.iter().enumerate() {
+        for _ in 0..taken {
+            if next_of(books, 0, Peer::Broker(0)).is_none() {
+                return Ok(number);
+            }
+        }
+        let event = if is_again {
+            Event::Reconnect { client: 0 }
+        } else {
+            Event::Go { client: 0 }
+        };
+        if act(alloc, books, 0, &event)? != is_done || events_of(books, 0) != events {
+            return Ok(number);
+        }
+    }
+    Ok(ROWS.len())
+}
+
+#[test]
+fn a_full_end_holds_an_event(rt: HostRuntime) -> Result<(), Fail> {
+    let alloc = rt.alloc();
+    let scenario = scenario(alloc)?;
+    let mut books = Vec::new(alloc);
+    add_client(alloc, &scenario, 0, 2, &mut books)?;
+    assert_eq!(rt; first_wrong(alloc, &mut books)?, 6);
+    Ok(())
+}

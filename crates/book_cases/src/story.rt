@@ -1,0 +1,94 @@
+//! A message is published at a broker, node by node.
+use crate::books::{Books, act, add_broker, add_client, carry, events_of, scenario, stamp_of};
+use geo_base::{Event, Memory, Peer};
+use node_book::NodeState;
+use std::alloc::Global;
+use std::test::Fail;
+
+const GO: Event = Event::Go { client: 0 };
+
+const GET: Event = Event::Get { client: 0 };
+
+const CONNECT: Event = Event::Reconnect { client: 0 };
+
+const SERVE: Event = Event::Serve {
+    cluster: 0,
+    client: 0,
+};
+
+const RESET: Event = Event::Reset {
+    topic: 0,
+    source: 0,
+    target: 1,
+};
+
+/// Whether it is the client's, the event, whether it is done, and the node's last stamp then. All that is sent comes before the next one.
+const ROWS: [(bool, Event, bool, u64); 13] = [
+    (true, CONNECT, true, 1),
+    (false, SERVE, true, 2),
+    (true, GET, true, 3),
+    (true, GO, true, 4),
+    (false, SERVE, true, 5),
+    (true, GET, true, 6),
+    (true, GO, true, 7),
+    (false, SERVE, true, 8),
+    (true, GET, true, 9),
+    // No line is left, and no packet.
+    (true, GO, false, 9),
+    (true, GET, false, 9),
+    (false, SERVE, false, 8),
+    (false, RESET, true, 9),
+];
+
+/// The books of the two nodes by number.
+const CLIENT: usize = 0;
+
+const BROKER: usize = 1;
+
+/// The first row at which the books are another than it says; the number of rows where there is none.
+fn first_wrong(alloc: Global, books: &mut Books) -> Result<usize, Memory> {
+    for (number, &(is_client, event, is_done, stamp)) in ROWS.iter().enumerate() {
+        let node = if is_client { CLIENT } else { BROKER };
+        if act(alloc, books, node, &event)? != is_done || stamp_of(books, node) != stamp {
+            return Ok(number);
+        }
+        carry(books, (CLIENT, Peer::Broker(0)), (BROKER, Peer::Client(0)))?;
+        carry(books, (BROKER, Peer::Client(0)), (CLIENT, Peer::Broker(0)))?;
+    }
+    Ok(ROWS.len())
+}
+
+/// How many receipts the client has.
+fn receipts(books: &Books) -> u64 {
+    let Some(book) = books.get(CLIENT) else {
+        return 0;
+    };
+    match book.state() {
+        NodeState::Client(own) => own.client.view().receipts,
+        NodeState::Broker(_) => 0,
+    }
+}
+
+/// The number of a node; that of none where there is no such book.
+fn number_of(books: &Books, number: usize) -> u32 {
+    match books.get(number) {
+        Some(book) => book.number(),
+        None => u32::MAX,
+    }
+}
+
+#[test]
+fn a_message_is_published(rt: HostRuntime) -> Result<(), Fail> {
+    let alloc = rt.alloc();
+    let scenario = scenario(alloc)?;
+    let mut books = Vec::new(alloc);
+    add_client(alloc, &scenario, 0, 8, &mut books)?;
+    add_broker(alloc, &scenario, 0, 8, &mut books)?;
+    assert_eq!(rt; first_wrong(alloc, &mut books)?, 13);
+    assert_eq!(rt; receipts(&books), 1);
+    assert_eq!(rt; events_of(&books, CLIENT), 6);
+    assert_eq!(rt; events_of(&books, BROKER), 4);
+    assert_eq!(rt; number_of(&books, CLIENT), 2);
+    assert_eq!(rt; number_of(&books, BROKER), 0);
+    Ok(())
+}

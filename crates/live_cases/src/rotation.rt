@@ -1,0 +1,66 @@
+//! The order of actors.
+use actor_roles::{Link, Role, roles};
+use script_text::read_script;
+use std::test::Fail;
+
+/// Two clusters, a topic, and a client with one subscription.
+const SCRIPT: &[u8] =
+    b"geo 1\ncluster a\ncluster b\ntopic t\nclient c t a\ndo c sub s exclusive earliest replicated\n";
+
+#[test]
+fn actors_are_numbered_by_link_cluster_subscription_and_client(
+    rt: HostRuntime,
+) -> Result<(), Fail> {
+    let scenario = read_script(rt.alloc(), SCRIPT)?;
+    let roles = roles(rt.alloc(), &scenario)?;
+    let wanted = [
+        Role::Sender(Link {
+            topic: 0,
+            source: 0,
+            target: 1,
+        }),
+        Role::Receiver(Link {
+            topic: 0,
+            source: 0,
+            target: 1,
+        }),
+        Role::Sender(Link {
+            topic: 0,
+            source: 1,
+            target: 0,
+        }),
+        Role::Receiver(Link {
+            topic: 0,
+            source: 1,
+            target: 0,
+        }),
+        Role::Controller {
+            topic: 0,
+            cluster: 0,
+        },
+        Role::Controller {
+            topic: 0,
+            cluster: 1,
+        },
+        Role::Dispatcher {
+            topic: 0,
+            cluster: 0,
+            sub: 0,
+        },
+        Role::Dispatcher {
+            topic: 0,
+            cluster: 1,
+            sub: 0,
+        },
+        Role::Client { client: 0 },
+        Role::Server {
+            topic: 0,
+            client: 0,
+        },
+    ];
+    assert_eq!(rt; roles.len(), wanted.len());
+    for (role, want) in roles.iter().zip(&wanted) {
+        assert!(rt; *role == *want);
+    }
+    Ok(())
+}

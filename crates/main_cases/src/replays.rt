@@ -1,0 +1,107 @@
+//! What `live` prints, and what `run` makes of it.
+use crate::program::{answer, open_sink};
+use geo_io::OpenGate;
+use geo_top::Status;
+use live_output::live_output;
+use live_run::live;
+use script_text::read_script;
+use std::alloc::Global;
+use std::sync::{Arc, Wait};
+use std::test::Fail;
+use std::thread::Threads;
+
+/// Two clusters, and a producer of three messages.
+const STORY: &[u8] =
+    b"geo 1\ncluster a\ncluster b\ntopic t\nclient p t a\ndo p produce\ndo p pub 0 * - one\ndo p pub 1 * - two\ndo p pub 2 * - three\n";
+
+/// Three clusters with losses, repeats and restarts; two producers, and a consumer that moves.
+const CHANCES: &[u8] =
+    b"geo 1\nledger 3\nchance 7 50 50 20\ncluster a\ncluster b\ncluster c\ntopic t\nclient p t a\nclient q t b\nclient k t a\n\
+do p produce\ndo p pub 0 * - p0\ndo p pub 1 * - p1\ndo p pub 2 * - p2\ndo p pub 3 * - p3\n\
+do q produce\ndo q pub 0 * - q0\ndo q pub 1 * - q1\ndo q pub 2 * - q2\n\
+do k sub s shared earliest replicated\ndo k flow 20\ndo k ackall\ndo k move b\ndo k ackall\ndo k move c\ndo k ackall\n";
+
+/// The line between a report and its schedule.
+const LINE: &[u8] = b"schedule\n";
+
+/// What stands before the line between, and what behind it.
+fn parts(output: &[u8]) -> Option<(&[u8], &[u8])> {
+    for at in 0..output.len() {
+        if let Some(schedule) = output[at..].strip_prefix(LINE) {
+            return Some((&output[..at], schedule));
+        }
+    }
+    None
+}
+
+/// How many lines of a text are this one.
+fn count_of(text: &[u8], line: &[u8]) -> u64 {
+    let mut count = 0u64;
+    for other in text.split(|b| *b == b'\n') {
+        if other == line && count < u64::MAX {
+            count += 1;
+        }
+    }
+    count
+}
+
+/// With one worker the books are determined by the script, and what is printed is what they make: both clusters have the three
+/// messages, the client all receipts, and the last line settles.
+#[test]
+fn one_worker_prints_what_its_books_make(rt: HostRuntime) -> Result<(), Fail> {
+    let alloc = rt.alloc();
+    let mut sink = open_sink(alloc)?;
+    let status = answer(&rt, alloc, &["live", "1", "2000"], STORY, &mut sink)?;
+    assert_eq!(rt; status, Status::Ok);
+    let scenario = Arc::new(alloc, read_script(alloc, STORY)?)?;
+    let books = live(&rt, alloc, &scenario, 1, 2000, &OpenGate)?;
+    let output = live_output(alloc, &scenario, &books)?;
+    assert_eq!(rt; sink.bytes(), output.as_slice());
+    for line in [
+        b"entry 0:0 a p 0 * data - one".as_slice(),
+        b"entry 0:1 a p 1 * data - two",
+        b"entry 0:2 a p 2 * data - three",
+    ] {
+        assert_eq!(rt; count_of(sink.bytes(), line), 2);
+    }
+    let client: &[u8] = b"client p at a lines 4/4 receipts 3 duplicates 0 errors 0";
+    assert_eq!(rt; count_of(sink.bytes(), client), 1);
+    assert_eq!(rt; count_of(sink.bytes(), b"schedule"), 1);
+    assert!(rt; sink.bytes().ends_with(b"\nsettle\n"));
+    Ok(())
+}
+
+/// The script with the printed schedule behind it makes a run with the printed report.
+fn replayed<R: Threads + Wait + Sync>(
+    rt: &R,
+    alloc: Global,
+    line: &[&str],
+    script: &[u8],
+) -> Result<bool, Fail> {
+    let mut printed = open_sink(alloc)?;
+    let status = answer(rt, alloc, line, script, &mut printed)?;
+    let Some((report, schedule)) = parts(printed.bytes()) else {
+        return Ok(false);
+    };
+    let mut whole = script.to_vec(alloc)?;
+    whole.extend_from_slice(schedule)?;
+    let mut again = open_sink(alloc)?;
+    let other = answer(rt, alloc, &["run"], whole.as_slice(), &mut again)?;
+    Ok(status == Status::Ok && other == Status::Ok && again.bytes() == report)
+}
+
+/// Whatever the order is in which the threads run.
+#[test]
+fn schedules_replay_to_their_reports(rt: HostRuntime) -> Result<(), Fail> {
+    let alloc = rt.alloc();
+    for line in [
+        ["live", "1", "2000"],
+        ["live", "2", "1000"],
+        ["live", "4", "500"],
+        ["live", "64", "30"],
+    ] {
+        assert!(rt; replayed(&rt, alloc, &line, STORY)?);
+        assert!(rt; replayed(&rt, alloc, &line, CHANCES)?);
+    }
+    Ok(())
+}
