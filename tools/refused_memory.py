@@ -28,6 +28,7 @@ static void *(*next_realloc)(void *, size_t);
 static void *(*next_aligned)(size_t, size_t);
 static int (*next_memalign)(void **, size_t, size_t);
 static void *(*next_calloc)(size_t, size_t);
+static void tell(const char *what);
 __attribute__((constructor)) static void begin(void) {
     next_malloc = dlsym(RTLD_NEXT, "malloc");
     next_realloc = dlsym(RTLD_NEXT, "realloc");
@@ -36,14 +37,19 @@ __attribute__((constructor)) static void begin(void) {
     next_calloc = dlsym(RTLD_NEXT, "calloc");
     const char *at = getenv("REFUSED_AT");
     asked = 0;
+    tell("n");
     refused_at = at ? atol(at) : -1;
 }
-static int refused(void) { return refused_at > 0 && ++asked == refused_at; }
-__attribute__((destructor)) static void end(void) {
+static void tell(const char *what) {
     const char *path = getenv("REFUSED_TOLD");
-    if (!path) return;
-    int f = open(path, O_WRONLY | O_CREAT | O_TRUNC, 0600);
-    if (f >= 0) { if (write(f, asked >= refused_at ? "y" : "n", 1) != 1) _exit(70); close(f); }
+    int f = path ? open(path, O_WRONLY | O_CREAT | O_TRUNC, 0600) : -1;
+    if (f >= 0) { if (write(f, what, 1) != 1) _exit(70); close(f); }
+}
+/* told as it happens, since a program with threads ends without the destructors of its libraries */
+static int refused(void) {
+    if (refused_at <= 0 || __sync_add_and_fetch(&asked, 1) != refused_at) return 0;
+    tell("y");
+    return 1;
 }
 void *malloc(size_t n) { return refused() ? NULL : next_malloc ? next_malloc(n) : NULL; }
 void *realloc(void *p, size_t n) { return refused() ? NULL : next_realloc(p, n); }
