@@ -2,6 +2,8 @@
 #![tactic(auto)]
 
 #[cfg(test)]
+mod outputs;
+#[cfg(test)]
 mod program;
 #[cfg(test)]
 mod refusals;

@@ -1,0 +1,94 @@
+//! What is written of books that were made by hand.
+ghost use Rattle.std.specs.Prelude.{◌≡◌};
+ghost use Rattle.std.specs.Arc.{arc_value};
+ghost use Rattle.geo_base.specs.Nodes.{node_count};
+
+use geo_base::{Event, Memory};
+use link_rings::RingEnd;
+use live_output::live_output;
+use node_book::{BookList, NodeBook};
+use node_numbers::{client_count, cluster_count, node_count, topic_count};
+use node_rings::NodeRings;
+use script_text::{Scenario, read_script};
+use std::alloc::Global;
+use std::sync::Arc;
+use std::test::Fail;
+
+/// Two clusters, and a producer of a message.
+const SCRIPT: &[u8] =
+    b"geo 1\ncluster a\ncluster b\ntopic t\nclient p t a\ndo p produce\ndo p pub 0 * - hi\n";
+
+/// The producer connects; the rest is what settling does.
+const OUTPUT: &[u8] =
+    b"events 7 idle 0 rounds 1\ntopic t at a\nsender b session 1 open mark 0\ntopic t at b\nsender a session 1 open mark 0\n\
+client p at a lines 0/2 receipts 0 duplicates 0 errors 0\nschedule\nreconnect p\nsettle\n";
+
+/// Adds the book of the first topic's broker at a cluster; want of memory where there is none.
+fn add_broker(
+    alloc: Global,
+    scenario: &Arc<Scenario, Global>,
+    cluster: u32,
+    rings: &mut NodeRings,
+    books: &mut BookList<RingEnd>,
+) -> Result<(), Memory>
+    requires { rings.old ≡ node_count (arc_value scenario.now).setup }
+    ensures { rings.new ≡ rings.old }
+{
+    if topic_count(scenario) == 0 || cluster >= cluster_count(scenario) {
+        return Err(Memory);
+    }
+    let ends = rings.broker(alloc, scenario, 0, cluster)?;
+    let shared = Arc::try_clone(scenario)?;
+    books.push(NodeBook::broker(alloc, shared, 0, cluster, ends)?)
+}
+
+/// Adds the book of the first client, which has connected; want of memory where there is none.
+fn add_client(
+    alloc: Global,
+    scenario: &Arc<Scenario, Global>,
+    rings: &mut NodeRings,
+    books: &mut BookList<RingEnd>,
+) -> Result<(), Memory>
+    requires { rings.old ≡ node_count (arc_value scenario.now).setup }
+{
+    if client_count(scenario) == 0 {
+        return Err(Memory);
+    }
+    let ends = rings.client(alloc, scenario, 0)?;
+    let shared = Arc::try_clone(scenario)?;
+    books.push(connected(alloc, NodeBook::client(alloc, shared, 0, ends)?)?)
+}
+
+fn connected(alloc: Global, book: NodeBook<RingEnd>) -> Result<NodeBook<RingEnd>, Memory> {
+    let mut book = book;
+    if book.act(alloc, &Event::Reconnect { client: 0 })? {
+        Ok(book)
+    } else {
+        drop(book);
+        Err(Memory)
+    }
+}
+
+/// The books of three new nodes, of which the client has connected.
+fn three_books(
+    alloc: Global,
+    scenario: &Arc<Scenario, Global>,
+) -> Result<BookList<RingEnd>, Memory> {
+    let mut rings = NodeRings::new(alloc, scenario)?;
+    let mut books = BookList::new(alloc);
+    add_broker(alloc, scenario, 0, &mut rings, &mut books)?;
+    add_broker(alloc, scenario, 1, &mut rings, &mut books)?;
+    add_client(alloc, scenario, &mut rings, &mut books)?;
+    Ok(books)
+}
+
+#[test]
+fn one_event_is_settled(rt: HostRuntime) -> Result<(), Fail> {
+    let alloc = rt.alloc();
+    let scenario = Arc::new(alloc, read_script(alloc, SCRIPT)?)?;
+    let books = three_books(alloc, &scenario)?;
+    assert!(rt; books.as_slice().len() == node_count(&scenario) as usize);
+    let output = live_output(alloc, &scenario, &books)?;
+    assert_eq!(rt; output.as_slice(), OUTPUT);
+    Ok(())
+}
