@@ -16,7 +16,6 @@ use geo_base::{
     Text,
 };
 use marker_codec::{ClusterMessageId, Marker, MarkerFault};
-use pb_fields::ByteList;
 use std::alloc::Global;
 
 /// What an entry of a marker type and a payload is, and the payload that it keeps: none where that is the marker's canonical text.
@@ -158,7 +157,7 @@ pub fn canonical_payload(
     names: &[ClusterName],
     content: &Content,
     kept: &Blob,
-) -> Result<Option<ByteList>, Memory>
+) -> Result<Option<Blob>, Memory>
     ensures text { IfOk result (λ o. MatchOption o (payload_text names.now content.now kept.now ≡ kept.now) (λ b. payload_text names.now content.now kept.now ≡ b)) }
     ensures right { OnOk result (IsMarkerRight names.now content.now kept.now) }
 {
@@ -176,11 +175,7 @@ pub fn canonical_payload(
 
 /// The canonical text of a marker.
 #[tactic(auto, using(crate::proofs::Writing::marker_right))]
-fn marker_text(
-    alloc: Global,
-    names: &[ClusterName],
-    marker: &MachineMarker,
-) -> Result<ByteList, Memory>
+fn marker_text(alloc: Global, names: &[ClusterName], marker: &MachineMarker) -> Result<Blob, Memory>
     ensures text { IfOk result (λ b. b ≡ text (canonical_fields (named_marker names.now marker.now))) }
     ensures right { OnOk result (IsMarkerText (marker_type marker.now) (text (canonical_fields (named_marker names.now marker.now))) (named_marker names.now marker.now)) }
 {

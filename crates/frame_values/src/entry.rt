@@ -17,7 +17,7 @@ use geo_base::{
     Blob, ClusterName, Content, Entry, Ident, Memory, Metadata, Place, ProducerName, Sequence, Text,
 };
 use message_meta::KnownMeta;
-use pb_fields::{ByteList, FieldList, write_fields};
+use pb_fields::{FieldList, write_fields};
 use pulsar_frames::Body;
 use std::alloc::Global;
 
@@ -64,9 +64,9 @@ pub fn fields_text(alloc: Global, fields: &FieldList) -> Result<Blob, Memory>
     ensures text { IfOk result (λ b. b ≡ text fields.now) }
     ensures fields { OnOk result (AllByRecursion IsField fields.now) }
 {
-    let mut bytes = ByteList::new(alloc);
+    let mut bytes = Blob::new(alloc);
     write_fields(&mut bytes, fields)?;
-    Ok(Blob::from_vec(bytes.into_vec()))
+    Ok(bytes)
 }
 
 /// The metadata of an entry, each part where it stands.

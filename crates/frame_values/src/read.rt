@@ -84,6 +84,13 @@ fn carrying(command: Command, source: Option<Place>, entry: Entry) -> Frame
             source,
             entry,
         },
-        _ => Frame::Unreadable,
+        _ => unreadable(source, entry),
     }
+}
+
+/// No frame of the machine: the message is let go.
+fn unreadable(_source: Option<Place>, _entry: Entry) -> Frame
+    ensures { result ≡ Frame.Unreadable }
+{
+    Frame::Unreadable
 }

@@ -7,10 +7,10 @@ ghost use Rattle.frame_values.specs.Texts.{unread_bytes};
 ghost use Rattle.pulsar_frames.specs.Canonical.{IsComplete};
 
 use frame_values::{is_readable, read_value, try_write_value};
-use geo_base::{ClusterName, Frame as Value, Memory};
+use geo_base::{Blob, ClusterName, Frame as Value, Memory};
 use marker_codec::{Marker, MarkerFault};
 use message_meta::{Meta, MetaFault};
-use pb_fields::{ByteList, PbFault, read_fields, write_fields};
+use pb_fields::{PbFault, read_fields, write_fields};
 use pulsar_commands::{Command, CommandFault};
 use pulsar_frames::{Frame, FrameFault, FrameReader, write_frame};
 use std::alloc::Global;
@@ -36,7 +36,7 @@ pub enum Kind {
 /// The canonical bytes of what was read, or why it was not.
 #[derive(Debug, Drop)]
 pub enum Answer {
-    Canonical(ByteList),
+    Canonical(Blob),
     NoFields(PbFault),
     NoMeta(MetaFault),
     NoMarker(MarkerFault),
@@ -99,7 +99,7 @@ fn fields_answer(alloc: Global, bytes: &[u8]) -> Result<Answer, Memory>
         Err(PbFault::Memory) => return Err(Memory),
         Err(fault) => return Ok(Answer::NoFields(fault)),
     };
-    let mut out = ByteList::new(alloc);
+    let mut out = Blob::new(alloc);
     write_fields(&mut out, &fields)?;
     Ok(Answer::Canonical(out))
 }
@@ -178,7 +178,7 @@ fn written_frame(alloc: Global, frame: &Frame) -> Result<Answer, Memory>
     ensures { IfOk result (IsWritten frame.now) }
 {
     match write_frame(alloc, frame) {
-        Ok(out) => Ok(Answer::Canonical(ByteList::from_slice(alloc, out.as_slice())?)),
+        Ok(out) => Ok(Answer::Canonical(Blob::from_slice(alloc, out.as_slice())?)),
         Err(fault) => match fault {
             FrameFault::Memory => Err(Memory),
             _ => Ok(Answer::NoFrame(fault)),
@@ -213,7 +213,7 @@ fn written_value(alloc: Global, names: &[ClusterName], value: &Value) -> Result<
         return Ok(Answer::Unreadable);
     }
     match try_write_value(alloc, names, value) {
-        Ok(out) => Ok(Answer::Canonical(ByteList::from_slice(alloc, out.as_slice())?)),
+        Ok(out) => Ok(Answer::Canonical(Blob::from_slice(alloc, out.as_slice())?)),
         Err(fault) => match fault {
             FrameFault::Memory => Err(Memory),
             _ => Ok(Answer::NoFrame(fault)),

@@ -1,5 +1,6 @@
 pub mod Name
 pub mod Types
+pub mod Texts
 pub mod Position
 pub mod Entry
 pub mod Topic

@@ -1,5 +1,5 @@
 //! Bytes and texts that own their memory.
-ghost use Rattle.std.specs.Prelude.{◌≡◌, [], ◌++◌, IfOk, OnOk, OnErr, string_bytes};
+ghost use Rattle.std.specs.Prelude.{◌≡◌, ◌∷◌, [], ◌++◌, length, take, IfOk, OnOk, OnErr, string_bytes};
 
 use crate::memory::Memory;
 use std::alloc::Global;
@@ -44,6 +44,13 @@ impl Blob {
         Blob { bytes }
     }
 
+    /// How many bytes there are.
+    pub fn len(&self) -> usize
+        ensures { result ≡ length self.now }
+    {
+        self.bytes.len()
+    }
+
     /// The bytes as a slice.
     pub fn as_slice(&self) -> &[u8]
         ensures { result.now ≡ self.now }
@@ -67,62 +74,37 @@ impl Blob {
         Ok(())
     }
 
+    /// One more byte at the end; unchanged where memory is wanting.
+    pub fn push(&mut self, byte: u8) -> Result<(), Memory>
+        ensures ok { OnOk result (self.new ≡ self.old ++ byte ∷ []) }
+        ensures err { OnErr result (self.new ≡ self.old) }
+    {
+        self.bytes.push(byte)?;
+        Ok(())
+    }
+
+    /// Two more bytes at the end; unchanged where memory is wanting.
+    pub fn push_pair(&mut self, first: u8, second: u8) -> Result<(), Memory>
+        ensures ok { OnOk result (self.new ≡ self.old ++ first ∷ second ∷ []) }
+        ensures err { OnErr result (self.new ≡ self.old) }
+    {
+        self.bytes.reserve(2)?;
+        self.bytes.push_reserved(first);
+        self.bytes.push_reserved(second);
+        Ok(())
+    }
+
+    /// The first bytes alone, so many of them, or all where there are no more.
+    pub fn truncate(&mut self, len: usize)
+        ensures { self.new ≡ take len self.old }
+    {
+        self.bytes.truncate(len);
+    }
+
     /// A copy.
     pub fn copy(&self, alloc: Global) -> Result<Blob, Memory>
         ensures { IfOk result (λ b. b ≡ self.now) }
     {
         Blob::from_slice(alloc, self.bytes.as_slice())
-    }
-}
-
-/// A text in UTF-8, which contracts see as the list of its bytes.
-#[derive(Debug, Drop)]
-pub struct Text {
-    text: String,
-}
-
-impl Model for Text {
-    ghost use Rattle.std.specs.Prelude.{List, ℕ, string_bytes};
-
-    ghost Value = { List ℕ };
-
-    ghost view = { λ t. string_bytes t.text };
-}
-
-impl Text {
-    /// A copy of a text.
-    pub fn from_str(alloc: Global, text: &str) -> Result<Text, Memory>
-        ensures { IfOk result (λ t. t ≡ text.now) }
-    {
-        let text = String::from_str(alloc, text)?;
-        Ok(Text { text })
-    }
-
-    /// The text of a string; takes no memory.
-    pub fn from_string(text: String) -> Text
-        ensures { result ≡ string_bytes text }
-    {
-        Text { text }
-    }
-
-    /// The text.
-    pub fn as_str(&self) -> &str
-        ensures { result.now ≡ self.now }
-    {
-        self.text.as_str()
-    }
-
-    /// The text's bytes.
-    pub fn as_bytes(&self) -> &[u8]
-        ensures { result.now ≡ self.now }
-    {
-        self.text.as_bytes()
-    }
-
-    /// A copy.
-    pub fn copy(&self, alloc: Global) -> Result<Text, Memory>
-        ensures { IfOk result (λ t. t ≡ self.now) }
-    {
-        Text::from_str(alloc, self.text.as_str())
     }
 }

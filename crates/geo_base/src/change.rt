@@ -1,8 +1,8 @@
 //! What a broker changes in memory.
-use crate::bytes::Text;
 use crate::consumer::Consumer;
 use crate::session::Session;
 use crate::snapshot::{Builder, CachedSnapshot};
+use crate::text::Text;
 
 /// One change in memory.
 #[derive(Debug, Drop)]

@@ -1,8 +1,9 @@
 //! What a client does, line by line, and what it keeps of the messages that came.
-use crate::bytes::{Blob, Text};
+use crate::bytes::Blob;
 use crate::entry::{Ident, Targets};
 use crate::frame::SubKind;
 use crate::position::Position;
+use crate::text::Text;
 
 /// One line of a client, in the words of a script.
 #[derive(Debug, Drop)]

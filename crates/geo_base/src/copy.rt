@@ -1,13 +1,13 @@
 //! Copies of entries and of what they hold. Each may want memory, and is equal to its source otherwise.
 ghost use Rattle.std.specs.Prelude.{◌≡◌, IfOk};
 
-use crate::bytes::Text;
 use crate::entry::{Content, Entry, Ident, Metadata};
 use crate::marker::{ClusterPosition, Marker, Place};
 use crate::memory::Memory;
 use crate::position::Position;
 use crate::sequence::Sequence;
 use crate::snapshot::Cut;
+use crate::text::Text;
 use std::alloc::Global;
 
 /// A copy of a text that may be absent.

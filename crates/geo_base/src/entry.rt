@@ -2,10 +2,11 @@
 ghost use Rattle.std.specs.Prelude.{◌≡◌, ◌/◌, ◌%◌, ◌^◌, ◌==◌};
 ghost use Rattle.geo_base.specs.Entry.{goes_to, same_stream};
 
-use crate::bytes::{Blob, Text};
+use crate::bytes::Blob;
 use crate::marker::Marker;
 use crate::name::ProducerName;
 use crate::sequence::Sequence;
+use crate::text::Text;
 
 /// What names an entry: the cluster that stored it first, its producer there, and the producer's sequence id for it.
 #[derive(Debug, Drop)]

@@ -1,9 +1,9 @@
 //! What a packet carries: one command, with an entry where it has a payload (BaseCommand in PulsarApi.proto).
-use crate::bytes::Text;
 use crate::entry::Entry;
 use crate::marker::Place;
 use crate::position::Position;
 use crate::sequence::Sequence;
+use crate::text::Text;
 
 /// How the consumers of a subscription share its messages (subType of CommandSubscribe).
 #[derive(Clone, Copy, Debug, Drop, PartialEq, Eq)]

@@ -25,9 +25,10 @@ mod sender;
 mod sequence;
 mod session;
 mod snapshot;
+mod text;
 mod write;
 
-pub use bytes::{Blob, Text};
+pub use bytes::Blob;
 pub use change::Change;
 pub use client::{Held, Line};
 pub use consumer::{Consumer, Outstanding};
@@ -47,4 +48,5 @@ pub use sender::{Pending, SenderState};
 pub use sequence::Sequence;
 pub use session::{AttachedProducer, Session};
 pub use snapshot::{Builder, CachedSnapshot, Cut, Progress};
+pub use text::Text;
 pub use write::Write;

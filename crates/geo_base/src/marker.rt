@@ -1,7 +1,7 @@
 //! The markers of replicated subscriptions (PIP-33, PulsarMarkers.proto).
-use crate::bytes::Text;
 use crate::position::Position;
 use crate::sequence::Sequence;
+use crate::text::Text;
 
 /// What a cluster's name in a marker or in `replicated_from` means: a cluster by its number, or a name that no cluster has.
 #[derive(Debug, Drop)]

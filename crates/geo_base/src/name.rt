@@ -3,9 +3,9 @@ ghost use Rattle.std.specs.Prelude.{◌≡◌, ◌↔◌, ◌<◌, [], true, fal
 ghost use Rattle.std.specs.List.{list_all};
 ghost use Rattle.geo_base.specs.Name.{is_name, name_byte, HasBadByte};
 
-use crate::bytes::Text;
 use crate::limits::NAME_BYTES;
 use crate::memory::Memory;
+use crate::text::Text;
 use std::alloc::Global;
 use std::marker::{Model, PhantomData};
 use thiserror::Error;

@@ -1,6 +1,6 @@
 //! What a client has open at a broker.
-use crate::bytes::Text;
 use crate::sequence::Sequence;
+use crate::text::Text;
 
 /// A producer of a client's session, under the id that its commands use.
 #[derive(Debug, Drop)]

@@ -1,7 +1,7 @@
 //! Snapshots of replicated subscriptions (PIP-33).
-use crate::bytes::Text;
 use crate::position::Position;
 use crate::sequence::Sequence;
+use crate::text::Text;
 
 /// A position in the own topic, and one in the topic of each remote cluster, by the cluster's number.
 #[derive(Debug, Drop)]

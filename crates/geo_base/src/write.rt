@@ -1,8 +1,8 @@
 //! What a broker writes durably.
-use crate::bytes::Text;
 use crate::entry::Entry;
 use crate::frame::SubKind;
 use crate::sequence::Sequence;
+use crate::text::Text;
 
 /// One durable write. `Acks` and `SenderAck` say which indexes a cursor gains, `Seek` that a cursor becomes all below an index.
 #[derive(Debug, Drop)]

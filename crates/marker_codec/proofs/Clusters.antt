@@ -8,19 +8,27 @@ use Rattle.geo_base.specs.declared.memory.Memory.{Memory}
 use Rattle.pb_fields.specs.declared.field.Field.{Field}
 use Rattle.pb_fields.specs.declared.field.Value.{Value}
 use Rattle.pb_fields.specs.declared.field.Value.TheVariants as value
+use Rattle.pb_fields.specs.Embedded.{IsMessageWith}
 use Rattle.pb_fields.specs.Message.{values}
+use Rattle.pb_fields.specs.Text.{IsText}
 use Rattle.pb_fields.proofs.LastValues.{values-same, values-other}
 use Rattle.pb_fields.proofs.Nested.{IsHeld}
 use Rattle.pb_fields.proofs.Parts.{values-append}
 use Rattle.marker_codec.specs.declared.marker.ClusterMessageId.{ClusterMessageId}
-use Rattle.marker_codec.specs.Kinds.{RightCluster}
-use Rattle.marker_codec.specs.Markers.{IsClusterText, HoldsCluster, AreClusters}
+use Rattle.marker_codec.specs.Kinds.{RightCluster, RightPosition}
+use Rattle.marker_codec.specs.Markers.{IsClusterText, HoldsCluster, AreClusters, SaysCluster}
+use Rattle.marker_codec.specs.Table.{cluster_rows}
 
 same_content : (a b : List ℕ) → ◌≡◌ {A = Value} (value.Bytes a) (value.Bytes b) → a ≡ b
 same_content a b e = cc
 
 pub held_right : (v : Value) (content : List ℕ) → IsHeld (RightCluster 0) v → v ≡ value.Bytes content → RightCluster 0 content
 held_right v content h e = subst (λ (c : List ℕ). RightCluster 0 c) (let is = h.is in same_content h.content content (sym is ∙ e)) h.right
+
+-- what the fields of a text say, the text says
+pub cluster_is : (content : List ℕ) (fields held : List Field) (r : Result ClusterMessageId Memory) → held ≡ fields → IsText content fields → IsMessageWith RightPosition cluster_rows fields → IfOk r (SaysCluster held) → IfOk r (IsClusterText content)
+cluster_is content fields held (Ok c) same is message says = record { fields = fields; text = is; message = message; says = subst (λ (fs : List Field). SaysCluster fs c) same says }
+cluster_is content fields held (Err m) same is message says = tt
 
 pub held_cluster : (v : Value) (content : List ℕ) (r : Result ClusterMessageId Memory) → v ≡ value.Bytes content → IfOk r (IsClusterText content) → IfOk r (HoldsCluster v)
 held_cluster v content (Ok c) e h = record { content = content; is = e; means = h }

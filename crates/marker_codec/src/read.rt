@@ -166,6 +166,7 @@ fn position_of(alloc: Global, content: &[u8]) -> Result<Position, Memory>
 }
 
 /// What a ClusterMessageId says.
+#[tactic(auto, using(crate::proofs::Clusters::cluster_is))]
 fn cluster_of(alloc: Global, content: &[u8]) -> Result<ClusterMessageId, Memory>
     requires { RightCluster 0 content.now }
     ensures { IfOk result (IsClusterText content.now) }

@@ -13,24 +13,24 @@ use crate::table::{
     CLUSTER, ENTRY_ID, LEDGER_ID, LOCAL_MESSAGE_ID, MESSAGE_ID, RESPONSE_CLUSTER,
     SNAPSHOT_CLUSTERS, SNAPSHOT_ID, SOURCE_CLUSTER, SUBSCRIPTION_NAME, UPDATE_CLUSTERS,
 };
-use geo_base::{Memory, Position, Text};
-use pb_fields::{ByteList, write_bytes, write_varint};
+use geo_base::{Blob, Memory, Position, Text};
+use pb_fields::{write_bytes, write_varint};
 use std::alloc::Global;
 
 impl Marker {
     /// The canonical text: the fields in the order of their numbers, an embedded message by its own canonical text,
     /// each varint as short as can be.
-    pub fn write(&self, alloc: Global) -> Result<ByteList, Memory>
+    pub fn write(&self, alloc: Global) -> Result<Blob, Memory>
         ensures canonical { IfOk result (λ bytes. bytes ≡ text (canonical_fields self.now)) }
         ensures text { IfOk result (λ bytes. IsMarkerText (kind_number (marker_kind self.now)) bytes self.now) }
     {
-        let mut out = ByteList::new(alloc);
+        let mut out = Blob::new(alloc);
         append_marker(alloc, &mut out, self)?;
         Ok(out)
     }
 }
 
-fn append_marker(alloc: Global, out: &mut ByteList, marker: &Marker) -> Result<(), Memory>
+fn append_marker(alloc: Global, out: &mut Blob, marker: &Marker) -> Result<(), Memory>
     ensures ok { OnOk result (out.new ≡ out.old ++ text (canonical_fields marker.now)) }
     ensures fields { OnOk result (AllByRecursion IsField (canonical_fields marker.now)) }
     ensures parts { OnOk result (HasGoodParts marker.now) }
@@ -69,7 +69,7 @@ fn append_marker(alloc: Global, out: &mut ByteList, marker: &Marker) -> Result<(
     }
 }
 
-fn append_text(out: &mut ByteList, number: u32, content: &Text) -> Result<(), Memory>
+fn append_text(out: &mut Blob, number: u32, content: &Text) -> Result<(), Memory>
     requires { IsFieldNumber number }
     ensures ok { OnOk result (out.new ≡ out.old ++ field_text (bytes_field number content.now)) }
     ensures field { OnOk result (IsField (bytes_field number content.now)) }
@@ -81,7 +81,7 @@ fn append_text(out: &mut ByteList, number: u32, content: &Text) -> Result<(), Me
 /// Appends a MarkersMessageIdData.
 fn append_position(
     alloc: Global,
-    out: &mut ByteList,
+    out: &mut Blob,
     number: u32,
     position: Position,
 ) -> Result<(), Memory>
@@ -90,7 +90,7 @@ fn append_position(
     ensures field { OnOk result (IsField (bytes_field number (text (position_fields position)))) }
     ensures position { OnOk result (IsPosition position) }
 {
-    let mut content = ByteList::new(alloc);
+    let mut content = Blob::new(alloc);
     write_varint(&mut content, LEDGER_ID, position.ledger)?;
     write_varint(&mut content, ENTRY_ID, position.entry)?;
     write_bytes(out, number, content.as_slice())
@@ -99,7 +99,7 @@ fn append_position(
 /// Appends a ClusterMessageId.
 fn append_cluster(
     alloc: Global,
-    out: &mut ByteList,
+    out: &mut Blob,
     number: u32,
     cluster: &ClusterMessageId,
 ) -> Result<(), Memory>
@@ -108,7 +108,7 @@ fn append_cluster(
     ensures field { OnOk result (IsField (bytes_field number (text (cluster_fields cluster.now)))) }
     ensures cluster { OnOk result (IsCluster cluster.now) }
 {
-    let mut content = ByteList::new(alloc);
+    let mut content = Blob::new(alloc);
     append_text(&mut content, CLUSTER, &cluster.cluster)?;
     append_position(alloc, &mut content, MESSAGE_ID, cluster.message_id)?;
     write_bytes(out, number, content.as_slice())
@@ -117,7 +117,7 @@ fn append_cluster(
 /// Appends one ClusterMessageId a field.
 fn append_clusters(
     alloc: Global,
-    out: &mut ByteList,
+    out: &mut Blob,
     number: u32,
     clusters: &ClusterMessageIds,
 ) -> Result<(), Memory>

@@ -7,8 +7,7 @@ ghost use Rattle.message_meta.specs.Known.{IsJoinedText, IsKnown, IsRest, joined
 
 use crate::meta::{Meta, TextList};
 use crate::write::append_known;
-use geo_base::{Memory, Text};
-use pb_fields::ByteList;
+use geo_base::{Blob, Memory, Text};
 use std::alloc::Global;
 
 /// Bytes that the metadata of most messages fits in, so that its text is written in one piece of memory (own).
@@ -38,23 +37,22 @@ impl KnownMeta<'_> {
     /// The canonical text: the known fields in the order of their numbers, and behind them `rest` as it stands, the
     /// canonical text of fields that the table does not name. `Memory` where there is no room for it.
     #[tactic(auto, using(crate::proofs::Joined::joined_is))]
-    pub fn write_with(self, alloc: Global, rest: &[u8]) -> Result<ByteList, Memory>
+    pub fn write_with(self, alloc: Global, rest: &[u8]) -> Result<Blob, Memory>
         requires { IsRest rest.now }
         ensures { IfOk result (IsJoinedText self.entry rest.now) }
     {
-        let known = written(alloc, self)?;
-        let mut bytes = known.into_vec();
-        bytes.extend_from_slice(rest)?;
-        Ok(ByteList::from_vec(bytes))
+        let mut bytes = written(alloc, self)?;
+        bytes.append(rest)?;
+        Ok(bytes)
     }
 }
 
 /// The text of the known fields alone.
-fn written(alloc: Global, known: KnownMeta<'_>) -> Result<ByteList, Memory>
+fn written(alloc: Global, known: KnownMeta<'_>) -> Result<Blob, Memory>
     ensures text { IfOk result (λ bytes. bytes ≡ text (known_fields known.entry)) }
     ensures fits { OnOk result (IsKnown known.entry) }
 {
-    let mut out = ByteList::from_vec(Vec::with_capacity(alloc, COMMON_BYTES)?);
+    let mut out = Blob::from_vec(Vec::with_capacity(alloc, COMMON_BYTES)?);
     append_known(&mut out, known)?;
     Ok(out)
 }

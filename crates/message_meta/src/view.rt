@@ -2,9 +2,9 @@
 //! then the cluster that it was replicated from and the key, each once, in the order of their numbers, and nothing more. So it is
 //! a message to all clusters and no marker. It takes no memory.
 
-ghost use Rattle.std.specs.Prelude.{◌≡◌, ◌++◌, ◌<◌, length, IfSome, OnOk};
+ghost use Rattle.std.specs.Prelude.{◌≡◌, ◌++◌, ◌<◌, length, IfSome, OnErr, OnOk};
 ghost use Rattle.std.specs.Option.{option_copied};
-ghost use Rattle.pb_fields.specs.Canonical.{optional, text};
+ghost use Rattle.pb_fields.specs.Canonical.{Extends, optional, text};
 ghost use Rattle.pb_fields.specs.Field.{bytes_field};
 ghost use Rattle.pb_fields.specs.Front.{IsShortNumber};
 ghost use Rattle.message_meta.specs.Canonical.{IsMetadata, canonical_fields};
@@ -13,9 +13,9 @@ ghost use Rattle.message_meta.specs.Usual.{meta_viewed};
 
 use crate::table::{PARTITION_KEY, PRODUCER_NAME, PUBLISH_TIME, REPLICATED_FROM, SEQUENCE_ID};
 use crate::write::{append_optional_str, append_text};
-use geo_base::Memory;
+use geo_base::{Blob, Memory};
 use pb_fields::{
-    ByteList, front_optional_text, front_text, front_varint, short_field_size, varint_field_size,
+    front_optional_text, front_text, front_varint, short_field_size, varint_field_size,
     write_varint,
 };
 
@@ -71,11 +71,13 @@ impl MetaView<'_> {
         Some(producer + seq + publish_time + replicated_from + key)
     }
 
-    /// Appends its canonical text; `Memory` where there is no room for it.
+    /// Appends its canonical text; `Memory` where there is no room for it, and then what stood before stands, with some of its fields or
+    /// none.
     #[tactic(auto, using(crate::proofs::Usual::usual_text, crate::proofs::Usual::usual_writable))]
-    pub fn append(self, out: &mut ByteList) -> Result<(), Memory>
+    pub fn append(self, out: &mut Blob) -> Result<(), Memory>
         ensures text { OnOk result (out.new ≡ out.old ++ text (canonical_fields (meta_viewed self.entry))) }
         ensures writable { OnOk result (IsMetadata (meta_viewed self.entry)) }
+        ensures err { OnErr result (Extends out.old out.new) }
     {
         append_text(out, PRODUCER_NAME, self.producer)?;
         write_varint(out, SEQUENCE_ID, self.seq)?;

@@ -1,6 +1,6 @@
 //! Writing metadata.
 
-ghost use Rattle.std.specs.Prelude.{◌≡◌, [], ◌++◌, map, IsUtf8, IfOk, OnOk, IfSome};
+ghost use Rattle.std.specs.Prelude.{◌≡◌, [], ◌++◌, map, IsUtf8, IfOk, OnErr, OnOk, IfSome};
 ghost use Rattle.std.specs.List.{AllByRecursion};
 ghost use Rattle.std.specs.Option.{option_copied};
 ghost use Rattle.pb_fields.specs.Field.{IsFieldNumber, IsField, varint_field, bytes_field};
@@ -15,25 +15,25 @@ use crate::table::{
     MARKER_TYPE, PARTITION_KEY, PRODUCER_NAME, PUBLISH_TIME, REPLICATE_TO, REPLICATED_FROM,
     SEQUENCE_ID,
 };
-use geo_base::{Memory, Text};
-use pb_fields::{ByteList, write_bytes, write_fields, write_optional_varint, write_varint};
+use geo_base::{Blob, Memory, Text};
+use pb_fields::{write_bytes, write_fields, write_optional_varint, write_varint};
 use std::alloc::Global;
 
 impl Meta {
     /// The canonical text: the known fields in the order of their numbers, then the others in theirs, each varint as
     /// short as can be.
-    pub fn write(&self, alloc: Global) -> Result<ByteList, Memory>
+    pub fn write(&self, alloc: Global) -> Result<Blob, Memory>
         ensures canonical { IfOk result (λ bytes. bytes ≡ text (canonical_fields self.now)) }
         ensures text { IfOk result (λ bytes. IsMetaText bytes self.now) }
     {
-        let mut out = ByteList::new(alloc);
+        let mut out = Blob::new(alloc);
         append_meta(&mut out, self)?;
         Ok(out)
     }
 }
 
 #[tactic(auto, using(crate::proofs::Joined::same_text, crate::proofs::Joined::same_metadata))]
-fn append_meta(out: &mut ByteList, meta: &Meta) -> Result<(), Memory>
+fn append_meta(out: &mut Blob, meta: &Meta) -> Result<(), Memory>
     ensures ok { OnOk result (out.new ≡ out.old ++ text (canonical_fields meta.now)) }
     ensures fits { OnOk result (IsMetadata meta.now) }
 {
@@ -42,7 +42,7 @@ fn append_meta(out: &mut ByteList, meta: &Meta) -> Result<(), Memory>
 }
 
 /// Appends the fields that the table names.
-pub(crate) fn append_known(out: &mut ByteList, known: KnownMeta<'_>) -> Result<(), Memory>
+pub(crate) fn append_known(out: &mut Blob, known: KnownMeta<'_>) -> Result<(), Memory>
     ensures ok { OnOk result (out.new ≡ out.old ++ text (known_fields known.entry)) }
     ensures fits { OnOk result (IsKnown known.entry) }
 {
@@ -50,7 +50,7 @@ pub(crate) fn append_known(out: &mut ByteList, known: KnownMeta<'_>) -> Result<(
     append_optional(out, known)
 }
 
-fn append_required(out: &mut ByteList, known: KnownMeta<'_>) -> Result<(), Memory>
+fn append_required(out: &mut Blob, known: KnownMeta<'_>) -> Result<(), Memory>
     ensures ok { OnOk result (out.new ≡ out.old ++ text (required_fields (joined known.entry []))) }
     ensures fields { OnOk result (AllByRecursion IsField (required_fields (joined known.entry []))) }
     ensures producer { OnOk result (IsUtf8 known.entry.producer.now) }
@@ -60,7 +60,7 @@ fn append_required(out: &mut ByteList, known: KnownMeta<'_>) -> Result<(), Memor
     write_varint(out, PUBLISH_TIME, known.publish_time)
 }
 
-fn append_optional(out: &mut ByteList, known: KnownMeta<'_>) -> Result<(), Memory>
+fn append_optional(out: &mut Blob, known: KnownMeta<'_>) -> Result<(), Memory>
     ensures ok { OnOk result (out.new ≡ out.old ++ text (optional_fields (joined known.entry []))) }
     ensures fields { OnOk result (AllByRecursion IsField (optional_fields (joined known.entry []))) }
     ensures replicated_from { OnOk result (IfSome (option_copied known.entry.replicated_from) IsUtf8) }
@@ -73,19 +73,20 @@ fn append_optional(out: &mut ByteList, known: KnownMeta<'_>) -> Result<(), Memor
     write_optional_varint(out, MARKER_TYPE, known.marker)
 }
 
-/// Appends the field of a text.
-pub(crate) fn append_text(out: &mut ByteList, number: u32, content: &str) -> Result<(), Memory>
+/// Appends the field of a text; unchanged where memory is wanting.
+pub(crate) fn append_text(out: &mut Blob, number: u32, content: &str) -> Result<(), Memory>
     requires { IsFieldNumber number }
     ensures ok { OnOk result (out.new ≡ out.old ++ field_text (bytes_field number content.now)) }
     ensures field { OnOk result (IsField (bytes_field number content.now)) }
     ensures utf8 { OnOk result (IsUtf8 content.now) }
+    ensures err { OnErr result (out.new ≡ out.old) }
 {
     write_bytes(out, number, content.as_bytes())
 }
 
 /// The same of a text that may be absent.
 pub(crate) fn append_optional_str(
-    out: &mut ByteList,
+    out: &mut Blob,
     number: u32,
     content: Option<&str>,
 ) -> Result<(), Memory>
@@ -93,6 +94,7 @@ pub(crate) fn append_optional_str(
     ensures ok { OnOk result (out.new ≡ out.old ++ text (optional (bytes_field number) (option_copied content.entry))) }
     ensures fields { OnOk result (AllByRecursion IsField (optional (bytes_field number) (option_copied content.entry))) }
     ensures utf8 { OnOk result (IfSome (option_copied content.entry) IsUtf8) }
+    ensures err { OnErr result (out.new ≡ out.old) }
 {
     match content {
         None => Ok(()),
@@ -100,11 +102,7 @@ pub(crate) fn append_optional_str(
     }
 }
 
-fn append_optional_text(
-    out: &mut ByteList,
-    number: u32,
-    content: &Option<Text>,
-) -> Result<(), Memory>
+fn append_optional_text(out: &mut Blob, number: u32, content: &Option<Text>) -> Result<(), Memory>
     requires { IsFieldNumber number }
     ensures ok { OnOk result (out.new ≡ out.old ++ text (optional (bytes_field number) content.now)) }
     ensures fields { OnOk result (AllByRecursion IsField (optional (bytes_field number) content.now)) }
@@ -116,7 +114,7 @@ fn append_optional_text(
     }
 }
 
-fn append_texts(out: &mut ByteList, number: u32, contents: &TextList) -> Result<(), Memory>
+fn append_texts(out: &mut Blob, number: u32, contents: &TextList) -> Result<(), Memory>
     requires { IsFieldNumber number }
     ensures ok { OnOk result (out.new ≡ out.old ++ text (map (bytes_field number) contents.now)) }
     ensures fields { OnOk result (AllByRecursion IsField (map (bytes_field number) contents.now)) }

@@ -12,4 +12,5 @@ pub mod Order
 pub mod Takes
 pub mod Fronts
 pub mod Sizes
+mod Short
 pub mod Heads

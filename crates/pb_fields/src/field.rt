@@ -6,8 +6,7 @@ ghost use Rattle.pb_fields.specs.declared.field.WireType.{WireType};
 ghost use Rattle.pb_fields.specs.Field.{HasNumber, wire_number, wire_type};
 ghost use Rattle.std.specs.List.{AllByRecursion};
 
-use crate::byte_list::ByteList;
-use geo_base::Memory;
+use geo_base::{Blob, Memory};
 use std::alloc::Global;
 use std::marker::Model;
 
@@ -60,7 +59,7 @@ pub enum Value {
     /// Eight bytes, the least first.
     Fixed64(u64),
     /// A length, and so many bytes: a text, an embedded message or bytes.
-    Bytes(ByteList),
+    Bytes(Blob),
     /// Four bytes, the least first.
     Fixed32(u32),
 }

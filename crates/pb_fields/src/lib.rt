@@ -4,7 +4,6 @@
 //! is the first without a reading, and why. The writer writes the shortest text.
 #![tactic(auto)]
 
-mod byte_list;
 pub mod embedded;
 mod fault;
 mod field;
@@ -18,7 +17,6 @@ mod taken;
 mod values;
 mod write;
 
-pub use byte_list::ByteList;
 pub use fault::{FieldFault, PbFault};
 pub use field::{Field, FieldList, Value, WireType};
 pub use front::{front_bytes, front_optional_text, front_text, front_varint};

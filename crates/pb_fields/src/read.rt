@@ -11,10 +11,9 @@ ghost use Rattle.pb_fields.specs.Text.{TakesValue, TakesField, IsText};
 ghost use Rattle.pb_fields.specs.Faults.{BrokenVarint, BrokenValue, BrokenBehind, BrokenField, ForFault, HasFault, IsFaultOf, fault_at, Answers};
 ghost use Rattle.pb_fields.specs.declared.fault.FieldFault.{FieldFault};
 
-use crate::byte_list::ByteList;
 use crate::fault::{FieldError, FieldFault, PbFault};
 use crate::field::{Field, FieldList, Value, WireType};
-use geo_base::Memory;
+use geo_base::{Blob, Memory};
 use std::alloc::Global;
 
 /// A varint has at most ten bytes; the tenth has the one bit that is left of 64.
@@ -88,7 +87,7 @@ fn value_at(alloc: Global, wire: WireType, bytes: &[u8]) -> Result<(Value, &[u8]
         }
         WireType::Bytes => {
             let (content, rest) = content_at(bytes)?;
-            Ok((Value::Bytes(ByteList::from_slice(alloc, content)?), rest))
+            Ok((Value::Bytes(Blob::from_slice(alloc, content)?), rest))
         }
         WireType::Fixed32 => {
             let (number, rest) = fixed32_at(bytes)?;

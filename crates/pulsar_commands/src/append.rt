@@ -13,12 +13,11 @@ use crate::command::Command;
 use broker::append_of_broker;
 use connection::append_of_connection;
 use consumer::append_of_consumer;
-use geo_base::Memory;
-use pb_fields::ByteList;
+use geo_base::{Blob, Memory};
 use producer::append_of_producer;
 
 /// Appends the fields of a command's own message, in the order of their numbers.
-pub(crate) fn append_body(out: &mut ByteList, command: &Command) -> Result<(), Memory>
+pub(crate) fn append_body(out: &mut Blob, command: &Command) -> Result<(), Memory>
     ensures { OnOk result (Writes out.old (parts command.now) out.new) }
 {
     match command {

@@ -1,7 +1,8 @@
 //! Positions in commands (MessageIdData in PulsarApi.proto).
 
-ghost use Rattle.std.specs.Prelude.{◌≡◌, ◌<◌, ◌++◌, ◌∷◌, [], length, Some, true, false, IfOk, IfErr, OnOk, IfSome};
+ghost use Rattle.std.specs.Prelude.{◌≡◌, ◌<◌, ◌++◌, ◌∷◌, [], length, Some, true, false, IfOk, IfErr, OnOk, IfSome, OnErr};
 ghost use Rattle.std.specs.List.{AllByRecursion};
+ghost use Rattle.pb_fields.specs.Canonical.{Extends};
 ghost use Rattle.pb_fields.specs.declared.message.Form.TheVariants as form;
 ghost use Rattle.pb_fields.specs.Field.{IsFieldNumber};
 ghost use Rattle.pb_fields.specs.Message.{IsMessage, IsRow, IsWrongOrMemory, values};
@@ -13,12 +14,12 @@ ghost use Rattle.pulsar_commands.specs.Canonical.{WritesPart, id_text};
 
 use crate::command::PositionList;
 use crate::table::{ENTRY, ID_ROWS, LEDGER};
-use geo_base::{Memory, Position};
+use geo_base::{Blob, Memory, Position};
 use pb_fields::embedded::{
     Embedded, Unread, optional_message, read_message_with, required_message,
 };
 use pb_fields::message::{MessageFault, Row, required_varint};
-use pb_fields::{ByteList, Field, front_varint, varint_field_size, write_head, write_varint};
+use pb_fields::{Field, front_varint, varint_field_size, write_head, write_varint};
 use std::alloc::Global;
 
 /// The embedded messages of a command are ids.
@@ -153,9 +154,10 @@ pub(crate) fn id_size(position: Position) -> usize
 
 /// Appends an id.
 #[tactic(auto, using(crate::proofs::UsualIds::id_appended))]
-pub(crate) fn append_id(out: &mut ByteList, number: u32, position: Position) -> Result<(), Memory>
+pub(crate) fn append_id(out: &mut Blob, number: u32, position: Position) -> Result<(), Memory>
     requires { IsFieldNumber number }
-    ensures { OnOk result (WritesPart out.old (part.id number position) out.new) }
+    ensures ok { OnOk result (WritesPart out.old (part.id number position) out.new) }
+    ensures err { OnErr result (Extends out.old out.new) }
 {
     write_head(out, number, id_size(position))?;
     write_varint(out, LEDGER, position.ledger)?;
@@ -164,12 +166,13 @@ pub(crate) fn append_id(out: &mut ByteList, number: u32, position: Position) -> 
 
 /// Appends an id where there is one.
 pub(crate) fn append_optional_id(
-    out: &mut ByteList,
+    out: &mut Blob,
     number: u32,
     position: Option<Position>,
 ) -> Result<(), Memory>
     requires { IsFieldNumber number }
-    ensures { OnOk result (WritesPart out.old (part.optional_id number position) out.new) }
+    ensures ok { OnOk result (WritesPart out.old (part.optional_id number position) out.new) }
+    ensures err { OnErr result (Extends out.old out.new) }
 {
     match position {
         None => Ok(()),
@@ -179,7 +182,7 @@ pub(crate) fn append_optional_id(
 
 /// Appends a repeated id.
 pub(crate) fn append_ids(
-    out: &mut ByteList,
+    out: &mut Blob,
     number: u32,
     positions: &PositionList,
 ) -> Result<(), Memory>

@@ -1,6 +1,6 @@
 //! The parts of a command: what one field says, read and written.
 
-ghost use Rattle.std.specs.Prelude.{◌≡◌, ◌<◌, ℕ, Some, true, false, IfOk, OnOk};
+ghost use Rattle.std.specs.Prelude.{◌≡◌, ◌<◌, ℕ, Some, true, false, IfOk, OnOk, OnErr};
 ghost use Rattle.pb_fields.specs.declared.field.Value.TheVariants as value;
 ghost use Rattle.pb_fields.specs.declared.message.Form.TheVariants as form;
 ghost use Rattle.pb_fields.specs.Field.{IsFieldNumber};
@@ -9,9 +9,9 @@ ghost use Rattle.pulsar_commands.specs.Part as part;
 ghost use Rattle.pulsar_commands.specs.Part.{Says};
 ghost use Rattle.pulsar_commands.specs.Canonical.{WritesPart};
 
-use geo_base::{Memory, Text};
+use geo_base::{Blob, Memory, Text};
 use pb_fields::message::{Row, optional_text, optional_varint, required_text};
-use pb_fields::{ByteList, Field, write_bytes, write_optional_varint, write_varint};
+use pb_fields::{Field, write_bytes, write_optional_varint, write_varint};
 use std::alloc::Global;
 
 /// A copy of the text of a required field.
@@ -70,7 +70,7 @@ pub(crate) fn flag(rows: &[Row], fields: &[Field], number: u32) -> bool
 }
 
 /// Appends a text.
-pub(crate) fn append_text(out: &mut ByteList, number: u32, content: &Text) -> Result<(), Memory>
+pub(crate) fn append_text(out: &mut Blob, number: u32, content: &Text) -> Result<(), Memory>
     requires { IsFieldNumber number }
     ensures { OnOk result (WritesPart out.old (part.text number content.now) out.new) }
 {
@@ -79,7 +79,7 @@ pub(crate) fn append_text(out: &mut ByteList, number: u32, content: &Text) -> Re
 
 /// Appends a text where there is one.
 pub(crate) fn append_optional_text(
-    out: &mut ByteList,
+    out: &mut Blob,
     number: u32,
     content: &Option<Text>,
 ) -> Result<(), Memory>
@@ -93,16 +93,17 @@ pub(crate) fn append_optional_text(
 }
 
 /// Appends a number.
-pub(crate) fn append_number(out: &mut ByteList, number: u32, value: u64) -> Result<(), Memory>
+pub(crate) fn append_number(out: &mut Blob, number: u32, value: u64) -> Result<(), Memory>
     requires { IsFieldNumber number }
-    ensures { OnOk result (WritesPart out.old (part.number number value) out.new) }
+    ensures ok { OnOk result (WritesPart out.old (part.number number value) out.new) }
+    ensures err { OnErr result (out.new ≡ out.old) }
 {
     write_varint(out, number, value)
 }
 
 /// Appends a number where there is one.
 pub(crate) fn append_optional_number(
-    out: &mut ByteList,
+    out: &mut Blob,
     number: u32,
     value: Option<u64>,
 ) -> Result<(), Memory>
@@ -113,7 +114,7 @@ pub(crate) fn append_optional_number(
 }
 
 /// Appends a flag as 0 or 1.
-pub(crate) fn append_flag(out: &mut ByteList, number: u32, flag: bool) -> Result<(), Memory>
+pub(crate) fn append_flag(out: &mut Blob, number: u32, flag: bool) -> Result<(), Memory>
     requires { IsFieldNumber number }
     ensures { OnOk result (WritesPart out.old (part.flag number flag) out.new) }
 {

@@ -1,7 +1,8 @@
 //! The commands of the usual form, looked at in their place and written from their numbers: SEND, its receipt and MESSAGE, each of
 //! whose fields is there once, in the order of their numbers, and nothing more. They take no memory.
 
-ghost use Rattle.std.specs.Prelude.{◌≡◌, ◌<◌, ◌++◌, ◌∷◌, [], length, IfSome, OnOk};
+ghost use Rattle.std.specs.Prelude.{◌≡◌, ◌<◌, ◌++◌, ◌∷◌, [], length, IfSome, OnOk, OnErr};
+ghost use Rattle.pb_fields.specs.Canonical.{Extends};
 ghost use Rattle.pb_fields.specs.Field.{bytes_field};
 ghost use Rattle.pb_fields.specs.Front.{IsShortNumber};
 ghost use Rattle.pb_fields.specs.Text.{IsText};
@@ -18,9 +19,9 @@ use crate::command::Command;
 use crate::ids::{id_size, usual_id};
 use crate::kind::Kind;
 use crate::table::TYPE;
-use geo_base::{Memory, Position};
+use geo_base::{Blob, Memory, Position};
 use pb_fields::{
-    ByteList, SHORT_HEAD, front_bytes, front_varint, varint_field_size, write_head, write_varint,
+    SHORT_HEAD, front_bytes, front_varint, varint_field_size, write_head, write_varint,
 };
 
 /// Bytes of the field of a command's type: its tag and the type's number, which is below 128.
@@ -166,11 +167,13 @@ impl CommandView {
         TYPE_BYTES + SHORT_HEAD + self.body_size()
     }
 
-    /// Appends its canonical text; `Memory` where there is no room for it.
+    /// Appends its canonical text; `Memory` where there is no room for it, and then what stood before stands, with some of its fields or
+    /// none.
     #[tactic(auto, using(crate::proofs::UsualCommands::command_appended, crate::proofs::UsualCommands::command_writable))]
-    pub fn append(self, out: &mut ByteList) -> Result<(), Memory>
+    pub fn append(self, out: &mut Blob) -> Result<(), Memory>
         ensures text { OnOk result (out.new ≡ out.old ++ command_text (command_viewed self)) }
         ensures writable { OnOk result (IsWritable (command_viewed self)) }
+        ensures err { OnErr result (Extends out.old out.new) }
     {
         let number = self.kind().number();
         write_varint(out, TYPE, u64::from(number))?;
@@ -211,8 +214,9 @@ impl CommandView {
     }
 
     /// Appends the fields of the command's own message.
-    fn append_body(self, out: &mut ByteList) -> Result<(), Memory>
-        ensures { OnOk result (Writes out.old (parts (command_viewed self)) out.new) }
+    fn append_body(self, out: &mut Blob) -> Result<(), Memory>
+        ensures ok { OnOk result (Writes out.old (parts (command_viewed self)) out.new) }
+        ensures err { OnErr result (Extends out.old out.new) }
     {
         match self {
             CommandView::Send {

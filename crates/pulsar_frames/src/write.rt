@@ -20,7 +20,6 @@ use crate::layout::{BodyParts, FrameParts, SIZE_BYTES};
 use geo_base::limits::FRAME_BYTES;
 use geo_base::{Blob, Memory};
 use message_meta::KnownMeta;
-use pb_fields::ByteList;
 use pulsar_commands::Command;
 use std::alloc::Global;
 
@@ -134,15 +133,15 @@ fn join(alloc: Global, total: u64, parts: FrameParts<'_>) -> Result<Blob, Memory
     requires fits { total ≤ frame_limit }
     ensures { IfOk result (λ bytes. bytes ≡ layout_text (layout parts.entry)) }
 {
-    let mut out = ByteList::from_vec(Vec::with_capacity(alloc, SIZE_BYTES + total as usize)?);
+    let mut out = Blob::from_vec(Vec::with_capacity(alloc, SIZE_BYTES + total as usize)?);
     append_size(&mut out, total)?;
     append_sized(&mut out, parts.command)?;
     match parts.body {
-        None => Ok(Blob::from_vec(out.into_vec())),
+        None => Ok(out),
         Some(body) => {
             append_sized(&mut out, body.meta)?;
             out.append(body.payload)?;
-            Ok(Blob::from_vec(out.into_vec()))
+            Ok(out)
         }
     }
 }
@@ -150,14 +149,14 @@ fn join(alloc: Global, total: u64, parts: FrameParts<'_>) -> Result<Blob, Memory
 /// Appends a size, four bytes, the greatest first.
 
 #[tactic(auto, unfolding(crate::specs::Layout::size))]
-pub(crate) fn append_size(out: &mut ByteList, bytes: u64) -> Result<(), Memory>
+pub(crate) fn append_size(out: &mut Blob, bytes: u64) -> Result<(), Memory>
     requires { bytes < 2 ^ 32 }
     ensures { OnOk result (out.new ≡ out.old ++ size bytes) }
 {
     out.append(&(bytes as u32).to_be_bytes())
 }
 
-fn append_sized(out: &mut ByteList, bytes: &[u8]) -> Result<(), Memory>
+fn append_sized(out: &mut Blob, bytes: &[u8]) -> Result<(), Memory>
     requires { length bytes.now < 2 ^ 32 }
     ensures { OnOk result (out.new ≡ out.old ++ sized bytes.now) }
 {

@@ -12,7 +12,6 @@ use crate::view::MessageView;
 use crate::write::append_size;
 use geo_base::limits::FRAME_BYTES;
 use geo_base::{Blob, Memory};
-use pb_fields::ByteList;
 use pulsar_commands::CommandView;
 use std::alloc::Global;
 
@@ -24,7 +23,7 @@ pub fn write_usual_command(alloc: Global, command: CommandView) -> Result<Blob, 
     let size = command.size();
     let mut out = begun(alloc, SIZE_BYTES + size, size)?;
     command.append(&mut out)?;
-    Ok(Blob::from_vec(out.into_vec()))
+    Ok(out)
 }
 
 /// The canonical text of a frame of a command with the message that it carries. `None` where the frame passes the limit on frames,
@@ -50,16 +49,16 @@ pub fn write_usual_message(
     append_size(&mut out, meta as u64)?;
     message.meta.append(&mut out)?;
     out.append(message.payload)?;
-    Ok(Some(Blob::from_vec(out.into_vec())))
+    Ok(Some(out))
 }
 
 /// The two sizes that a frame begins with, in memory for the whole of it.
-fn begun(alloc: Global, total: usize, command: usize) -> Result<ByteList, Memory>
+fn begun(alloc: Global, total: usize, command: usize) -> Result<Blob, Memory>
     requires total { total < 2 ^ 32 }
     requires command { command < 2 ^ 32 }
     ensures { IfOk result (λ out. out ≡ size total ++ size command) }
 {
-    let mut out = ByteList::from_vec(Vec::with_capacity(alloc, SIZE_BYTES + total)?);
+    let mut out = Blob::from_vec(Vec::with_capacity(alloc, SIZE_BYTES + total)?);
     append_size(&mut out, total as u64)?;
     append_size(&mut out, command as u64)?;
     Ok(out)

@@ -1,6 +1,7 @@
 //! What a broker sends to producers and consumers: receipts, messages and answers.
 
-ghost use Rattle.std.specs.Prelude.{OnOk};
+ghost use Rattle.std.specs.Prelude.{OnOk, OnErr};
+ghost use Rattle.pb_fields.specs.Canonical.{Extends};
 ghost use Rattle.pulsar_commands.specs.declared.command.Command.TheVariants as command;
 ghost use Rattle.pulsar_commands.specs.Parts.{parts, kind_of};
 ghost use Rattle.pulsar_commands.specs.Senders.{IsOfBroker};
@@ -9,11 +10,10 @@ ghost use Rattle.pulsar_commands.specs.Canonical.{Writes};
 use crate::command::Command;
 use crate::ids::{append_id, append_optional_id};
 use crate::parts::{append_number, append_text};
-use geo_base::{Memory, Position, Text};
-use pb_fields::ByteList;
+use geo_base::{Blob, Memory, Position, Text};
 
 /// Appends the fields of a command of a broker.
-pub(super) fn append_of_broker(out: &mut ByteList, command: &Command) -> Result<(), Memory>
+pub(super) fn append_of_broker(out: &mut Blob, command: &Command) -> Result<(), Memory>
     requires { IsOfBroker (kind_of command.now) }
     ensures { OnOk result (Writes out.old (parts command.now) out.new) }
 {
@@ -49,12 +49,13 @@ pub(super) fn append_of_broker(out: &mut ByteList, command: &Command) -> Result<
 
 /// Appends the fields of the receipt of a SEND.
 pub(crate) fn append_send_receipt(
-    out: &mut ByteList,
+    out: &mut Blob,
     producer_id: u64,
     sequence_id: u64,
     message_id: Option<Position>,
 ) -> Result<(), Memory>
-    ensures { OnOk result (Writes out.old (parts (command.SendReceipt producer_id sequence_id message_id)) out.new) }
+    ensures ok { OnOk result (Writes out.old (parts (command.SendReceipt producer_id sequence_id message_id)) out.new) }
+    ensures err { OnErr result (Extends out.old out.new) }
 {
     append_number(out, 1, producer_id)?;
     append_number(out, 2, sequence_id)?;
@@ -62,7 +63,7 @@ pub(crate) fn append_send_receipt(
 }
 
 fn append_send_error(
-    out: &mut ByteList,
+    out: &mut Blob,
     producer_id: u64,
     sequence_id: u64,
     error: u64,
@@ -78,28 +79,24 @@ fn append_send_error(
 
 /// Appends the fields of a MESSAGE.
 pub(crate) fn append_message(
-    out: &mut ByteList,
+    out: &mut Blob,
     consumer_id: u64,
     message_id: Position,
 ) -> Result<(), Memory>
-    ensures { OnOk result (Writes out.old (parts (command.Message consumer_id message_id)) out.new) }
+    ensures ok { OnOk result (Writes out.old (parts (command.Message consumer_id message_id)) out.new) }
+    ensures err { OnErr result (Extends out.old out.new) }
 {
     append_number(out, 1, consumer_id)?;
     append_id(out, 2, message_id)
 }
 
-fn append_success(out: &mut ByteList, request_id: u64) -> Result<(), Memory>
+fn append_success(out: &mut Blob, request_id: u64) -> Result<(), Memory>
     ensures { OnOk result (Writes out.old (parts (command.Success request_id)) out.new) }
 {
     append_number(out, 1, request_id)
 }
 
-fn append_error(
-    out: &mut ByteList,
-    request_id: u64,
-    error: u64,
-    message: &Text,
-) -> Result<(), Memory>
+fn append_error(out: &mut Blob, request_id: u64, error: u64, message: &Text) -> Result<(), Memory>
     ensures { OnOk result (Writes out.old (parts (command.Error request_id error message.now)) out.new) }
 {
     append_number(out, 1, request_id)?;
@@ -108,7 +105,7 @@ fn append_error(
 }
 
 fn append_producer_success(
-    out: &mut ByteList,
+    out: &mut Blob,
     request_id: u64,
     producer_name: &Text,
 ) -> Result<(), Memory>

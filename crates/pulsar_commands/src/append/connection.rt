@@ -8,11 +8,10 @@ ghost use Rattle.pulsar_commands.specs.Canonical.{Writes};
 
 use crate::command::Command;
 use crate::parts::{append_optional_number, append_text};
-use geo_base::{Memory, Text};
-use pb_fields::ByteList;
+use geo_base::{Blob, Memory, Text};
 
 /// Appends the fields of a command of a connection.
-pub(super) fn append_of_connection(out: &mut ByteList, command: &Command) -> Result<(), Memory>
+pub(super) fn append_of_connection(out: &mut Blob, command: &Command) -> Result<(), Memory>
     requires { IsOfConnection (kind_of command.now) }
     ensures { OnOk result (Writes out.old (parts command.now) out.new) }
 {
@@ -31,7 +30,7 @@ pub(super) fn append_of_connection(out: &mut ByteList, command: &Command) -> Res
 }
 
 fn append_connect(
-    out: &mut ByteList,
+    out: &mut Blob,
     client_version: &Text,
     protocol_version: Option<u64>,
 ) -> Result<(), Memory>
@@ -42,7 +41,7 @@ fn append_connect(
 }
 
 fn append_connected(
-    out: &mut ByteList,
+    out: &mut Blob,
     server_version: &Text,
     protocol_version: Option<u64>,
 ) -> Result<(), Memory>

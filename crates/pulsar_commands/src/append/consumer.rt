@@ -9,11 +9,10 @@ ghost use Rattle.pulsar_commands.specs.Canonical.{Writes};
 use crate::command::{Command, PositionList};
 use crate::ids::append_ids;
 use crate::parts::{append_flag, append_number, append_optional_text, append_text};
-use geo_base::{AckKind, Memory, SubKind, Text};
-use pb_fields::ByteList;
+use geo_base::{AckKind, Blob, Memory, SubKind, Text};
 
 /// Appends the fields of a command of a consumer.
-pub(super) fn append_of_consumer(out: &mut ByteList, command: &Command) -> Result<(), Memory>
+pub(super) fn append_of_consumer(out: &mut Blob, command: &Command) -> Result<(), Memory>
     requires { IsOfConsumer (kind_of command.now) }
     ensures { OnOk result (Writes out.old (parts command.now) out.new) }
 {
@@ -74,7 +73,7 @@ struct Subscribe<'a> {
     replicate_subscription_state: bool,
 }
 
-fn append_subscribe(out: &mut ByteList, subscribe: Subscribe<'_>) -> Result<(), Memory>
+fn append_subscribe(out: &mut Blob, subscribe: Subscribe<'_>) -> Result<(), Memory>
     ensures { OnOk result (Writes out.old (parts (command.Subscribe subscribe.entry.topic.now subscribe.entry.subscription.now subscribe.entry.sub_type subscribe.entry.consumer_id subscribe.entry.request_id subscribe.entry.consumer_name.now subscribe.entry.initial_position subscribe.entry.replicate_subscription_state)) out.new) }
 {
     append_text(out, 1, subscribe.topic)?;
@@ -88,7 +87,7 @@ fn append_subscribe(out: &mut ByteList, subscribe: Subscribe<'_>) -> Result<(), 
 }
 
 fn append_ack(
-    out: &mut ByteList,
+    out: &mut Blob,
     consumer_id: u64,
     ack_type: AckKind,
     message_id: &PositionList,
@@ -100,25 +99,21 @@ fn append_ack(
     append_ids(out, 3, message_id)
 }
 
-fn append_flow(out: &mut ByteList, consumer_id: u64, message_permits: u64) -> Result<(), Memory>
+fn append_flow(out: &mut Blob, consumer_id: u64, message_permits: u64) -> Result<(), Memory>
     ensures { OnOk result (Writes out.old (parts (command.Flow consumer_id message_permits)) out.new) }
 {
     append_number(out, 1, consumer_id)?;
     append_number(out, 2, message_permits)
 }
 
-fn append_unsubscribe(out: &mut ByteList, consumer_id: u64, request_id: u64) -> Result<(), Memory>
+fn append_unsubscribe(out: &mut Blob, consumer_id: u64, request_id: u64) -> Result<(), Memory>
     ensures { OnOk result (Writes out.old (parts (command.Unsubscribe consumer_id request_id)) out.new) }
 {
     append_number(out, 1, consumer_id)?;
     append_number(out, 2, request_id)
 }
 
-fn append_close_consumer(
-    out: &mut ByteList,
-    consumer_id: u64,
-    request_id: u64,
-) -> Result<(), Memory>
+fn append_close_consumer(out: &mut Blob, consumer_id: u64, request_id: u64) -> Result<(), Memory>
     ensures { OnOk result (Writes out.old (parts (command.CloseConsumer consumer_id request_id)) out.new) }
 {
     append_number(out, 1, consumer_id)?;

@@ -1,6 +1,7 @@
 //! What a producer sends: PRODUCER, SEND and CLOSE_PRODUCER.
 
-ghost use Rattle.std.specs.Prelude.{OnOk};
+ghost use Rattle.std.specs.Prelude.{OnOk, OnErr};
+ghost use Rattle.pb_fields.specs.Canonical.{Extends};
 ghost use Rattle.pulsar_commands.specs.declared.command.Command.TheVariants as command;
 ghost use Rattle.pulsar_commands.specs.Parts.{parts, kind_of};
 ghost use Rattle.pulsar_commands.specs.Senders.{IsOfProducer};
@@ -8,11 +9,10 @@ ghost use Rattle.pulsar_commands.specs.Canonical.{Writes};
 
 use crate::command::Command;
 use crate::parts::{append_number, append_optional_text, append_text};
-use geo_base::{Memory, Text};
-use pb_fields::ByteList;
+use geo_base::{Blob, Memory, Text};
 
 /// Appends the fields of a command of a producer.
-pub(super) fn append_of_producer(out: &mut ByteList, command: &Command) -> Result<(), Memory>
+pub(super) fn append_of_producer(out: &mut Blob, command: &Command) -> Result<(), Memory>
     requires { IsOfProducer (kind_of command.now) }
     ensures { OnOk result (Writes out.old (parts command.now) out.new) }
 {
@@ -37,7 +37,7 @@ pub(super) fn append_of_producer(out: &mut ByteList, command: &Command) -> Resul
 }
 
 fn append_producer(
-    out: &mut ByteList,
+    out: &mut Blob,
     topic: &Text,
     producer_id: u64,
     request_id: u64,
@@ -53,23 +53,20 @@ fn append_producer(
 
 /// Appends the fields of a SEND.
 pub(crate) fn append_send(
-    out: &mut ByteList,
+    out: &mut Blob,
     producer_id: u64,
     sequence_id: u64,
     num_messages: u64,
 ) -> Result<(), Memory>
-    ensures { OnOk result (Writes out.old (parts (command.Send producer_id sequence_id num_messages)) out.new) }
+    ensures ok { OnOk result (Writes out.old (parts (command.Send producer_id sequence_id num_messages)) out.new) }
+    ensures err { OnErr result (Extends out.old out.new) }
 {
     append_number(out, 1, producer_id)?;
     append_number(out, 2, sequence_id)?;
     append_number(out, 3, num_messages)
 }
 
-fn append_close_producer(
-    out: &mut ByteList,
-    producer_id: u64,
-    request_id: u64,
-) -> Result<(), Memory>
+fn append_close_producer(out: &mut Blob, producer_id: u64, request_id: u64) -> Result<(), Memory>
     ensures { OnOk result (Writes out.old (parts (command.CloseProducer producer_id request_id)) out.new) }
 {
     append_number(out, 1, producer_id)?;

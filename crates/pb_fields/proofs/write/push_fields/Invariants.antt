@@ -6,7 +6,7 @@ use Rattle.pb_fields.proofs.write.push_fields.Given as goal
 
 abbrev pub invariant-loop-field : goal.invariant-loop-field
 invariant-loop-field l = record {
-  so_far : l.out.items ≡ l.fn.out.items ++ text (take l.field-index l.fields);
+  so_far : l.out ≡ l.fn.out ++ text (take l.field-index l.fields);
   fields : AllByRecursion IsField (take l.field-index l.fields);
-  begins : Extends l.fn.out.items l.out.items;
+  begins : Extends l.fn.out l.out;
 }

@@ -4,11 +4,11 @@ use Rattle.pb_fields.proofs.write.push_varint.Goals as goal
 
 pub loop-rest-preserved : goal.loop-rest-preserved
 loop-rest-preserved c =
-    let pushed : c.push.new.self.items ≡ c.loop-rest.out.items ++ (128 + c.loop-rest.rest % 128) ∷ [] = c.in_ok-push.ensures.items ∙ ap (λ (b : ℕ). c.loop-rest.out.items ++ b ∷ []) (goes_on c.loop-rest.rest) in
+    let pushed : c.push.new.self ≡ c.loop-rest.out ++ (128 + c.loop-rest.rest % 128) ∷ [] = c.in_ok-push.ensures.ok ∙ ap (λ (b : ℕ). c.loop-rest.out ++ b ∷ []) (goes_on c.loop-rest.rest) in
     record {
-      so_far = rw pushed (varint-push c.loop-rest.out.items c.args.out.now.items c.loop-rest.rest c.args.number c.loop-rest-test.true (omega (arith, c.loop-rest.auto.rest-fits)) c.loop-rest.invariant.so_far);
-      begins = rw pushed (Extends-append c.args.out.now.items c.loop-rest.out.items _ c.loop-rest.invariant.begins);
+      so_far = rw pushed (varint-push c.loop-rest.out c.args.out.now c.loop-rest.rest c.args.number c.loop-rest-test.true (omega (arith, c.loop-rest.auto.rest-fits)) c.loop-rest.invariant.so_far);
+      begins = rw pushed (Extends-append c.args.out.now c.loop-rest.out _ c.loop-rest.invariant.begins);
     }
 
 pub returns-clause-ok : goal.returns-clause-ok
-returns-clause-ok c = rw c.in_ok-push-2.ensures.items (varint-end c.loop-rest.out.items c.args.out.now.items c.loop-rest.rest c.args.number c.loop-rest-test.false c.loop-rest.invariant.so_far)
+returns-clause-ok c = rw c.in_ok-push-2.ensures.ok (varint-end c.loop-rest.out c.args.out.now c.loop-rest.rest c.args.number c.loop-rest-test.false c.loop-rest.invariant.so_far)

@@ -4,8 +4,8 @@ use Rattle.pb_fields.proofs.write.push_varint.Given as goal
 
 abbrev pub invariant-loop-rest : goal.invariant-loop-rest
 invariant-loop-rest l = record {
-  so_far : l.out.items ++ varint l.rest ≡ l.fn.out.items ++ varint l.number;
-  begins : Extends l.fn.out.items l.out.items;
+  so_far : l.out ++ varint l.rest ≡ l.fn.out ++ varint l.number;
+  begins : Extends l.fn.out l.out;
 }
 
 abbrev pub decreases-loop-rest : goal.decreases-loop-rest
