@@ -7,3 +7,4 @@ pub mod Halting
 pub mod Prepares
 pub mod Acts
 pub mod Planned
+pub mod UsualInputs

@@ -1,17 +1,20 @@
 -- What was prepared for the packet that was read is prepared for each one that its bytes stand for.
 use Rattle.std.proofs.Common.{◌≡◌, ◌∙◌, arith}
-use Rattle.std.specs.Prelude.{Result, Ok, Err, OnOk}
+use Rattle.std.specs.Prelude.{Option, Result, Ok, Err, OnOk}
 use Rattle.geo_base.specs.declared.event.Event.{Event}
 use Rattle.geo_base.specs.declared.event.Event.TheVariants as event
 use Rattle.geo_base.specs.declared.memory.Memory.{Memory}
+use Rattle.geo_base.specs.declared.packet.Packet.{Packet}
 use Rattle.geo_base.specs.Broker.{Broker, Site}
 use Rattle.geo_base.specs.Plan.{Plan}
 use Rattle.broker_state.specs.State.{StateBook, SameState}
 use Rattle.broker_state.specs.Plan.{PlanBook}
 use Rattle.broker_state.specs.Room.{HasRoom}
-use Rattle.broker_plans.specs.Prepared.{CanWrite, IsPrepared}
+use Rattle.broker_plans.specs.Prepared.{CanWrite}
 use Rattle.broker_plans.specs.Storable.{IsWritable}
 use Rattle.broker.specs.Events.{HasNextMarker, IsInRange, IsOfNode}
+use Rattle.broker.specs.Input.{IsInputPrepared}
+use Rattle.wire_ends.specs.declared.packet.WirePacket.{WirePacket}
 use Rattle.broker.specs.Node.{IsReady, BrokerBook, NodeHolds}
 use Rattle.broker.proofs.Ready.{ready_of}
 
@@ -32,9 +35,10 @@ in_range v (event.Get c) of = tt
 in_range v (event.Reconnect c) of = tt
 
 -- the node before and after only room was made
-pub ready_for : (v w : BrokerBook) (plan : Plan) (p : PlanBook) (r : Result (Unit {0}) Memory) → w.site ≡ v.site → w.broker ≡ v.broker → OnOk r (IsPrepared v.site v.broker plan p) → OnOk r (HasRoom w.room p) → OnOk r (IsReady w p)
-ready_for v w plan p (Ok u) site broker is room = ready_of w plan p (rw (site, broker) is) room
-ready_for v w plan p (Err m) site broker is room = tt
+pub ready_for : (v w : BrokerBook) (f : Option Packet → Plan) (i : Option WirePacket) (p : PlanBook) (r : Result (Unit {0}) Memory) → w.site ≡ v.site → w.broker ≡ v.broker
+    → OnOk r (IsInputPrepared v.site v.broker f i p) → OnOk r (HasRoom w.room p) → OnOk r (IsReady w p)
+ready_for v w f i p (Ok u) site broker is room = ready_of w (f is.said) p (rw (site, broker) is.prepared) room
+ready_for v w f i p (Err m) site broker is room = tt
 
 pub same_holds : (old new : StateBook) → NodeHolds old → SameState old new → NodeHolds new
 same_holds old new holds same = record { several = rw same.site holds.several; writable = rw (same.site, same.broker) holds.writable }

@@ -1,9 +1,17 @@
 -- The packet of a link that an event takes, and what it stands for.
 use Rattle.std.specs.Prelude.{◌≡◌, ℕ, List, Option, Some, None, ⊤}
+use Rattle.geo_base.specs.declared.frame.Frame.TheVariants as frame
 use Rattle.geo_base.specs.declared.packet.Packet.{Packet}
+use Rattle.geo_base.specs.Broker.{Broker, Site}
+use Rattle.geo_base.specs.Plan.{Plan}
+use Rattle.broker_state.specs.Plan.{PlanBook}
+use Rattle.broker_plans.specs.declared.usual.Came.{Came}
+use Rattle.broker_plans.specs.Prepared.{IsPrepared}
+use Rattle.broker_plans.specs.Usual.{send_viewed}
 use Rattle.frame_values.specs.Standing.{Reads}
 use Rattle.frame_laws.specs.BytePackets.{StandsForPacket}
 use Rattle.wire_ends.specs.declared.packet.WirePacket.{WirePacket}
+use Rattle.broker.specs.declared.reading.Receipt.{Receipt}
 
 -- the next packet of a link stands for the machine's: both are there, or neither
 abbrev pub StandsForInput : List (List ℕ) → Option WirePacket → Option Packet → Type 0
@@ -26,3 +34,18 @@ abbrev pub ReadsInput : List (List ℕ) → Option WirePacket → Option Packet 
 ReadsInput names None None = ⊤
 ReadsInput names (Some b) (Some p) = ReadsPacket names b p
 ReadsInput names b p = ⊥
+
+-- an event that takes the next packet of a link, or finds none, is prepared: it is the machine's plan, with what the bytes say
+pub record IsInputPrepared (h : Site) (b : Broker) (plan : Option Packet → Plan) (i : Option WirePacket) (p : PlanBook) : Type 0 where
+  pub said : Option Packet
+  pub reads : ReadsInput h.clusters i said
+  pub prepared : IsPrepared h b (plan said) p
+
+-- the packet is this SEND, whatever the clusters' names are
+pub record IsSendOf (w : WirePacket) (m : Came) : Type 0 where
+  pub session : m.session ≡ w.session
+  pub said : (names : List (List ℕ)) → Reads names w.frame (send_viewed names m)
+
+-- and this receipt
+pub record IsReceiptOf (w : WirePacket) (r : Receipt) : Type 0 where
+  pub said : (names : List (List ℕ)) → Reads names w.frame (frame.SendReceipt r.id r.seq (Some r.position))

@@ -52,7 +52,7 @@ impl Broker {
         let mut plan = Plan::new(alloc);
         self.prepare(alloc, event, input, &mut plan)?;
         let idle = plan.is_idle();
-        let sent = plan.take_sent(alloc);
+        let sent = plan.take_sent(alloc).into_vec();
         self.commit(&mut plan);
         Ok(Acted { idle, sent })
     }

@@ -12,6 +12,7 @@ mod law;
 mod preparing;
 mod reading;
 mod starting;
+mod taking;
 
 pub use broker::Broker;
 pub use committing::Acted;

@@ -1,3 +1,4 @@
+pub mod UsualSends
 pub mod Again
 pub mod Answered
 pub mod Plans

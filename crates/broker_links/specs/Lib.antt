@@ -1,3 +1,4 @@
 pub mod Acts
 pub mod Answers
 pub mod Ready
+pub mod Usual

@@ -47,7 +47,7 @@ pub(crate) fn act_of(book: &BrokerState, source: u32, session: u64, frame: Frame
 }
 
 /// Whether a number is that of the session which is open on the link from a cluster.
-fn is_open(book: &BrokerState, source: u32, session: u64) -> bool
+pub(crate) fn is_open(book: &BrokerState, source: u32, session: u64) -> bool
     requires { source < length book.now.broker.receivers }
     ensures { result ≡ is_open (receiver_at book.now.broker source) session }
 {

@@ -7,7 +7,9 @@ mod answers;
 mod receipts;
 mod resetting;
 mod taking;
+mod usual;
 
 pub use receipts::prepare_receipt;
 pub use resetting::prepare_reset;
 pub use taking::prepare_take;
+pub use usual::{prepare_receive, receives};

@@ -2,3 +2,4 @@ pub mod Packets
 pub mod Places
 pub mod Updates
 pub mod Keeping
+pub mod UsualMessages

@@ -1,3 +1,4 @@
 pub mod Storable
 pub mod Prepared
 pub mod Updates
+pub mod Usual

@@ -11,9 +11,11 @@ mod marking;
 mod packet;
 mod receiving;
 mod updating;
+mod usual;
 
 pub use finding::{place_consumed, place_named, sub_at};
 pub use marking::{appending, own_marker};
 pub use packet::{message_text, send_text, text};
 pub use receiving::{NOWHERE, also_send, storing};
 pub use updating::{begin_write, update_after};
+pub use usual::{Answered, Came, also_receipt, is_small, storing_message};

@@ -1,5 +1,5 @@
 //! An entry that came: it is stored, or is a duplicate. And packets behind what an event does.
-ghost use Rattle.std.specs.Prelude.{◌≡◌, true, false, [], Some, IfOk, OnOk};
+ghost use Rattle.std.specs.Prelude.{◌≡◌, true, false, [], Some, IfOk, OnErr, OnOk};
 ghost use Rattle.geo_base.specs.Plan.{plan_of};
 ghost use Rattle.geo_base.specs.Storing.{receipt_position, storing};
 ghost use Rattle.broker_state.specs.State.{SameState};
@@ -23,7 +23,8 @@ pub const NOWHERE: Position = Position {
     entry: u64::MAX,
 };
 
-/// An event that stores an entry which came, unless it is a duplicate. The answer is the position that its receipt names.
+/// An event that stores an entry which came, unless it is a duplicate. The answer is the position that its receipt names. Where memory is
+/// wanting, the plan has no step.
 #[tactic(auto, using(crate::proofs::Keeping::new_stored, crate::proofs::Keeping::old_stored, crate::proofs::Keeping::new_place, crate::proofs::Keeping::old_place, crate::proofs::Keeping::new_room, crate::proofs::Keeping::no_room))]
 pub fn storing(
     alloc: Global,
@@ -37,6 +38,7 @@ pub fn storing(
     ensures position { IfOk result (λ p. Some p ≡ receipt_position book.old.site.per_ledger book.old.broker entry) }
     ensures room { OnOk result (HasRoom book.new.room plan.new) }
     ensures kept { SameState book.old book.new }
+    ensures err { OnErr result ((plan.new.writes ≡ []) × (plan.new.changes ≡ []) × (plan.new.sent ≡ [])) }
 {
     let stream = Stream::of(alloc, &entry.ident)?;
     plan.begin(0);
@@ -48,7 +50,7 @@ pub fn storing(
     Ok(book.store().next())
 }
 
-/// An event that sends, behind all that it does, a packet without an entry.
+/// An event that sends, behind all that it does, a packet without an entry; unchanged where memory is wanting.
 pub fn also_send(
     alloc: Global,
     book: &BrokerState,
@@ -60,7 +62,8 @@ pub fn also_send(
     requires simple { carries_entry frame.now ≡ false }
     requires readable { is_readable frame.now ≡ true }
     requires small { IsSmall book.now.site.clusters frame.now }
-    ensures { OnOk result (AlsoSends book.now.site.clusters (record { to = to; session = session; frame = frame.now }) plan.old plan.new) }
+    ensures ok { OnOk result (AlsoSends book.now.site.clusters (record { to = to; session = session; frame = frame.now }) plan.old plan.new) }
+    ensures err { OnErr result (plan.new ≡ plan.old) }
 {
     let frame = text(alloc, book, frame)?;
     plan.send(WireOut { to, session, frame })

@@ -1,5 +1,5 @@
 //! The update that may follow a write of a subscription's cursor (PIP-33).
-ghost use Rattle.std.specs.Prelude.{◌≡◌, ◌+◌, ◌<◌, ◌≤◌, true, is_some, length, IfOk, IfSome, OnOk};
+ghost use Rattle.std.specs.Prelude.{◌≡◌, ◌+◌, ◌<◌, ◌≤◌, true, is_some, length, IfOk, IfSome, OnErr, OnOk, []};
 ghost use Rattle.std.specs.List.{All};
 ghost use Rattle.geo_base.specs.Cursor.{below, mark, with_indexes};
 ghost use Rattle.geo_base.specs.Updating.{passed_over};
@@ -43,7 +43,7 @@ pub fn update_after(
 }
 
 /// An event that begins with a write of the cursor of the subscription at a place and the update that follows it, with room for
-/// them, and for so many consumers that join or indexes that are given there.
+/// them, and for so many consumers that join or indexes that are given there. Where memory is wanting, the plan has no change and no packet.
 #[tactic(auto, using(crate::proofs::Updates::cursor_room))]
 pub fn begin_write(
     book: &mut BrokerState,
@@ -61,6 +61,7 @@ pub fn begin_write(
     ensures writes { OnOk result (WritesHaveRoom book.new.room place (cursor_writes write update)) }
     ensures given { OnOk result ((room_at book.new.room.subs place).room ≡ room) }
     ensures senders { book.new.room.senders ≡ book.old.room.senders }
+    ensures err { OnErr result ((plan.new.changes ≡ []) × (plan.new.sent ≡ [])) }
 {
     reserve(
         book,

@@ -17,7 +17,7 @@ use crate::act::{ReadAct, ReadAt, acknowledge_read, skip};
 use crate::markers::{request, response, snapshot};
 use crate::updating::read_update;
 use broker_plans::appending;
-use broker_state::{BookChange, BrokerState, Plan};
+use broker_state::{BookChange, BoxedBuilder, BrokerState, Plan};
 use geo_base::{ClusterPosition, Entry, EntryStore, Marker, Memory, Place, Progress, Text};
 use snapshot_builder::Builder;
 use std::alloc::Global;
@@ -157,7 +157,7 @@ fn act_on_progress(
 {
     match progress {
         Progress::Ignored => skip(book, at, plan),
-        Progress::Kept => keep_builder(book, at, builder, plan),
+        Progress::Kept => keep_builder(alloc, book, at, builder, plan),
         Progress::SecondRound => {
             let again = request(alloc, book, builder.current_id())?;
             store_with_builder(alloc, book, at, again, Some(builder), plan)
@@ -172,6 +172,7 @@ fn act_on_progress(
 /// The snapshot that is being made has become this one.
 #[tactic(auto, using(crate::proofs::Plans::kept, crate::proofs::Plans::kept_room))]
 fn keep_builder(
+    alloc: Global,
     book: &BrokerState,
     at: ReadAt,
     builder: Builder,
@@ -186,7 +187,7 @@ fn keep_builder(
 {
     plan.begin(0);
     plan.change(BookChange::Building {
-        builder: Some(builder),
+        builder: Some(BoxedBuilder::new(alloc, builder)?),
     })?;
     acknowledge_read(plan, at)
 }
@@ -211,6 +212,17 @@ fn store_with_builder(
 {
     plan.begin(0);
     plan.write(appending(alloc, marker)?)?;
+    let builder = boxed(alloc, builder)?;
     plan.change(BookChange::Building { builder })?;
     acknowledge_read(plan, at)
+}
+
+/// The snapshot that is being made, if there is one, in memory of its own.
+fn boxed(alloc: Global, builder: Option<Builder>) -> Result<Option<BoxedBuilder>, Memory>
+    ensures { IfOk result (λ b. b ≡ builder) }
+{
+    match builder {
+        None => Ok(None),
+        Some(builder) => Ok(Some(BoxedBuilder::new(alloc, builder)?)),
+    }
 }

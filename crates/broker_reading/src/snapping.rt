@@ -12,7 +12,7 @@ ghost use Rattle.broker_plans.specs.Storable.{most_id};
 
 use crate::markers::request;
 use broker_plans::appending;
-use broker_state::{BookChange, BrokerState, Plan};
+use broker_state::{BookChange, BoxedBuilder, BrokerState, Plan};
 use geo_base::{EntryStore, Memory, Position, Text};
 use snapshot_builder::Builder;
 use std::alloc::Global;
@@ -64,7 +64,7 @@ fn ask(alloc: Global, book: &BrokerState, id: &Text, plan: &mut Plan) -> Result<
     plan.begin(0);
     plan.write(appending(alloc, asked)?)?;
     plan.change(BookChange::Building {
-        builder: Some(builder),
+        builder: Some(BoxedBuilder::new(alloc, builder)?),
     })?;
     Ok(())
 }

@@ -4,3 +4,4 @@ pub mod Producers
 pub mod Joins
 pub mod Acks
 pub mod Commands
+pub mod UsualPublishes

@@ -11,5 +11,7 @@ mod producing;
 mod publishing;
 mod serving;
 mod subscribing;
+mod usual;
 
 pub use serving::{prepare_drop, prepare_serve};
+pub use usual::{prepare_publish, publishes};

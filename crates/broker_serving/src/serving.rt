@@ -153,7 +153,7 @@ fn serve_in(
 }
 
 /// Whether a client's open session has a number.
-fn is_open(book: &BrokerState, client: u32, session: u64) -> bool
+pub(crate) fn is_open(book: &BrokerState, client: u32, session: u64) -> bool
     requires { client < length book.now.broker.sessions }
     ensures { result ≡ is_in session (session_at book.now.broker client) }
 {

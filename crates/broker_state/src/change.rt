@@ -1,8 +1,8 @@
 //! Changes in a broker's memory.
 
+use crate::boxed::BoxedBuilder;
 use broker_subs::SubChange;
 use geo_base::Session;
-use snapshot_builder::Builder;
 
 /// One change in memory, with all the memory that it takes. The subscription that it is of is the prepared event's.
 #[derive(Debug, Drop)]
@@ -48,7 +48,7 @@ pub enum BookChange {
     },
     /// The snapshot that is being made.
     Building {
-        builder: Option<Builder>,
+        builder: Option<BoxedBuilder>,
     },
     /// A restart: what is in memory is lost.
     Forget,

@@ -10,12 +10,14 @@ ghost use Rattle.broker_state.specs.Room.{ChangeLeaves, change_room, change_send
 ghost use Rattle.broker_state.specs.Senders as sender;
 ghost use Rattle.broker_state.specs.Writes.{machine_change};
 
+use crate::boxed::BoxedBuilder;
 use crate::change::BookChange;
 use crate::sender_row::SenderStep;
 use crate::state::BrokerState;
 use broker_subs::SubChange;
 use geo_base::Session;
 use replicator::Receiver;
+use snapshot_builder::Builder;
 
 impl BrokerState {
     /// Makes one change in memory of an event about the subscription at a place.
@@ -46,7 +48,7 @@ impl BrokerState {
             BookChange::Unpend { remote, number } => {
                 self.senders.step(remote, SenderStep::Unpend(number));
             }
-            BookChange::Building { builder } => self.builder = builder,
+            BookChange::Building { builder } => self.builder = unboxed(builder),
             BookChange::Forget => self.forget(),
         }
     }
@@ -86,6 +88,16 @@ impl BrokerState {
         self.subs.clear();
         end_each(self.sessions.as_mut_slice());
         self.builder = None;
+    }
+}
+
+/// The snapshot that is being made, out of its box.
+fn unboxed(builder: Option<BoxedBuilder>) -> Option<Builder>
+    ensures { result ≡ builder }
+{
+    match builder {
+        None => None,
+        Some(builder) => Some(builder.into_inner()),
     }
 }
 

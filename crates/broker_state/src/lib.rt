@@ -7,6 +7,7 @@
 #![tactic(auto)]
 
 mod backlog;
+mod boxed;
 mod change;
 mod changing;
 mod committing;
@@ -20,6 +21,7 @@ mod state;
 mod write;
 mod writing;
 
+pub use boxed::BoxedBuilder;
 pub use change::BookChange;
 pub use plan::Plan;
 pub use sender_row::{SenderRow, SenderStep};

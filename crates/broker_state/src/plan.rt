@@ -1,5 +1,5 @@
 //! What an event will do at a broker.
-ghost use Rattle.std.specs.Prelude.{◌≡◌, ℕ, ◌<◌, ◌++◌, ◌∷◌, [], IfOk, OnOk, Some, length, slice_get};
+ghost use Rattle.std.specs.Prelude.{◌≡◌, ℕ, ◌<◌, ◌++◌, ◌∷◌, [], IfOk, OnErr, OnOk, Some, length, slice_get};
 ghost use Rattle.geo_base.specs.Broker.{Broker};
 ghost use Rattle.geo_base.specs.Plan.{done, halted};
 ghost use Rattle.broker_state.specs.Plan.{IsEmptyPlan, halted_book, plan_in, quiet_book};
@@ -19,7 +19,7 @@ pub struct Plan {
     pub(crate) sub: usize,
     pub(crate) writes: VecDeque<BookWrite>,
     pub(crate) changes: VecDeque<BookChange>,
-    sent: Vec<WireOut>,
+    sent: VecDeque<WireOut>,
 }
 
 impl Model for Plan {
@@ -40,7 +40,7 @@ impl Plan {
             sub: 0,
             writes: VecDeque::new(alloc),
             changes: VecDeque::new(alloc),
-            sent: Vec::new(alloc),
+            sent: VecDeque::new(alloc),
         }
     }
 
@@ -64,25 +64,28 @@ impl Plan {
         self.sub = sub;
     }
 
-    /// One more durable write.
+    /// One more durable write; unchanged where memory is wanting.
     pub fn write(&mut self, write: BookWrite) -> Result<(), Memory>
-        ensures { OnOk result (self.new ≡ record self.old { writes = self.old.writes ++ write ∷ [] }) }
+        ensures ok { OnOk result (self.new ≡ record self.old { writes = self.old.writes ++ write ∷ [] }) }
+        ensures err { OnErr result (self.new ≡ self.old) }
     {
         Ok(self.writes.push_back(write)?)
     }
 
-    /// One more change in memory.
+    /// One more change in memory; unchanged where memory is wanting.
     pub fn change(&mut self, change: BookChange) -> Result<(), Memory>
-        ensures { OnOk result (self.new ≡ record self.old { changes = self.old.changes ++ change ∷ [] }) }
+        ensures ok { OnOk result (self.new ≡ record self.old { changes = self.old.changes ++ change ∷ [] }) }
+        ensures err { OnErr result (self.new ≡ self.old) }
     {
         Ok(self.changes.push_back(change)?)
     }
 
-    /// One more packet to a peer.
+    /// One more packet to a peer; unchanged where memory is wanting.
     pub fn send(&mut self, packet: WireOut) -> Result<(), Memory>
-        ensures { OnOk result (self.new ≡ record self.old { sent = self.old.sent ++ packet ∷ [] }) }
+        ensures ok { OnOk result (self.new ≡ record self.old { sent = self.old.sent ++ packet ∷ [] }) }
+        ensures err { OnErr result (self.new ≡ self.old) }
     {
-        Ok(self.sent.push(packet)?)
+        Ok(self.sent.push_back(packet)?)
     }
 
     /// Whether the event is not enabled.
@@ -114,31 +117,35 @@ impl Plan {
         &self.writes[number]
     }
 
-    /// The packets to send.
-    pub fn sent(&self) -> &[WireOut]
-        ensures { result.now ≡ self.now.sent }
-    {
-        self.sent.as_slice()
-    }
-
     /// The packets to send, which are taken out.
-    pub fn take_sent(&mut self, alloc: Global) -> Vec<WireOut>
+    pub fn take_sent(&mut self, alloc: Global) -> VecDeque<WireOut>
         ensures sent { result.items ≡ self.old.sent }
         ensures rest { self.new ≡ record self.old { sent = [] } }
     {
-        std::mem::replace(&mut self.sent, Vec::new(alloc))
+        std::mem::replace(&mut self.sent, VecDeque::new(alloc))
+    }
+
+    /// Takes back the queue of packets that were sent, for its memory.
+    pub fn keep_sent(&mut self, sent: VecDeque<WireOut>)
+        requires { sent.items ≡ [] }
+        ensures { self.new ≡ record self.old { sent = [] } }
+    {
+        self.sent = sent;
     }
 
     /// The event becomes a stop behind its first `k` durable writes: a ledger opens, what is in memory is lost, and nothing is sent.
+    /// Where memory is wanting, its changes and packets are given up.
     pub fn halt_behind(&mut self, k: usize) -> Result<(), Memory>
         ensures book { OnOk result (self.new ≡ halted_book k self.old) }
         ensures halted { OnOk result ((per : ℕ) (b : Broker) → done per b (plan_in b self.new) ≡ halted per b k (plan_in b self.old)) }
+        ensures err { OnErr result ((self.new.changes ≡ []) × (self.new.sent ≡ [])) }
     {
         self.stop_behind(k)
     }
 
     fn stop_behind(&mut self, k: usize) -> Result<(), Memory>
-        ensures { OnOk result (self.new ≡ halted_book k self.old) }
+        ensures ok { OnOk result (self.new ≡ halted_book k self.old) }
+        ensures err { OnErr result ((self.new.changes ≡ []) × (self.new.sent ≡ [])) }
     {
         self.idle = false;
         self.writes.truncate(k);

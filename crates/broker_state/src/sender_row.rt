@@ -1,5 +1,5 @@
 //! A sender with its cursor.
-ghost use Rattle.std.specs.Prelude.{◌≡◌, ◌<◌, ◌≤◌, ◌+◌, ◌^◌, IfSome, OnOk};
+ghost use Rattle.std.specs.Prelude.{◌≡◌, ◌<◌, ◌≤◌, ◌+◌, ◌^◌, IfSome, OnErr, OnOk};
 ghost use Rattle.geo_base.specs.Cursor.{with_index};
 ghost use Rattle.geo_base.specs.Sender.{new_sender, sender_restarted};
 ghost use Rattle.replicator.specs.Sending.{sending_of};
@@ -75,10 +75,11 @@ impl SenderRow {
         }
     }
 
-    /// Makes room for so many more steps.
+    /// Makes room for so many more steps; for none where memory is wanting.
     pub fn reserve(&mut self, room: usize) -> Result<(), Memory>
         ensures same { self.new.sender ≡ self.old.sender }
         ensures ok { OnOk result (self.new.room ≡ room) }
+        ensures err { OnErr result (self.new.room ≡ 0) }
     {
         self.room = 0;
         if self.cursor.spare() < room {

@@ -1,5 +1,5 @@
 //! The senders of a broker, one for each cluster; the own one is unused.
-ghost use Rattle.std.specs.Prelude.{◌≡◌, ◌<◌, ◌≤◌, ◌+◌, ◌^◌, length, map, slice_set, slice_index_or, replicate, IfOk, OnOk};
+ghost use Rattle.std.specs.Prelude.{◌≡◌, ◌<◌, ◌≤◌, ◌+◌, ◌^◌, length, map, slice_set, slice_index_or, replicate, IfOk, OnErr, OnOk};
 ghost use Rattle.geo_base.specs.Sender.{new_sender, sender_restarted};
 ghost use Rattle.broker_state.specs.Senders.{AllHaveRoom, StepFits, room_needed, row_restarted, senders_of, stepped};
 
@@ -62,10 +62,11 @@ impl SenderTable {
         self.senders.len()
     }
 
-    /// Makes room for so many more steps of each sender.
+    /// Makes room for so many more steps of each sender; for none where memory is wanting.
     pub fn reserve(&mut self, room: usize) -> Result<(), Memory>
         ensures same { self.new.senders ≡ self.old.senders }
         ensures ok { OnOk result (self.new.room ≡ room) }
+        ensures err { OnErr result (self.new.room ≡ 0) }
     {
         self.room = 0;
         reserve_each(self.senders.as_mut_slice(), room)?;

@@ -1,5 +1,5 @@
 //! A broker over a restart: what is durable of it, and what it is again.
-ghost use Rattle.std.specs.Prelude.{◌≡◌, ◌++◌, ◌∷◌, [], None, length, map, replicate, IfOk, OnOk};
+ghost use Rattle.std.specs.Prelude.{◌≡◌, ◌++◌, ◌∷◌, ◌≤◌, ◌^◌, [], None, length, map, replicate, IfNone, IfOk, IfSome, OnOk};
 ghost use Rattle.geo_base.specs.Sender.{sender_restarted};
 ghost use Rattle.durable_parts.specs.Durable.{broker_of, durable_part};
 ghost use Rattle.durable_parts.specs.Parts as durable;
@@ -115,7 +115,7 @@ fn restored_senders(
 {
     let mut rows = Vec::new(alloc);
     for part in parts {
-        let Ok(remote) = u32::try_from(rows.len()) else {
+        let Some(remote) = number_of(rows.len()) else {
             return Err(Memory);
         };
         add(
@@ -124,6 +124,17 @@ fn restored_senders(
         )?;
     }
     Ok(rows)
+}
+
+/// The number of a cluster at a place; `None` exactly where that has no 32 bits.
+fn number_of(place: usize) -> Option<u32>
+    ensures number { IfSome result (λ n. n ≡ place) }
+    ensures none { IfNone result (2 ^ 32 ≤ place) }
+{
+    match u32::try_from(place) {
+        Ok(number) => Some(number),
+        Err(_) => None,
+    }
 }
 
 fn add<T: Drop>(items: &mut Vec<T>, item: T) -> Result<(), Memory>

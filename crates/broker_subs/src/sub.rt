@@ -1,5 +1,5 @@
 //! A subscription.
-ghost use Rattle.std.specs.Prelude.{◌≡◌, ◌≤◌, ◌<◌, [], length, IfOk, OnOk, IfSome};
+ghost use Rattle.std.specs.Prelude.{◌≡◌, ◌≤◌, ◌<◌, [], length, IfOk, OnErr, OnOk, IfSome};
 ghost use Rattle.geo_base.specs.Cursor.{has, mark};
 ghost use Rattle.geo_base.specs.Dispatcher.{least_due, pick};
 ghost use Rattle.geo_base.specs.Subscribing.{is_busy};
@@ -84,11 +84,14 @@ impl Sub {
     }
 
     /// Makes room for so many more steps, each a consumer that joins or an index that is given, and for at least so many more
-    /// acknowledged indexes. It is the one call that takes memory.
+    /// acknowledged indexes. Where memory is wanting there is room for as many steps as before, and for no fewer acknowledged indexes.
+    /// It is the one call that takes memory.
     pub fn reserve(&mut self, room: usize, acks: usize) -> Result<(), Memory>
         ensures same { self.new.sub ≡ self.old.sub }
         ensures room { OnOk result (self.new.room ≡ room) }
         ensures acks { OnOk result (acks ≤ self.new.acks) }
+        ensures more { self.old.acks ≤ self.new.acks }
+        ensures err { OnErr result (self.new.room ≡ self.old.room) }
     {
         if self.durable.cursor.spare() < acks {
             self.durable.cursor.reserve(acks)?;

@@ -1,5 +1,5 @@
 //! The subscriptions of a topic, in order of creation.
-ghost use Rattle.std.specs.Prelude.{◌≡◌, ◌<◌, ◌≤◌, ◌+◌, ◌-◌, ◌++◌, ◌∷◌, [], None, Some, not, length, map, filter, slice_get, slice_index_or, OnOk, if◌then◌else◌};
+ghost use Rattle.std.specs.Prelude.{◌≡◌, ◌<◌, ◌≤◌, ◌+◌, ◌-◌, ◌++◌, ◌∷◌, [], None, Some, not, length, map, filter, slice_get, slice_index_or, OnErr, OnOk, if◌then◌else◌};
 ghost use Rattle.std.specs.List.{remove};
 ghost use Rattle.std.specs.Str.{bytes_eq};
 ghost use Rattle.geo_base.specs.Broker.{sub_named};
@@ -63,10 +63,11 @@ impl SubTable {
         &self.subs[place]
     }
 
-    /// Makes room for so many more subscriptions.
+    /// Makes room for so many more subscriptions; for none where memory is wanting.
     pub fn reserve(&mut self, room: usize) -> Result<(), Memory>
         ensures same { self.new.subs ≡ self.old.subs }
         ensures room { OnOk result (self.new.room ≡ room) }
+        ensures err { OnErr result (self.new.room ≡ 0) }
     {
         self.room = 0;
         self.subs.reserve(room)?;
@@ -75,7 +76,7 @@ impl SubTable {
     }
 
     /// Makes room at a place: for so many consumers that join and indexes that are given, and for at least so many acknowledged
-    /// indexes.
+    /// indexes. Where memory is wanting there is room for as many of the former as before, and for no fewer of the latter.
     #[tactic(auto, using(crate::proofs::Places::same_subs, crate::proofs::Places::names_kept, crate::proofs::Places::room_at_place, crate::proofs::Places::room_set))]
     pub fn reserve_at(&mut self, place: usize, room: usize, acks: usize) -> Result<(), Memory>
         requires { place < length self.old.subs }
@@ -83,6 +84,8 @@ impl SubTable {
         ensures places { self.new.room ≡ self.old.room }
         ensures room { OnOk result ((room_at (rooms_of self.new.subs) place).room ≡ room) }
         ensures acks { OnOk result (acks ≤ (room_at (rooms_of self.new.subs) place).acks) }
+        ensures more { (room_at (rooms_of self.old.subs) place).acks ≤ (room_at (rooms_of self.new.subs) place).acks }
+        ensures err { OnErr result ((room_at (rooms_of self.new.subs) place).room ≡ (room_at (rooms_of self.old.subs) place).room) }
     {
         self.subs[place].reserve(room, acks)
     }

@@ -6,9 +6,12 @@ pub mod HeldSlots
 pub mod KnownNames
 pub mod Preparing
 pub mod Published
+pub mod Publishing
 pub mod Short
 pub mod SlotIndexes
 pub mod SlotKeys
 pub mod SlotLists
+pub mod SlotTails
+pub mod Usual
 pub mod Wire
 pub mod Writable

@@ -45,7 +45,7 @@ same_parts a b h =
 same_itself : (k : SlotKey) → same_key k k ≡ true
 same_itself k = grind (arith, nat_tests)
 
-other_slot : (a b : SlotKey) → (a.slot ≡ b.slot → ⊥) → same_key a b ≡ false
+pub other_slot : (a b : SlotKey) → (a.slot ≡ b.slot → ⊥) → same_key a b ≡ false
 other_slot a b other = false_from_ne_true _ (λ h. other (same_parts a b h).slot)
 
 -- what an order of keys says of their parts
@@ -58,7 +58,7 @@ not_and false = refl
 
 -- ---- an index after a message more
 
-no_slot : (numbers : Held → ℕ × ℕ) (slots : List (Option Held)) (keys : List SlotKey) (k : SlotKey) → IsIndex numbers slots keys → length slots ≤ k.slot → has keys k ≡ false
+pub no_slot : (numbers : Held → ℕ × ℕ) (slots : List (Option Held)) (keys : List SlotKey) (k : SlotKey) → IsIndex numbers slots keys → length slots ≤ k.slot → has keys k ≡ false
 no_slot numbers slots keys k i past = i.at k ∙ ap (λ (o : Option Held). is_under numbers o k) (get_or_past slots k.slot None past)
 
 same_before : (slots : List (Option Held)) (o : Option Held) (j : ℕ) → (j ≡ length slots → ⊥) → get_or (slots ++ o ∷ []) j None ≡ get_or slots j None

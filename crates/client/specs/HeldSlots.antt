@@ -1,5 +1,5 @@
 -- What a client holds, in the slots in which it came: what is acknowledged leaves an empty slot.
-use Rattle.std.specs.Prelude.{◌≡◌, ℕ, ◌+◌, ◌*◌, ◌%◌, ◌^◌, ◌<◌, Bool, true, false, List, [], ◌∷◌, length, Option, Some, None, slice_index_or}
+use Rattle.std.specs.Prelude.{◌≡◌, ℕ, ◌+◌, ◌*◌, ◌%◌, ◌^◌, ◌<◌, ◌≤◌, Bool, true, false, List, [], ◌∷◌, length, take, Option, Some, None, slice_index_or}
 use Rattle.geo_base.specs.declared.client.Held.{Held}
 use Rattle.geo_base.specs.declared.entry.Ident.{Ident}
 use Rattle.geo_base.specs.declared.position.Position.{Position}
@@ -60,9 +60,10 @@ is_under numbers (Some h) k = same_key (key_of (numbers h) k.slot) k
 pub record IsIndex (numbers : Held → ℕ × ℕ) (slots : List (Option Held)) (keys : List SlotKey) : Type 0 where
   pub at : (k : SlotKey) → has keys k ≡ is_under numbers (slice_index_or slots k.slot None) k
 
--- how many messages there are, where the first one stands, and the keys of both indexes
-pub record IsIndexed (slots : List (Option Held)) (held first : ℕ) (by_ident by_position : List SlotKey) : Type 0 where
+-- how many messages there are, where the first one stands, and the keys of both indexes: those of the first so many slots
+pub record IsIndexed (slots : List (Option Held)) (held first indexed : ℕ) (by_ident by_position : List SlotKey) : Type 0 where
   pub count : held ≡ length (held_in slots)
   pub front : first ≡ empty_before slots
-  pub idents : IsIndex (λ h. ident_numbers h.ident) slots by_ident
-  pub positions : IsIndex (λ h. position_numbers h.position) slots by_position
+  pub within : indexed ≤ length slots
+  pub idents : IsIndex (λ h. ident_numbers h.ident) (take indexed slots) by_ident
+  pub positions : IsIndex (λ h. position_numbers h.position) (take indexed slots) by_position

@@ -7,3 +7,4 @@ pub mod SlotIndex
 pub mod HeldSlots
 pub mod Prepared
 pub mod State
+pub mod Usual

@@ -2,6 +2,7 @@
 use geo_base::{Blob, Memory, Peer, Stamp, WireOut};
 use links::*;
 use std::alloc::Global;
+use std::collections::VecDeque;
 use std::test::Fail;
 
 fn out(alloc: Global, to: Peer, byte: u8) -> Result<WireOut, Memory> {
@@ -20,11 +21,11 @@ fn first_of_two(
     to: Peer,
     link: LinkName,
 ) -> Result<Option<WirePacket>, Fail> {
-    let sent = vec![in alloc; out(alloc, to, 1)?, out(alloc, to, 2)?]?;
-    if frame_bytes(sent.as_slice())? != 4 {
+    let mut sent = VecDeque::from_vec(vec![in alloc; out(alloc, to, 1)?, out(alloc, to, 2)?]?);
+    if frame_bytes(&sent)? != 4 {
         return Ok(None);
     }
-    links.deliver(from, Stamp::new(9), sent)?;
+    links.deliver(from, Stamp::new(9), &mut sent)?;
     Ok(links.take(Some(link)))
 }
 

@@ -1,4 +1,5 @@
 //! Protobuf fields.
+use geo_base::Blob;
 use pb_fields::embedded::{OfTable, Unread, optional_message, read_message_with};
 use pb_fields::message::{Form, Row};
 use pb_fields::*;
@@ -143,7 +144,7 @@ fn fields_are_written_shortest(rt: HostRuntime) -> Result<(), Fail> {
         0x19, 1, 2, 3, 4, 5, 6, 7, 8,
     ];
     let fields = read_fields(alloc, &bytes)?;
-    let mut out = ByteList::new(alloc);
+    let mut out = Blob::new(alloc);
     for field in fields.as_slice() {
         write_field(&mut out, field)?;
     }
@@ -151,12 +152,12 @@ fn fields_are_written_shortest(rt: HostRuntime) -> Result<(), Fail> {
         0x08, 0x96, 0x01, 0x12, 0x02, 0x41, 0x42, 0x0d, 1, 2, 3, 4, 0x19, 1, 2, 3, 4, 5, 6, 7, 8,
     ];
     assert_eq!(rt; out.as_slice(), shortest.as_slice());
-    let copy = ByteList::from_slice(alloc, out.as_slice())?;
+    let copy = Blob::from_slice(alloc, out.as_slice())?;
     assert_eq!(rt; copy.len(), out.len());
     let mut list = FieldList::new(alloc);
     list.push(Field {
         number: 1,
-        value: Value::Bytes(ByteList::from_vec(copy.into_vec())),
+        value: Value::Bytes(Blob::from_vec(copy.into_vec())),
     })?;
     assert_eq!(rt; list.len(), 1);
     Ok(())

@@ -9,8 +9,8 @@ use std::collections::VecDeque;
 use std::marker::Model;
 use wire_ends::{End, PART_BYTES, PieceEnd, WirePacket};
 
-/// The packets that are not taken yet, in the order in which they were sent. Each has come in pieces, which are gathered as it is
-/// sent: no event stands between its pieces, so that none of them is lost.
+/// The packets that are not taken yet, in the order in which they were sent. A packet of several parts has come in pieces, which are
+/// gathered as it is sent: no event stands between its pieces, so that none of them is lost. One of a single part has come as it is.
 #[derive(Debug, Drop)]
 pub(crate) struct Link {
     end: PieceEnd,
@@ -58,6 +58,9 @@ impl Link {
         ensures ok { OnOk result (self.new ≡ with_last self.old packet) }
         ensures err { OnErr result (self.new ≡ self.old) }
     {
+        if packet.frame.len() <= PART_BYTES {
+            return self.end.add_whole(packet);
+        }
         let before = self.end.len();
         let parcel = self.end.pack(packet)?;
         self.end.send(parcel);

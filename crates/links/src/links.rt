@@ -2,9 +2,8 @@
 //!
 //! What is sent in one event goes out whole or not at all: where memory ends in the middle of it, what was sent is taken back,
 //! the last packet first.
-ghost use Rattle.std.specs.Prelude.{◌≡◌, ◌≤◌, ◌+◌, ◌*◌, IfOk, OnOk, OnErr};
+ghost use Rattle.std.specs.Prelude.{◌≡◌, ◌≤◌, ◌<◌, ◌^◌, ◌+◌, ◌*◌, [], IfOk, OnOk, OnErr};
 ghost use Rattle.std.specs.Option.{option_copied};
-ghost use Rattle.std.specs.Vec.Iter.{into_iter_items};
 ghost use Rattle.links.specs.Queues.{all_discarded, delivered, empty_links, next_at, packet_on, sent_on, stamp_of, stamped, taken_at, taken_from, unsent_on};
 
 use crate::name::{LinkName, Node, link_to};
@@ -12,8 +11,8 @@ use crate::table::LinkTable;
 use geo_base::limits::CLUSTERS;
 use geo_base::{Memory, Stamp, WireOut};
 use std::alloc::Global;
+use std::collections::VecDeque;
 use std::marker::Model;
-use std::vec::IntoIter;
 use wire_ends::WirePacket;
 
 /// All links between so many clusters. Those between brokers stand by the number of the broker that sends on the forward one
@@ -47,12 +46,11 @@ impl Links {
         clusters: usize,
         clients: usize,
     ) -> Result<Links, Memory>
-        requires { clusters ≤ CLUSTERS }
+        requires few { clusters ≤ CLUSTERS }
+        requires brokers { topics * clusters < 2 ^ 64 }
         ensures { IfOk result (λ l. l ≡ empty_links topics clusters clients) }
     {
-        let Some(brokers) = topics.checked_mul(clusters) else {
-            return Err(Memory);
-        };
+        let brokers = topics * clusters;
         Ok(Links {
             clusters,
             forward: LinkTable::new(alloc, brokers, clusters)?,
@@ -164,30 +162,25 @@ impl Links {
         self.to_client.discard();
     }
 
-    /// Sends what a node sends in an event of this stamp, in order, whole or not at all: unchanged where memory is wanting.
-    pub fn deliver(&mut self, from: Node, stamp: Stamp, sent: Vec<WireOut>) -> Result<(), Memory>
-        ensures ok { OnOk result (self.new ≡ delivered from stamp sent.items self.old) }
-        ensures err { OnErr result (self.new ≡ self.old) }
-    {
-        self.deliver_rest(from, stamp, sent.into_iter())
-    }
-
+    /// Sends what a node sends in an event of this stamp, in order, whole or not at all: unchanged where memory is wanting. All of it is
+    /// taken out of `sent`, which keeps its memory; where memory is wanting, what is left there has no meaning.
     #[tactic(auto, using(crate::proofs::Undoing::undone))]
-    fn deliver_rest(
+    pub fn deliver(
         &mut self,
         from: Node,
         stamp: Stamp,
-        mut sent: IntoIter<WireOut, Global>,
+        sent: &mut VecDeque<WireOut>,
     ) -> Result<(), Memory>
-        ensures ok { OnOk result (self.new ≡ delivered from stamp (into_iter_items sent) self.old) }
+        ensures ok { OnOk result (self.new ≡ delivered from stamp sent.old.items self.old) }
+        ensures taken { OnOk result (sent.new.items ≡ []) }
         ensures err { OnErr result (self.new ≡ self.old) }
     {
-        let Some(first) = sent.next() else {
+        let Some(first) = sent.pop_front() else {
             return Ok(());
         };
         let link = link_to(from, first.to);
         self.send(link, stamped(stamp, first))?;
-        match self.deliver_rest(from, stamp, sent) {
+        match self.deliver(from, stamp, sent) {
             Ok(()) => Ok(()),
             Err(memory) => {
                 self.unsend(link);

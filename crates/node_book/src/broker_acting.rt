@@ -46,7 +46,7 @@ pub(crate) fn act_at_broker<E: End>(
     let mut plan = Plan::new(alloc);
     let from = taken_from(event);
     let shown = look(alloc, event, node, ends, from, &mut plan)?;
-    let outs = plan.take_sent(alloc);
+    let outs = plan.take_sent(alloc).into_vec();
     let Some(packed) = make_ready(alloc, ends, log, plan.is_idle(), shown, outs)? else {
         return Ok(false);
     };

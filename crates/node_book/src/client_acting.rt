@@ -88,7 +88,7 @@ fn send<E: End>(
         (book_at scenario.now (kept.Client own.new) log.new.history.items log.new.clock ends.new.rows.items)) }
 {
     let mut prepared = prepare(alloc, scenario, own, event)?;
-    let outs = prepared.take_sent(alloc);
+    let outs = prepared.take_sent(alloc).into_vec();
     let Some(packed) = make_ready(alloc, ends, log, prepared.is_idle(), 0, outs)? else {
         return Ok(false);
     };

@@ -112,6 +112,15 @@ impl PieceEnd {
         self.gathered.keep(count);
     }
 
+    /// Gathers a packet that comes as it is, in no pieces, behind those that were gathered; unchanged where memory is wanting. What
+    /// `send` sent is not counted up.
+    pub fn add_whole(&mut self, packet: WirePacket) -> Result<(), Memory>
+        ensures ok { OnOk result (self.new ≡ record self.old { gathered = record { begun = self.old.gathered.begun; whole = self.old.gathered.whole ++ packet ∷ [] } }) }
+        ensures err { OnErr result (self.new ≡ self.old) }
+    {
+        self.gathered.push(packet)
+    }
+
     fn look(&mut self)
         ensures more { self.new ≡ record self.old { looks = one_more self.old.looks } }
         ensures looked { Looked self.old.looks self.new.looks }

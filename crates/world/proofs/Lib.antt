@@ -7,6 +7,7 @@ pub mod ClientEvents
 pub mod Getting
 pub mod After
 pub mod Acting
+pub mod Waiting
 pub mod Prepared
 pub mod ManyClients
 pub mod ManySteps

@@ -1,5 +1,5 @@
 -- How a step leaves the world.
-use Rattle.std.specs.Prelude.{◌≡◌, ℕ, ◌+◌, ◌≤◌, Bool, true, false, List, Option, Some, None, Ok, Err, OnOk, Result, slice_set, ⊤}
+use Rattle.std.specs.Prelude.{◌≡◌, ℕ, ◌+◌, ◌≤◌, Bool, true, false, List, Option, Some, None, Ok, Err, OnOk, Result, is_some, slice_set, ⊤}
 use Rattle.geo_base.specs.declared.event.Event.{Event}
 use Rattle.geo_base.specs.declared.packet.Packet.{Packet}
 use Rattle.geo_base.specs.Broker.{Broker}
@@ -27,6 +27,11 @@ use Rattle.world_kept.specs.Standing.{Stands}
 -- the broker of an event, and the link that it takes from
 abbrev pub place_at : Setup → Event → Place
 place_at s e = record { topic = topic_of s e; cluster = cluster_of e; takes = takes_of e }
+
+-- an event that takes from a link on which there is no packet
+pub record Waits (b : WorldBook) (takes : Option LinkName) : Type 0 where
+  pub taking : is_some takes ≡ true
+  pub none : packet_on b.links takes ≡ None
 
 -- an event is prepared at broker n: whatever the packet that it takes stands for, it is the machine's plan of it there
 abbrev pub PreparesAt : WorldBook → ℕ → Option LinkName → Event → PlanBook → Type 0

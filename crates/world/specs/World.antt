@@ -6,7 +6,6 @@ use Rattle.geo_base.specs.Run.{most_events, most_sent_bytes}
 use Rattle.geo_base.specs.Scripted.{IsScripted}
 use Rattle.geo_base.specs.Setup.{Setup}
 use Rattle.geo_base.specs.World.{World, node}
-use Rattle.broker_state.specs.Plan.{IsEmptyPlan, PlanBook}
 use Rattle.broker.specs.Events.{IsNodeOf}
 use Rattle.broker.specs.Node.{BrokerBook}
 use Rattle.links.specs.Queues.{WireLinks}
@@ -27,10 +26,10 @@ pub record WorldBook : Type 0 where
   pub rounds : ℕ
   pub frame_bytes : ℕ
 
--- what always holds between events, of a plan, n rounds and m events: no event is prepared; and each round that was counted did an
--- event, but for those of a file
-pub record WorldHolds (q : PlanBook) (n m : ℕ) : Type 0 where
-  pub plan : IsEmptyPlan q
+-- what always holds between events, of n rounds and m events, where this holds of the plan: no event is prepared in it; and each round
+-- that was counted did an event, but for those of a file
+pub record WorldHolds (empty : Type 0) (n m : ℕ) : Type 0 where
+  pub plan : empty
   pub rounds : n ≤ most_at_start + m
 
 abbrev pub no_node : BrokerBook

@@ -1,10 +1,10 @@
 //! An event of a broker: prepared there, its packets delivered, committed.
-ghost use Rattle.std.specs.Prelude.{◌≡◌, ℕ, ◌<◌, ◌+◌, ◌^◌, false, length, IfOk, OnErr, OnOk, None, Some, Ok, Err};
+ghost use Rattle.std.specs.Prelude.{◌≡◌, ℕ, ◌<◌, ◌+◌, ◌^◌, false, true, length, IfOk, OnErr, OnOk, None, Some, Ok, Err};
 ghost use Rattle.broker_state.specs.Plan.{IsEmptyPlan};
 ghost use Rattle.geo_base.specs.Happening.{happens};
 ghost use Rattle.geo_base.specs.World.{World as Machine};
 ghost use Rattle.world.specs.declared.fault.RunFault.TheVariants as fault;
-ghost use Rattle.world.specs.Steps.{Acts, IsCommitted, IsFinished, IsLater, IsSetNode, Leads, PreparesAt, done_at};
+ghost use Rattle.world.specs.Steps.{Acts, IsCommitted, IsFinished, IsLater, IsSetNode, Leads, PreparesAt, Waits, done_at, place_at};
 ghost use Rattle.world.specs.World.{AreNodes, IsAt, IsWithin, SameWorld, kept_of, node_at};
 ghost use Rattle.script_text.specs.Scenario.{IsEvent};
 ghost use Rattle.broker.specs.Events.{IsOfNode, NumbersRise};
@@ -24,6 +24,8 @@ use geo_base::{Event, Memory, Stamp, WireOut};
 use links::{LinkName, frame_bytes};
 use script_text::Scenario;
 use std::alloc::Global;
+use std::boxed::Box;
+use std::collections::VecDeque;
 
 /// The limit on events and idle events together.
 pub(crate) const EVENT_LIMIT: u64 = 2;
@@ -71,40 +73,62 @@ impl World {
         ensures idle { result ≡ Ok false → SameWorld self.old self.new }
         ensures err { OnErr result (SameWorld self.old self.new) }
     {
-        let mut plan = self.take_plan(alloc);
-        let acted = self.acts_in(alloc, scenario, event, &mut plan);
-        plan.clear();
+        let place = place_of(scenario, event);
+        if self.is_waiting(place.takes) {
+            return Ok(false);
+        }
+        let mut plan = self.take_plan(alloc)?;
+        let acted = self.acts_in(alloc, scenario, event, place, &mut plan);
         self.keep_plan(plan);
         acted
     }
 
-    /// The world's plan, taken out to be filled.
-    fn take_plan(&mut self, alloc: Global) -> Plan
-        ensures empty { IsEmptyPlan result }
+    /// The world's plan, taken out to be filled; the first event makes it.
+    fn take_plan(&mut self, alloc: Global) -> Result<Box<Plan>, Memory>
+        ensures empty { IfOk result (λ p. IsEmptyPlan p.value) }
         ensures same { self.new ≡ self.old }
     {
-        std::mem::replace(&mut self.plan, Plan::new(alloc))
+        match self.plan.take() {
+            Some(plan) => Ok(plan),
+            None => Ok(Box::new(alloc, Plan::new(alloc))?),
+        }
     }
 
     /// Keeps the plan, which is empty, for the next event.
-    fn keep_plan(&mut self, plan: Plan)
-        requires { IsEmptyPlan plan }
+    fn keep_plan(&mut self, plan: Box<Plan>)
+        requires { IsEmptyPlan plan.value }
         ensures { self.new ≡ self.old }
     {
-        self.plan = plan;
+        self.plan = Some(plan);
     }
 
-    /// The same in a plan that is empty. What is left in it then has no meaning.
+    /// Whether an event takes a packet and there is none, so that it is not enabled.
+    #[tactic(auto, using(crate::proofs::Waiting::waits_there))]
+    fn is_waiting(&self, takes: Option<LinkName>) -> bool
+        ensures { result ≡ true → Waits self.now takes }
+    {
+        if takes.is_none() {
+            return false;
+        }
+        match self.links.next(takes) {
+            None => true,
+            Some(_) => false,
+        }
+    }
+
+    /// The same in a plan that is empty, which it leaves empty.
     fn acts_in(
         &mut self,
         alloc: Global,
         scenario: &Scenario,
         event: &Event,
+        place: Place,
         plan: &mut Plan,
     ) -> Result<bool, RunFault>
         requires at { IsAt scenario.now.setup self.old }
         requires broker { IsBrokers event.now }
         requires scripted { IsEvent scenario.now.setup event.now }
+        requires place { place ≡ place_at scenario.now.setup event.now }
         requires empty { IsEmptyPlan plan.old }
         ensures acts { (w : Machine) → Reached scenario.now.setup w → Stands scenario.now.setup (kept_of self.old) w
             → Acts scenario.now.setup self.old self.new (happens scenario.now.setup w event.now) result }
@@ -112,15 +136,21 @@ impl World {
         ensures later { IsLater self.old self.new }
         ensures idle { result ≡ Ok false → SameWorld self.old self.new }
         ensures err { OnErr result (SameWorld self.old self.new) }
+        ensures empty { IsEmptyPlan plan.new }
     {
-        let place = place_of(scenario, event);
         let number = node_number(scenario, place.topic, place.cluster);
         self.prepare_at(alloc, number, event, place.takes, plan)?;
         if plan.is_idle() {
+            plan.clear();
             return Ok(false);
         }
-        self.finish_at(alloc, place, number, plan)?;
-        Ok(true)
+        match self.finish_at(alloc, place, number, plan) {
+            Ok(()) => Ok(true),
+            Err(fault) => {
+                plan.clear();
+                Err(fault)
+            }
+        }
     }
 
     /// What an event will do at a broker, with the packet that it takes.
@@ -140,6 +170,7 @@ impl World {
         ensures prepared { OnOk result (PreparesAt self.old number takes event.now plan.new) }
         ensures ready { OnOk result (IsReady (node_at self.new.nodes number) plan.new) }
         ensures same { SameWorld self.old self.new }
+        ensures err { OnErr result (IsEmptyPlan plan.new) }
     {
         self.nodes[number].prepare(alloc, event, self.links.next(takes), plan)
     }
@@ -178,11 +209,14 @@ impl World {
         ensures within { OnOk result (limit_of (self.old.events + 1) self.old.idle (self.old.frame_bytes + bytes_of plan.old.sent) ≡ None) }
         ensures large { (n : ℕ) → result ≡ Err (fault.TooLarge n) → limit_of (self.old.events + 1) self.old.idle (self.old.frame_bytes + bytes_of plan.old.sent) ≡ Some n }
         ensures err { OnErr result (self.new ≡ self.old) }
+        ensures empty { OnOk result (IsEmptyPlan plan.new) }
     {
-        let sent = plan.take_sent(alloc);
-        let bytes = self.bytes_after(sent.as_slice())?;
+        let mut sent = plan.take_sent(alloc);
+        let bytes = self.bytes_after(&sent)?;
         let stamp = self.stamp_at(number, place.takes);
-        self.links.deliver(place.sender(), Stamp::new(stamp), sent)?;
+        self.links
+            .deliver(place.sender(), Stamp::new(stamp), &mut sent)?;
+        plan.keep_sent(sent);
         self.commit_at(place, number, plan, stamp);
         self.counts.frame_bytes = bytes;
         Ok(())
@@ -197,6 +231,7 @@ impl World {
         requires count { self.old.events + 1 < 2 ^ 64 }
         ensures nodes { IsSetNode self.old.nodes self.new.nodes number (done_at (node_at self.old.nodes number) plan.old) }
         ensures rest { IsCommitted place number stamp self.old self.new }
+        ensures empty { IsEmptyPlan plan.new }
     {
         let _taken = self.links.take(place.takes);
         self.nodes[number].commit(plan);
@@ -206,11 +241,11 @@ impl World {
 
     /// The bytes of all frames with these, where one more event is within the limits.
     #[tactic(auto, using(crate::proofs::Limits::more_bytes, crate::proofs::Limits::too_many_events, crate::proofs::Limits::too_many_bytes))]
-    pub(crate) fn bytes_after(&self, sent: &[WireOut]) -> Result<u64, RunFault>
+    pub(crate) fn bytes_after(&self, sent: &VecDeque<WireOut>) -> Result<u64, RunFault>
         requires { IsWithin self.now }
-        ensures ok { IfOk result (λ n. n ≡ self.now.frame_bytes + bytes_of sent.now) }
-        ensures within { OnOk result (limit_of (self.now.events + 1) self.now.idle (self.now.frame_bytes + bytes_of sent.now) ≡ None) }
-        ensures large { (n : ℕ) → result ≡ Err (fault.TooLarge n) → limit_of (self.now.events + 1) self.now.idle (self.now.frame_bytes + bytes_of sent.now) ≡ Some n }
+        ensures ok { IfOk result (λ n. n ≡ self.now.frame_bytes + bytes_of sent.now.items) }
+        ensures within { OnOk result (limit_of (self.now.events + 1) self.now.idle (self.now.frame_bytes + bytes_of sent.now.items) ≡ None) }
+        ensures large { (n : ℕ) → result ≡ Err (fault.TooLarge n) → limit_of (self.now.events + 1) self.now.idle (self.now.frame_bytes + bytes_of sent.now.items) ≡ Some n }
     {
         let more = frame_bytes(sent)?;
         if self.counts.events + self.counts.idle >= EVENTS {

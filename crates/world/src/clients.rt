@@ -87,11 +87,11 @@ impl World {
         ensures err { OnErr result (self.new ≡ self.old) }
     {
         let mut prepared = prepared;
-        let sent = prepared.take_sent(alloc);
-        let bytes = self.bytes_after(sent.as_slice())?;
+        let mut sent = prepared.take_sent(alloc);
+        let bytes = self.bytes_after(&sent)?;
         let stamp = self.client_stamp(client, None);
         self.links
-            .deliver(Node::Client { client }, Stamp::new(stamp), sent)?;
+            .deliver(Node::Client { client }, Stamp::new(stamp), &mut sent)?;
         self.client_commits(client, prepared, stamp);
         self.counts.frame_bytes = bytes;
         Ok(())

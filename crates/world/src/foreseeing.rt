@@ -1,5 +1,5 @@
 //! What an event of a broker would do, without doing it.
-ghost use Rattle.std.specs.Prelude.{◌≡◌, IfOk, OnOk};
+ghost use Rattle.std.specs.Prelude.{◌≡◌, IfOk, OnErr, OnOk};
 ghost use Rattle.broker_state.specs.Plan.{IsEmptyPlan};
 ghost use Rattle.geo_base.specs.World.{World as Machine};
 ghost use Rattle.script_text.specs.Scenario.{IsEvent};
@@ -19,7 +19,7 @@ use std::alloc::Global;
 
 impl World {
     /// Prepares an event of a broker in a plan that is empty, and answers whose it is. Nothing of the world's state changes; brokers
-    /// may have other room. An `Err` is want of memory, and then the plan is given up, for its owner to clear.
+    /// may have other room. An `Err` is want of memory, and then the plan is empty again.
     pub fn foresee(
         &mut self,
         alloc: Global,
@@ -36,6 +36,7 @@ impl World {
             → OnOk result (IsForeseen scenario.now.setup w event.now (node_at self.new.nodes (node_of scenario.now.setup event.now)) plan.new) }
         ensures at { IsAt scenario.now.setup self.new }
         ensures same { SameWorld self.old self.new }
+        ensures err { OnErr result (IsEmptyPlan plan.new) }
     {
         let place = place_of(scenario, event);
         let number = node_number(scenario, place.topic, place.cluster);

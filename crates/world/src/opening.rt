@@ -37,7 +37,7 @@ impl World {
                 rounds: 0,
                 frame_bytes: 0,
             },
-            plan: Plan::new(alloc),
+            plan: None,
         })
     }
 }

@@ -1,5 +1,5 @@
 //! A world that goes on from the state that a file held.
-ghost use Rattle.std.specs.Prelude.{◌≡◌, ◌<◌, ◌≤◌, ◌*◌, ◌/◌, ◌%◌, [], length, map, IfOk};
+ghost use Rattle.std.specs.Prelude.{◌≡◌, ◌<◌, ◌≤◌, ◌*◌, ◌/◌, ◌%◌, true, false, [], length, map, IfOk};
 ghost use Rattle.client.specs.State.{stopped};
 ghost use Rattle.state_file.specs.Known.{IsKnownBehind, IsKnownState};
 ghost use Rattle.state_file.specs.State.{state_of};
@@ -9,6 +9,7 @@ ghost use Rattle.state_brokers.specs.Nodes.{broker_of};
 ghost use Rattle.world.specs.Saving.{AreRevived, IsRevived};
 ghost use Rattle.state_laws.specs.Saved.{world_from};
 ghost use Rattle.world.specs.World.{IsAt, kept_of};
+ghost use Rattle.world_laws.specs.Starts.{most_at_start};
 ghost use Rattle.world_kept.specs.Reached.{Reached};
 ghost use Rattle.world_kept.specs.Standing.{Stands};
 
@@ -16,7 +17,7 @@ use crate::world::World;
 use broker::Broker;
 use broker_state::Plan;
 use client::{Client, ClientState};
-use geo_base::Memory;
+use geo_base::{Entry, Memory};
 use links::Links;
 use node_starts::{new_site, sub_names};
 use script_text::Scenario;
@@ -55,7 +56,7 @@ impl World {
             broker_clocks: vec![in alloc; 0; brokers]?,
             client_clocks: vec![in alloc; 0; declared]?,
             counts,
-            plan: Plan::new(alloc),
+            plan: None,
         };
         Ok((scenario, world))
     }
@@ -90,9 +91,9 @@ fn revived_node(
     requires known { IsKnownNode scenario.now.setup.per_ledger scenario.now.setup.clusters (number % length scenario.now.setup.clusters) (broker_of part) }
     ensures { IfOk result (λ v. IsRevived scenario.now.setup number (broker_of part) v) }
 {
-    let Ok(_few) = u32::try_from(part.entries.len()) else {
+    if !are_few(part.entries.as_slice()) {
         return Err(Memory);
-    };
+    }
     let clusters = scenario.clusters().len();
     let topic = (number / clusters) as u32;
     let cluster = (number % clusters) as u32;
@@ -100,6 +101,14 @@ fn revived_node(
     let names = sub_names(alloc, scenario, topic)?;
     let durable = part.into_durable(alloc, cluster, scenario.per_ledger())?;
     Broker::from_durable(alloc, topic, site, names, durable, scenario.clients().len())
+}
+
+/// Whether a topic's entries are fewer than 2^32, so that its counts have room to grow.
+fn are_few(entries: &[Entry]) -> bool
+    ensures few { result ≡ true → length entries.now < most_at_start }
+    ensures many { result ≡ false → most_at_start ≤ length entries.now }
+{
+    entries.len() <= u32::MAX as usize
 }
 
 /// Clients from what a stop left of them.

@@ -14,10 +14,11 @@ use links::Links;
 use script_text::Scenario;
 use state_brokers::Counts;
 use std::alloc::Global;
+use std::boxed::Box;
 use std::marker::Model;
 
 /// Brokers are numbered by topic and then by cluster, clients in the script's order. A clock is a node's last stamp. The brokers'
-/// events are prepared in one plan, whose queues keep their memory; between events it is empty.
+/// events are prepared in one plan, which the first of them makes and whose queues keep their memory; between events it is empty.
 #[derive(Drop)]
 pub struct World {
     pub(crate) nodes: Vec<Broker>,
@@ -26,10 +27,12 @@ pub struct World {
     pub(crate) broker_clocks: Vec<u64>,
     pub(crate) client_clocks: Vec<u64>,
     pub(crate) counts: Counts,
-    pub(crate) plan: Plan,
+    pub(crate) plan: Option<Box<Plan>>,
 }
 
 impl Model for World {
+    ghost use Rattle.std.specs.Prelude.{IfSome};
+    ghost use Rattle.broker_state.specs.Plan.{IsEmptyPlan};
     ghost use Rattle.world.specs.World.{WorldBook, WorldHolds};
 
     ghost Value = { WorldBook };
@@ -46,7 +49,7 @@ impl Model for World {
       frame_bytes = w.counts.frame_bytes;
     } };
 
-    ghost invariant = { λ w. WorldHolds w.plan w.counts.rounds w.counts.events };
+    ghost invariant = { λ w. WorldHolds (IfSome w.plan (λ p. IsEmptyPlan p.value)) w.counts.rounds w.counts.events };
 }
 
 impl World {

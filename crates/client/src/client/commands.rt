@@ -1,9 +1,14 @@
 //! The frames that a client sends for its lines.
-ghost use Rattle.std.specs.Prelude.{◌≡◌, ◌≤◌, ◌++◌, true, length, Some, IfOk, OnOk};
+ghost use Rattle.std.specs.Prelude.{◌≡◌, ◌≤◌, ◌++◌, true, length, Some, None, IfOk, IfSome, OnOk};
+ghost use Rattle.std.specs.Option.{option_copied};
+ghost use Rattle.geo_base.specs.declared.frame.Frame.TheVariants as frame;
 ghost use Rattle.geo_base.specs.Client.{command, id_of, published, target_names};
 ghost use Rattle.geo_base.specs.Message.{is_message};
 ghost use Rattle.geo_base.specs.Scripted.{is_optional_name};
+ghost use Rattle.pulsar_frames.specs.Usual.{message_viewed};
+ghost use Rattle.frame_values.specs.Coded.{IsWritten};
 ghost use Rattle.client.specs.Site.{is_short_line};
+ghost use Rattle.client.specs.Usual.{message_published};
 ghost use Rattle.client.specs.Changing.{as_connected};
 
 use crate::client::Client;
@@ -14,11 +19,14 @@ use geo_base::{
     Blob, ClusterName, Content, Entry, Frame, Ident, Line, Memory, Metadata, Sequence, Targets,
     Text, optional_text_copy,
 };
+use message_meta::MetaView;
+use pulsar_commands::CommandView;
+use pulsar_frames::{MessageView, write_usual_message};
 use std::alloc::Global;
 
 /// What a `pub` line says, where it stands.
 #[derive(Clone, Copy, Debug)]
-struct PubLine<'a> {
+pub struct PubLine<'a> {
     seq: u64,
     to: Targets,
     key: &'a Option<Text>,
@@ -26,7 +34,7 @@ struct PubLine<'a> {
 }
 
 impl<'a> PubLine<'a> {
-    fn new(seq: u64, to: Targets, key: &'a Option<Text>, text: &'a Blob) -> PubLine<'a>
+    pub(super) fn new(seq: u64, to: Targets, key: &'a Option<Text>, text: &'a Blob) -> PubLine<'a>
         ensures seq { result.seq ≡ seq }
         ensures to { result.to ≡ to }
         ensures key { result.key.now ≡ key.now }
@@ -90,6 +98,30 @@ impl Client {
         add(sent, connection.to_broker(frame))
     }
 
+    /// The SEND that a `pub` line publishes, written from where the line's parts stand; None where it is not for all clusters or has
+    /// not the usual form.
+    #[tactic(auto, using(crate::proofs::Publishing::written_publish))]
+    pub(super) fn publish_text(
+        &self,
+        alloc: Global,
+        site: &ClientSite,
+        line: PubLine<'_>,
+    ) -> Result<Option<Blob>, Memory>
+        ensures { IfOk result (λ text. IfSome text (IsWritten site.now.setup.clusters (frame.Send (id_of self.now.produce) line.entry.seq None (published site.now.setup site.now.declared self.now line.entry.seq line.entry.to line.entry.key.now line.entry.text.now)))) }
+    {
+        match line.to {
+            Targets::All => {
+                let command = CommandView::Send {
+                    producer_id: id_of(self.produce),
+                    sequence_id: line.seq,
+                    num_messages: 1,
+                };
+                write_usual_message(alloc, command, message_of(site, line))
+            }
+            Targets::Only(_) => Ok(None),
+        }
+    }
+
     /// The message that a `pub` line publishes on a connection.
     fn published(
         &self,
@@ -119,6 +151,31 @@ impl Client {
             },
             payload: line.text.copy(alloc)?,
         })
+    }
+}
+
+/// The message of a `pub` line for all clusters, each part where it stands.
+fn message_of<'a>(site: &'a ClientSite, line: PubLine<'a>) -> MessageView<'a>
+    ensures { message_viewed result ≡ message_published site.now.declared line.entry.seq line.entry.key.now line.entry.text.now }
+{
+    MessageView {
+        meta: MetaView {
+            producer: site.name().as_str(),
+            seq: line.seq,
+            publish_time: 0,
+            replicated_from: None,
+            key: key_of(line.key),
+        },
+        payload: line.text.as_slice(),
+    }
+}
+
+fn key_of(key: &Option<Text>) -> Option<&str>
+    ensures { option_copied result ≡ key.entry.now }
+{
+    match key {
+        None => None,
+        Some(key) => Some(key.as_str()),
     }
 }
 

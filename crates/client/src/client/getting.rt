@@ -6,11 +6,19 @@ ghost use Rattle.geo_base.specs.Getting.{answered, get, got_frame, got_message, 
 ghost use Rattle.geo_base.specs.declared.packet.Packet.{Packet};
 ghost use Rattle.client.specs.Counted.{CanCount};
 ghost use Rattle.client.specs.Packets.{IsDiscarded, IsSaid, StandsFor, StandsForNext};
+ghost use Rattle.client.specs.Usual.{carrying_viewed, entry_viewed, source_viewed, value_viewed};
+ghost use Rattle.frame_values.specs.Values.{simple_frame};
+ghost use Rattle.pulsar_commands.specs.Usual.{command_viewed};
+ghost use Rattle.pulsar_frames.specs.Frames.{IsFrameText};
+ghost use Rattle.pulsar_frames.specs.Usual.{frame_viewed};
 
 use crate::client::Client;
 use crate::site::ClientSite;
-use frame_values::read_value;
-use geo_base::{Entry, Frame, Held, Ident, Line, Memory, Place, Position};
+use frame_values::{number_of, read_value};
+use geo_base::{Entry, Frame, Held, Ident, Line, Memory, Place, Position, ProducerName};
+use message_meta::MetaView;
+use pulsar_commands::CommandView;
+use pulsar_frames::{FrameView, MessageView, usual_frame};
 use std::alloc::Global;
 use wire_ends::WirePacket;
 
@@ -41,8 +49,49 @@ impl Client {
         }
     }
 
-    /// A packet came. Also one of another connection is read, so that it is known to have a value.
+    /// A packet came. Also one of another connection is looked at, so that it is known to have a value.
     fn take(&mut self, alloc: Global, site: &ClientSite, packet: &WirePacket) -> Result<(), Memory>
+        requires { CanCount self.old }
+        ensures client { (p : Packet) → StandsFor site.now.setup.clusters packet.now p → OnOk result (self.new ≡ (get site.now.declared self.old (Some p)).client) }
+        ensures discarded { IsDiscarded self.old packet.now → OnOk result (self.new ≡ self.old) }
+        ensures said { OnOk result (IsSaid site.now.setup.clusters (Some packet.now)) }
+        ensures err { OnErr result (self.new ≡ self.old) }
+    {
+        match usual_frame(packet.frame.as_slice()) {
+            Some(view) => self.take_usual(alloc, site, packet, view),
+            None => self.take_any(alloc, site, packet),
+        }
+    }
+
+    /// A packet of the usual form came, which is looked at where it stands.
+    fn take_usual(
+        &mut self,
+        alloc: Global,
+        site: &ClientSite,
+        packet: &WirePacket,
+        view: FrameView<'_>,
+    ) -> Result<(), Memory>
+        requires text { IsFrameText packet.now.frame (frame_viewed view) }
+        requires counts { CanCount self.old }
+        ensures client { (p : Packet) → StandsFor site.now.setup.clusters packet.now p → OnOk result (self.new ≡ (get site.now.declared self.old (Some p)).client) }
+        ensures discarded { IsDiscarded self.old packet.now → OnOk result (self.new ≡ self.old) }
+        ensures said { OnOk result (IsSaid site.now.setup.clusters (Some packet.now)) }
+        ensures err { OnErr result (self.new ≡ self.old) }
+    {
+        if packet.session != self.connection {
+            return Ok(());
+        }
+        self.get_usual(alloc, site, view)?;
+        Ok(())
+    }
+
+    /// A packet of any form came.
+    fn take_any(
+        &mut self,
+        alloc: Global,
+        site: &ClientSite,
+        packet: &WirePacket,
+    ) -> Result<(), Memory>
         requires { CanCount self.old }
         ensures client { (p : Packet) → StandsFor site.now.setup.clusters packet.now p → OnOk result (self.new ≡ (get site.now.declared self.old (Some p)).client) }
         ensures discarded { IsDiscarded self.old packet.now → OnOk result (self.new ≡ self.old) }
@@ -55,6 +104,83 @@ impl Client {
         }
         self.get_frame(alloc, site, &frame)?;
         Ok(())
+    }
+
+    /// A frame of the usual form came on the current connection.
+    fn get_usual(
+        &mut self,
+        alloc: Global,
+        site: &ClientSite,
+        view: FrameView<'_>,
+    ) -> Result<(), Memory>
+        requires { CanCount self.old }
+        ensures ok { OnOk result (self.new ≡ got_frame site.now.declared self.old (value_viewed site.now.setup.clusters view.entry)) }
+        ensures err { OnErr result (self.new ≡ self.old) }
+    {
+        match view.message {
+            None => {
+                self.get_command(site, view.command);
+                Ok(())
+            }
+            Some(message) => self.get_carrying(alloc, site, view.command, message),
+        }
+    }
+
+    /// A command without a message came.
+    fn get_command(&mut self, site: &ClientSite, command: CommandView)
+        requires { CanCount self.old }
+        ensures { self.new ≡ got_frame site.now.declared self.old (simple_frame (command_viewed command)) }
+    {
+        match command {
+            CommandView::SendReceipt {
+                sequence_id,
+                message_id,
+                ..
+            } => self.get_receipt(site, sequence_id, Some(message_id)),
+            CommandView::Send { .. } | CommandView::Message { .. } => {}
+        }
+    }
+
+    /// A command with a message came: only MESSAGE tells the client something.
+    fn get_carrying(
+        &mut self,
+        alloc: Global,
+        site: &ClientSite,
+        command: CommandView,
+        message: MessageView<'_>,
+    ) -> Result<(), Memory>
+        ensures ok { OnOk result (self.new ≡ got_frame site.now.declared self.old (carrying_viewed site.now.setup.clusters command message.entry)) }
+        ensures err { OnErr result (self.new ≡ self.old) }
+    {
+        match command {
+            CommandView::Message {
+                consumer_id,
+                message_id,
+            } => self.get_viewed(alloc, site, consumer_id, message_id, message),
+            CommandView::Send { .. } | CommandView::SendReceipt { .. } => Ok(()),
+        }
+    }
+
+    /// A message of the usual form came: its origin is the cluster that it was replicated from, else the client's own.
+    fn get_viewed(
+        &mut self,
+        alloc: Global,
+        site: &ClientSite,
+        id: u64,
+        position: Position,
+        message: MessageView<'_>,
+    ) -> Result<(), Memory>
+        ensures ok { OnOk result (self.new ≡ got_message self.old id position (source_viewed site.now.setup.clusters message.entry) (entry_viewed message.entry)) }
+        ensures err { OnErr result (self.new ≡ self.old) }
+    {
+        let MetaView { producer, seq, .. } = message.meta;
+        match message.meta.replicated_from {
+            None => self.receive(alloc, id, position, self.cluster, producer, seq),
+            Some(name) => match number_of(site.clusters(), 0, name.as_bytes()) {
+                Some(origin) => self.receive(alloc, id, position, origin, producer, seq),
+                None => Ok(()),
+            },
+        }
     }
 
     /// A frame of the current connection came.
@@ -99,7 +225,14 @@ impl Client {
             Some(Place::Known(cluster)) => *cluster,
             Some(Place::Stranger(_)) => return Ok(()),
         };
-        self.receive(alloc, id, position, origin, &entry.ident)
+        self.receive(
+            alloc,
+            id,
+            position,
+            origin,
+            entry.ident.producer.as_str(),
+            entry.ident.seq,
+        )
     }
 
     /// A message that was first stored at `origin` came for a consumer's id. It is held and got where that is the one of the `sub`
@@ -110,9 +243,10 @@ impl Client {
         id: u64,
         position: Position,
         origin: u32,
-        ident: &Ident,
+        producer: &str,
+        seq: u64,
     ) -> Result<(), Memory>
-        ensures ok { OnOk result (self.new ≡ received self.old id (record { origin = origin; producer = ident.now.producer; seq = ident.now.seq }) position) }
+        ensures ok { OnOk result (self.new ≡ received self.old id (record { origin = origin; producer = producer.now; seq = seq }) position) }
         ensures err { OnErr result (self.new ≡ self.old) }
     {
         if !is_line(self.sub, id) {
@@ -120,8 +254,8 @@ impl Client {
         }
         let held = Ident {
             origin,
-            producer: ident.producer.copy(alloc)?,
-            seq: ident.seq,
+            producer: ProducerName::any(alloc, producer)?,
+            seq,
         };
         let got = held.copy(alloc)?;
         self.got.reserve(1)?;

@@ -1,7 +1,11 @@
 //! `go`: a client does its next line.
-ghost use Rattle.std.specs.Prelude.{◌≡◌, ◌<◌, ◌^◌, ◌&&◌, true, nat_lt, length, is_some, Some, IfOk};
+ghost use Rattle.std.specs.Prelude.{◌≡◌, ◌<◌, ◌^◌, ◌&&◌, ◌∷◌, [], true, nat_lt, length, is_some, Some, IfOk, IfSome, OnSome};
+ghost use Rattle.std.specs.Option.{option_copied};
+ghost use Rattle.geo_base.specs.declared.packet.Peer.TheVariants as peer;
+ghost use Rattle.geo_base.specs.Setup.{Setup};
 ghost use Rattle.geo_base.specs.Client.{command};
 ghost use Rattle.geo_base.specs.Going.{go, go_line, most_unanswered};
+ghost use Rattle.client.specs.declared.client.change.ClientChange.TheVariants as change;
 ghost use Rattle.client.specs.Site.{is_short_line};
 ghost use Rattle.client.specs.Changing.{ClientFits, acted, as_connected};
 ghost use Rattle.client.specs.Counted.{CanConnect};
@@ -9,11 +13,12 @@ ghost use Rattle.client.specs.Prepared.{IsPrepared};
 
 use crate::client::Client;
 use crate::client::change::ClientChange;
+use crate::client::commands::PubLine;
 use crate::client::plan::Plan;
 use crate::client::prepared::Prepared;
 use crate::site::ClientSite;
 use geo_base::limits::UNANSWERED;
-use geo_base::{Line, Memory};
+use geo_base::{Blob, Line, Memory};
 use std::alloc::Global;
 
 impl Client {
@@ -21,31 +26,90 @@ impl Client {
     /// publishes without a `produce` line in force or with 256 publishes without receipt, gives permits or ends its consumer
     /// without a `sub` line in force, ends its producer without a `produce` line in force or with a publish without receipt, or
     /// acknowledges what it does not hold. Nothing changes; an `Err` is want of memory.
-    #[tactic(auto, using(crate::proofs::Preparing::prepared_is, crate::proofs::Preparing::prepared_fits))]
+    #[tactic(auto, using(crate::proofs::Publishing::waits))]
     pub fn prepare_go(&self, alloc: Global, site: &ClientSite) -> Result<Prepared, Memory>
         requires { CanConnect self.now }
         ensures prepared { IfOk result (λ p. IsPrepared site.now.setup.clusters self.now p (go site.now.setup site.now.declared self.now)) }
         ensures fits { IfOk result (λ p. ClientFits p.change self.now) }
     {
-        let plan = self.plan_go(alloc, site)?;
-        let prepared = Prepared::write(alloc, site.clusters(), plan)?;
-        Ok(prepared)
+        match self.next_line(site) {
+            Some(line) => self.prepare_line(alloc, site, line),
+            None => Ok(Prepared::idle(alloc)),
+        }
     }
 
-    /// What the client's next line does.
+    /// The next line, where the client is connected and has one left.
     #[tactic(auto, unfolding(geo_base::specs::Going::go))]
-    fn plan_go(&self, alloc: Global, site: &ClientSite) -> Result<Plan, Memory>
-        requires { CanConnect self.now }
-        ensures acted { IfOk result (λ p. acted p self.now ≡ go site.now.setup site.now.declared self.now) }
+    fn next_line<'a>(&self, site: &'a ClientSite) -> Option<&'a Line>
+        ensures line { (s : Setup) → go s site.entry.now.declared self.now ≡ go_line s site.entry.now.declared self.now (option_copied result) }
+        ensures short { IfSome result (λ l. is_short_line l.now ≡ true) }
+        ensures more { OnSome result (self.now.done < 2 ^ 63) }
+    {
+        if self.is_connected {
+            site.line(self.done)
+        } else {
+            None
+        }
+    }
+
+    /// What will be done where a client does a line. A line that waits, and a publish to all clusters, take no plan.
+    #[tactic(auto, using(crate::proofs::Publishing::waits, crate::proofs::Publishing::publishes, crate::proofs::HeldLists::acks_none))]
+    fn prepare_line(
+        &self,
+        alloc: Global,
+        site: &ClientSite,
+        line: &Line,
+    ) -> Result<Prepared, Memory>
+        requires short { is_short_line line.now ≡ true }
+        requires more { self.now.done < 2 ^ 63 }
+        requires connection { CanConnect self.now }
+        ensures prepared { IfOk result (λ p. IsPrepared site.now.setup.clusters self.now p (go_line site.now.setup site.now.declared self.now (Some line.now))) }
         ensures fits { IfOk result (λ p. ClientFits p.change self.now) }
     {
-        if !self.is_connected {
-            return Ok(Plan::idle(alloc));
+        match line {
+            Line::Pub { seq, to, key, text } => {
+                if !self.can_publish() {
+                    return Ok(Prepared::idle(alloc));
+                }
+                let published = PubLine::new(*seq, *to, key, text);
+                match self.publish_text(alloc, site, published)? {
+                    Some(text) => self.prepare_publish(alloc, text),
+                    None => self.prepare_any(alloc, site, line),
+                }
+            }
+            Line::AckAll => {
+                if self.held.is_empty() {
+                    return Ok(Prepared::idle(alloc));
+                }
+                self.prepare_any(alloc, site, line)
+            }
+            _ => self.prepare_any(alloc, site, line),
         }
-        match site.line(self.done) {
-            Some(line) => self.goes(alloc, site, line),
-            None => Ok(Plan::idle(alloc)),
-        }
+    }
+
+    /// The next line publishes, by a SEND that is written.
+    fn prepare_publish(&self, alloc: Global, text: Blob) -> Result<Prepared, Memory>
+        ensures { IfOk result (λ p. p ≡ record { change = Some change.Publishes; sent = record { to = peer.Broker self.now.cluster; session = self.now.connection; frame = text } ∷ [] }) }
+    {
+        Prepared::sends(
+            alloc,
+            ClientChange::Publishes,
+            self.connection().written(text),
+        )
+    }
+
+    /// What will be done where a client does a line, by a plan of it.
+    #[tactic(auto, using(crate::proofs::Preparing::prepared_is, crate::proofs::Preparing::prepared_fits))]
+    fn prepare_any(&self, alloc: Global, site: &ClientSite, line: &Line) -> Result<Prepared, Memory>
+        requires short { is_short_line line.now ≡ true }
+        requires more { self.now.done < 2 ^ 63 }
+        requires connection { CanConnect self.now }
+        ensures prepared { IfOk result (λ p. IsPrepared site.now.setup.clusters self.now p (go_line site.now.setup site.now.declared self.now (Some line.now))) }
+        ensures fits { IfOk result (λ p. ClientFits p.change self.now) }
+    {
+        let plan = self.goes(alloc, site, line)?;
+        let prepared = Prepared::write(alloc, site.clusters(), plan)?;
+        Ok(prepared)
     }
 
     /// What a line does.
@@ -100,7 +164,7 @@ impl Client {
         requires { is_short_line line.now ≡ true }
         ensures { IfOk result (λ p. p ≡ record { change = Some change; sent = command site.now.setup site.now.declared (as_connected (record { cluster = self.now.cluster; number = self.now.connection }) self.now) self.now.done (Some line.now) }) }
     {
-        let mut sent = Vec::new(alloc);
+        let mut sent = Vec::with_capacity(alloc, 1)?;
         self.add_command(alloc, site, self.connection(), self.done, line, &mut sent)?;
         Ok(Plan::new(change, sent))
     }

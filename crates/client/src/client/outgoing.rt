@@ -4,7 +4,7 @@ ghost use Rattle.client.specs.Packets.{AreWritten, IsWrittenOut};
 ghost use Rattle.client.specs.Sent.{IsSent};
 
 use frame_values::write_value;
-use geo_base::{ClusterName, Frame, Memory, Out, Peer, WireOut};
+use geo_base::{Blob, ClusterName, Frame, Memory, Out, Peer, WireOut};
 use std::alloc::Global;
 use std::marker::Model;
 
@@ -47,6 +47,17 @@ pub struct Connection {
 }
 
 impl Connection {
+    /// A frame to the broker that is written.
+    pub(super) fn written(self, frame: Blob) -> WireOut
+        ensures { result ≡ record { to = Peer.Broker self.cluster; session = self.number; frame = frame } }
+    {
+        WireOut {
+            to: Peer::Broker(self.cluster),
+            session: self.number,
+            frame,
+        }
+    }
+
     /// A frame to the broker.
     pub(super) fn to_broker(self, frame: Frame) -> ClientOut
         requires { IsSent frame }

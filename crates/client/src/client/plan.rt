@@ -47,7 +47,7 @@ impl Plan {
     pub(super) fn sends(alloc: Global, change: ClientChange, out: ClientOut) -> Result<Plan, Memory>
         ensures { IfOk result (λ p. p ≡ record { change = Some change; sent = out ∷ [] }) }
     {
-        let mut sent = Vec::new(alloc);
+        let mut sent = Vec::with_capacity(alloc, 1)?;
         add(&mut sent, out)?;
         Ok(Plan::new(change, sent))
     }

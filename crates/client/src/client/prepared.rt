@@ -1,5 +1,5 @@
 //! What an event will do at a client, its packets as bytes.
-ghost use Rattle.std.specs.Prelude.{◌≡◌, [], not, is_some, IfOk};
+ghost use Rattle.std.specs.Prelude.{◌≡◌, [], ◌∷◌, not, is_some, IfOk, Some, None};
 ghost use Rattle.client.specs.Packets.{AreWritten};
 
 use crate::client::change::ClientChange;
@@ -7,6 +7,7 @@ use crate::client::outgoing::write_all;
 use crate::client::plan::Plan;
 use geo_base::{ClusterName, Memory, WireOut};
 use std::alloc::Global;
+use std::collections::VecDeque;
 use std::marker::Model;
 
 /// What the client changes, nothing where the event is idle, and the packets that it sends, in order.
@@ -25,6 +26,32 @@ impl Model for Prepared {
 }
 
 impl Prepared {
+    /// The event is not enabled; takes no memory.
+    pub(super) fn idle(alloc: Global) -> Prepared
+        ensures { result ≡ record { change = None; sent = [] } }
+    {
+        Prepared {
+            change: None,
+            sent: Vec::new(alloc),
+        }
+    }
+
+    /// The client changes, and sends one packet.
+    pub(super) fn sends(
+        alloc: Global,
+        change: ClientChange,
+        out: WireOut,
+    ) -> Result<Prepared, Memory>
+        ensures { IfOk result (λ p. p ≡ record { change = Some change; sent = out ∷ [] }) }
+    {
+        let mut sent = Vec::with_capacity(alloc, 1)?;
+        sent.push(out)?;
+        Ok(Prepared {
+            change: Some(change),
+            sent,
+        })
+    }
+
     /// A plan whose packets are written; `names` are those of the clusters.
     pub(super) fn write(
         alloc: Global,
@@ -47,11 +74,11 @@ impl Prepared {
     }
 
     /// What is sent, which is taken out.
-    pub fn take_sent(&mut self, alloc: Global) -> Vec<WireOut>
+    pub fn take_sent(&mut self, alloc: Global) -> VecDeque<WireOut>
         ensures sent { result.items ≡ self.old.sent }
         ensures rest { self.new ≡ record self.old { sent = [] } }
     {
-        std::mem::replace(&mut self.sent, Vec::new(alloc))
+        VecDeque::from_vec(std::mem::replace(&mut self.sent, Vec::new(alloc)))
     }
 
     /// What the client changes.

@@ -4,5 +4,5 @@ use Rattle.broker_offers.proofs.seeking.prepare_restart.Goals as goal
 
 pub returns-clause-prepared : goal.returns-clause-prepared
 returns-clause-prepared c =
-    let is : c.change.new.self ≡ restart_book = c.in_ok-change.ensures ∙ rw (c.in_ok-write.ensures, c.begin.ensures) refl in
+    let is : c.change.new.self ≡ restart_book = c.in_ok-change.ensures.ok ∙ rw (c.in_ok-write.ensures.ok, c.begin.ensures) refl in
     restarts c.args.book.now.site c.args.book.now.broker c.change.new.self is

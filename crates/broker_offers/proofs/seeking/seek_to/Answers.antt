@@ -20,7 +20,7 @@ returns-clause-prepared c =
     let told = c.in_ok-update.ensures ∙ ap (λ (cs : List CachedSnapshot). update_after h b k w cs) cache in
     let is =
     writing_is k w w c.in_ok-update.update (update_after h b k w (sub_at b.subs k).cache) (book_change.Sub sub_change.Cleared ∷ []) c.begin_write.new.plan c.change.new.self c.in_ok-begin_write.ensures.prepared
-    c.in_ok-change.ensures refl told
+    c.in_ok-change.ensures.ok refl told
     in
     seeks h b k c.args.index c.change.new.self c.site-site.ensures.known c.requires.can.kept c.requires.place c.sub_at.ensures.name c.requires.within c.requires.counted is
 
@@ -30,5 +30,5 @@ returns-clause-room c =
     let w = sub_write.Seek c.args.index in
     let o = c.in_ok-update.update in
     let cs = book_change.Sub sub_change.Cleared ∷ [] in
-    let is = writing_is k w w o o cs c.begin_write.new.plan c.change.new.self c.in_ok-begin_write.ensures.prepared c.in_ok-change.ensures refl refl in
+    let is = writing_is k w w o o cs c.begin_write.new.plan c.change.new.self c.in_ok-begin_write.ensures.prepared c.in_ok-change.ensures.ok refl refl in
     writing_room c.begin_write.new.book.room k w o cs c.change.new.self c.in_ok-begin_write.ensures.writes refl refl is

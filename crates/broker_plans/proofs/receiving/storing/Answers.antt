@@ -17,5 +17,5 @@ returns-clause-prepared c =
     let e = c.args.entry in
     let told = stream_tells b.entries e.ident c.in_ok-stream.stream c.accepts.result c.in_ok-stream.ensures c.accepts.ensures in
     let new : accepts b.entries e.ident ≡ true = cc in
-    let is = stores_is e c.in_ok-stream.stream c.begin.new.self c.write.new.self c.in_ok-stream.ensures c.begin.ensures c.in_ok-write.ensures in
+    let is = stores_is e c.in_ok-stream.stream c.begin.new.self c.write.new.self c.in_ok-stream.ensures c.begin.ensures c.in_ok-write.ensures.ok in
     new_stored c.args.book.now.site b e c.write.new.self new c.requires.storable is

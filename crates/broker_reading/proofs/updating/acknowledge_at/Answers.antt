@@ -28,7 +28,7 @@ returns-clause-prepared c =
     let cache = c.cache.ensures ∙ ap (λ (t : Subscription). t.cache) c.sub_at-2.ensures.sub in
     let update = c.in_ok-update.ensures ∙ ap (λ (cs : List CachedSnapshot). update_after h b k made cs) cache ∙ ap (λ (v : SubWrite). update_after h b k v s.cache) write in
     acknowledges h b k y i j c.acknowledge_read.new.plan c.site-site.ensures.known c.requires.can.kept c.requires.reading c.requires.place c.sub_at.ensures.name c.requires.to
-    (acknowledges_is k y i made w c.in_ok-update.update (update_after h b k w s.cache) c.begin_write.new.plan c.change.new.self c.acknowledge_read.new.plan c.in_ok-begin_write.ensures.prepared c.in_ok-change.ensures c.in_ok-acknowledge_read.ensures write update)
+    (acknowledges_is k y i made w c.in_ok-update.update (update_after h b k w s.cache) c.begin_write.new.plan c.change.new.self c.acknowledge_read.new.plan c.in_ok-begin_write.ensures.prepared c.in_ok-change.ensures.ok c.in_ok-acknowledge_read.ensures write update)
 
 pub returns-clause-room : goal.returns-clause-room
 returns-clause-room c =
@@ -41,4 +41,4 @@ returns-clause-room c =
     let update = c.in_ok-update.update in
     let appends = subst (λ (o : Option BookWrite). IfSome o IsAppend) (sym c.in_ok-update.ensures) (update_appends h b k made c.cache.result.now) in
     acknowledges_room c.begin_write.new.book.room k y i made update c.acknowledge_read.new.plan c.in_ok-begin_write.ensures.writes (omega (arith, c.requires.senders, c.in_ok-begin_write.ensures.senders)) appends
-    (acknowledges_is k y i made made update update c.begin_write.new.plan c.change.new.self c.acknowledge_read.new.plan c.in_ok-begin_write.ensures.prepared c.in_ok-change.ensures c.in_ok-acknowledge_read.ensures refl refl)
+    (acknowledges_is k y i made made update update c.begin_write.new.plan c.change.new.self c.acknowledge_read.new.plan c.in_ok-begin_write.ensures.prepared c.in_ok-change.ensures.ok c.in_ok-acknowledge_read.ensures refl refl)

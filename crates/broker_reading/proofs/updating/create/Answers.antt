@@ -22,4 +22,4 @@ returns-clause-prepared c =
     let quiet = c.begin.ensures ∙ ap quiet_book place in
     created c.args.book.now.site b y i c.args.sub j c.in_ok-sub.sub c.acknowledge_read.new.plan c.requires.reading c.requires.missing c.requires.to c.in_ok-sub.ensures.sub
     (created_steps k y i c.in_ok-sub.sub (sub_write.Passed j y c.runs-runs.result) (update_acks b.entries [] y j) c.begin.new.self c.write.new.self c.write-2.new.self c.change.new.self c.acknowledge_read.new.plan quiet
-    c.in_ok-write.ensures c.in_ok-write-2.ensures c.in_ok-change.ensures c.in_ok-acknowledge_read.ensures (ap (λ r. sub_write.Passed j y r) runs))
+    c.in_ok-write.ensures.ok c.in_ok-write-2.ensures.ok c.in_ok-change.ensures.ok c.in_ok-acknowledge_read.ensures (ap (λ r. sub_write.Passed j y r) runs))

@@ -12,7 +12,7 @@ returns-clause-prepared c =
     let b = c.args.book.now.broker in
     let k = c.args.place in
     let w = c.args.write in
-    let is = ack_is k w c.in_ok-update.update c.begin_write.new.plan c.change.new.self c.in_ok-begin_write.ensures.prepared c.in_ok-change.ensures in
+    let is = ack_is k w c.in_ok-update.update c.begin_write.new.plan c.change.new.self c.in_ok-begin_write.ensures.prepared c.in_ok-change.ensures.ok in
     let cache = c.cache.ensures ∙ ap (λ (s : Subscription). s.cache) c.sub_at.ensures.sub in
     let told = c.in_ok-update.ensures ∙ ap (λ (cs : List CachedSnapshot). update_after h b k w cs) cache in
     acked h b k w c.change.new.self c.site-site.ensures.known c.requires.can.kept c.requires.place c.sub_at.ensures.name c.requires.fits

@@ -11,4 +11,4 @@ returns-clause-halted c =
     let p = c.args.self.now in
     let q = c.stop_behind.new.self in
     on_ok_weaker {P = q ≡ halted_book c.args.k p} {Q = (per : ℕ) (b : Broker) → done per b (plan_in b q) ≡ halted per b c.args.k (plan_in b p)} c.stop_behind.result
-    (λ is per b. ap (λ (q : PlanBook). done per b (plan_in b q)) is ∙ halted_done per c.args.k b p) c.stop_behind.ensures
+    (λ is per b. ap (λ (q : PlanBook). done per b (plan_in b q)) is ∙ halted_done per c.args.k b p) c.stop_behind.ensures.ok

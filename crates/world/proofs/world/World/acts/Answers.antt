@@ -2,8 +2,38 @@ use Rattle.std.proofs.Common.{sym, subst}
 use Rattle.geo_base.specs.Happening.{happens}
 use Rattle.world_kept.specs.Standing.{Stands}
 use Rattle.world.specs.Steps.{Acts}
-use Rattle.world.specs.World.{WorldBook, kept_of}
+use Rattle.std.proofs.lemmas.Result.{err_from_is_err_and}
+use Rattle.world.specs.World.{SameWorld, WorldBook, kept_of}
+use Rattle.world.proofs.Acting.{acts_wants, later_same}
+use Rattle.world.proofs.Places.{at_same}
+use Rattle.world.proofs.Waiting.{acts_waiting, same_itself}
 use Rattle.world.proofs.world.World.acts.Goals as goal
+
+pub returns-then-is_waiting : goal.returns-then-is_waiting
+returns-then-is_waiting c =
+    let b = c.args.self.now in
+    record {
+      acts = λ w reached stands.
+          acts_waiting c.args.scenario.now.setup b w c.args.event.now c.place_of-place.result c.requires.at c.requires.broker c.requires.scripted c.place_of-place.ensures
+          (c.is_waiting.ensures c.if-is_waiting.true) reached stands;
+      at = c.requires.at;
+      later = later_same b b (same_itself b);
+      idle = λ is. same_itself b;
+      err = tt;
+    }
+
+pub returns-in_err-plan : goal.returns-in_err-plan
+returns-in_err-plan c =
+    let s = c.args.scenario.now.setup in let old = c.args.self.now in let mid = c.take_plan.new.self in
+    let same = subst (λ (b : WorldBook). SameWorld old b) (sym c.take_plan.ensures.same) (same_itself old) in
+    let p = err_from_is_err_and c.from_residual.result c.from_residual.ensures.1 in
+    record {
+      acts = λ w reached stands. rw (p.1, p.2) (acts_wants s old mid (happens s w c.args.event.now));
+      at = at_same s old mid c.requires.at same;
+      later = later_same old mid same;
+      idle = λ is. same;
+      err = rw p.1 same;
+    }
 
 pub returns-clause-acts : goal.returns-clause-acts
 returns-clause-acts c w reached stands =
@@ -11,5 +41,5 @@ returns-clause-acts c w reached stands =
     let new = c.acts_in-acted.new.self in
     let next = happens s w c.args.event.now in
     let r = c.acts_in-acted.result in
-    let acts = c.acts_in-acted.ensures.acts w reached (subst (λ (b : WorldBook). Stands s (kept_of b) w) (sym c.take_plan-plan.ensures.same) stands) in
-    subst (λ (b : WorldBook). Acts s c.args.self.now b next r) (sym c.keep_plan.ensures) (subst (λ (b : WorldBook). Acts s b new next r) c.take_plan-plan.ensures.same acts)
+    let acts = c.acts_in-acted.ensures.acts w reached (subst (λ (b : WorldBook). Stands s (kept_of b) w) (sym c.take_plan.ensures.same) stands) in
+    subst (λ (b : WorldBook). Acts s c.args.self.now b next r) (sym c.keep_plan.ensures) (subst (λ (b : WorldBook). Acts s b new next r) c.take_plan.ensures.same acts)

@@ -1,7 +1,7 @@
 use Rattle.std.proofs.Common.{sym, ◌∙◌, ap}
 use Rattle.geo_base.specs.Client.{Client}
 use Rattle.client.proofs.Wire.{discarded_stays, other_stays, read_acts, said_of}
-use Rattle.client.proofs.client.Client.take.Goals as goal
+use Rattle.client.proofs.client.Client.take_any.Goals as goal
 
 pub returns-then-packet-self-clause-client : goal.returns-then-packet-self-clause-client
 returns-then-packet-self-clause-client c =

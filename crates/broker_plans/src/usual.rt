@@ -1,0 +1,183 @@
+//! SENDs of the usual form, whose parts are looked at in their place, so that an entry is made once, where it is stored.
+ghost use Rattle.std.specs.Prelude.{◌≡◌, ℕ, ◌≤◌, ◌++◌, ◌∷◌, true, [], Some, IfOk, List, OnOk};
+ghost use Rattle.std.specs.Option.{option_copied};
+ghost use Rattle.dedup_table.specs.Table.{stream_of};
+ghost use Rattle.geo_base.specs.Plan.{plan_of};
+ghost use Rattle.geo_base.specs.Sizes.{entry_size, most_entry_size};
+ghost use Rattle.geo_base.specs.Storing.{receipt_position, storing};
+ghost use Rattle.broker_state.specs.Plan.{IsEmptyPlan};
+ghost use Rattle.broker_state.specs.Room.{HasRoom};
+ghost use Rattle.broker_state.specs.State.{SameState};
+ghost use Rattle.broker_plans.specs.Prepared.{AlsoSends, IsPrepared};
+ghost use Rattle.broker_plans.specs.Storable.{IsStorable};
+ghost use Rattle.broker_plans.specs.Updates.{appending};
+ghost use Rattle.broker_plans.specs.Usual.{entry_viewed, receipt_out, text_length};
+
+use crate::receiving::NOWHERE;
+use broker_state::{BookWrite, BrokerState, Plan};
+use dedup_table::Stream;
+use geo_base::limits::ENTRY_BYTES;
+use geo_base::{
+    Blob, Content, Entry, EntryStore, Ident, Memory, Metadata, Peer, Position, ProducerName,
+    Sequence, Targets, Text, WireOut,
+};
+use pulsar_commands::CommandView;
+use pulsar_frames::{MessageView, write_usual_command};
+use std::alloc::Global;
+
+/// How long the texts of metadata of the usual form are at most, for an entry that is stored without a count of its bytes (own).
+const SHORT: usize = 128;
+
+/// More bytes than metadata has whose texts are short (own).
+const META_BYTES: u64 = 512;
+
+/// A SEND of the usual form, in a session.
+#[derive(Clone, Copy, Debug)]
+pub struct Came<'a> {
+    pub session: u64,
+    pub id: u64,
+    pub seq: u64,
+    pub message: MessageView<'a>,
+}
+
+/// Who sent a SEND, and its session, producer and number, which its receipt names.
+#[derive(Clone, Copy, Debug, Drop)]
+pub struct Answered {
+    pub to: Peer,
+    pub session: u64,
+    pub id: u64,
+    pub seq: u64,
+}
+
+/// Whether a message is certain to be small enough to be stored; `false` says nothing of it.
+#[tactic(auto, using(crate::proofs::UsualMessages::small_size))]
+pub fn is_small(message: MessageView<'_>) -> bool
+    ensures { result ≡ true → ((names : List (List ℕ)) (x : ℕ) → entry_size names (entry_viewed x message.entry) ≤ most_entry_size) }
+{
+    if message.meta.producer.len() >= SHORT || text_len(message.meta.key) >= SHORT {
+        return false;
+    }
+    if message.payload.len() as u64 > ENTRY_BYTES - META_BYTES {
+        return false;
+    }
+    true
+}
+
+/// How many bytes a text has that may be absent.
+fn text_len(text: Option<&str>) -> usize
+    ensures { result ≡ text_length (option_copied text.entry) }
+{
+    match text {
+        None => 0,
+        Some(text) => text.len(),
+    }
+}
+
+/// An event that stores a message which came, of a cluster, unless it is a duplicate. The answer is the position that its receipt
+/// names.
+#[tactic(auto, using(crate::proofs::Keeping::new_place, crate::proofs::Keeping::old_place, crate::proofs::Keeping::new_room, crate::proofs::Keeping::no_room))]
+pub fn storing_message(
+    alloc: Global,
+    book: &mut BrokerState,
+    origin: u32,
+    message: MessageView<'_>,
+    plan: &mut Plan,
+) -> Result<Position, Memory>
+    requires storable { IsStorable book.old.site (entry_viewed origin message) }
+    requires empty { IsEmptyPlan plan.old }
+    ensures prepared { OnOk result (IsPrepared book.old.site book.old.broker (plan_of (storing book.old.broker (entry_viewed origin message.entry)) [] []) plan.new) }
+    ensures position { IfOk result (λ p. Some p ≡ receipt_position book.old.site.per_ledger book.old.broker (entry_viewed origin message.entry)) }
+    ensures room { OnOk result (HasRoom book.new.room plan.new) }
+    ensures kept { SameState book.old book.new }
+{
+    let stream = stream_of(alloc, origin, message)?;
+    plan.begin(0);
+    if !book.accepts(&stream, message.meta.seq) {
+        return Ok(NOWHERE);
+    }
+    book.reserve_entries(1)?;
+    append_message(alloc, origin, stream, message, plan)?;
+    Ok(book.store().next())
+}
+
+/// The stream of a message of a cluster.
+fn stream_of(alloc: Global, origin: u32, message: MessageView<'_>) -> Result<Stream, Memory>
+    ensures { IfOk result (λ s. s ≡ stream_of (entry_viewed origin message.entry).ident) }
+{
+    Ok(Stream {
+        origin,
+        producer: ProducerName::any(alloc, message.meta.producer)?,
+    })
+}
+
+/// The write that stores a message of a cluster.
+#[tactic(auto, using(crate::proofs::UsualMessages::appended))]
+fn append_message(
+    alloc: Global,
+    origin: u32,
+    stream: Stream,
+    message: MessageView<'_>,
+    plan: &mut Plan,
+) -> Result<(), Memory>
+    requires { stream ≡ stream_of (entry_viewed origin message).ident }
+    ensures { OnOk result (plan.new ≡ record plan.old { writes = plan.old.writes ++ appending (entry_viewed origin message.entry) ∷ [] }) }
+{
+    let MessageView { meta, payload } = message;
+    let key = copy_of(alloc, meta.key)?;
+    let producer = ProducerName::any(alloc, meta.producer)?;
+    let payload = Blob::from_slice(alloc, payload)?;
+    let entry = Entry {
+        ident: Ident {
+            origin,
+            producer,
+            seq: meta.seq,
+        },
+        content: Content::Data,
+        to: Targets::All,
+        meta: Metadata {
+            publish_time: meta.publish_time,
+            key,
+            names: Sequence::new(alloc),
+            rest: Blob::new(alloc),
+        },
+        payload,
+    };
+    plan.write(BookWrite::Append { entry, stream })?;
+    Ok(())
+}
+
+/// A copy of a text that may be absent.
+fn copy_of(alloc: Global, text: Option<&str>) -> Result<Option<Text>, Memory>
+    ensures { IfOk result (λ copy. copy ≡ option_copied text.entry) }
+{
+    match text {
+        None => Ok(None),
+        Some(text) => Ok(Some(Text::from_str(alloc, text)?)),
+    }
+}
+
+/// An event that sends, behind all that it does, the receipt of a SEND.
+#[tactic(auto, using(frame_values::proofs::UsualValues::receipt_written))]
+pub fn also_receipt(
+    alloc: Global,
+    book: &BrokerState,
+    plan: &mut Plan,
+    answered: Answered,
+    position: Position,
+) -> Result<(), Memory>
+    ensures { OnOk result (AlsoSends book.now.site.clusters (receipt_out answered position) plan.old plan.new) }
+{
+    let Answered {
+        to,
+        session,
+        id,
+        seq,
+    } = answered;
+    let command = CommandView::SendReceipt {
+        producer_id: id,
+        sequence_id: seq,
+        message_id: position,
+    };
+    let frame = write_usual_command(alloc, command)?;
+    plan.send(WireOut { to, session, frame })
+}
