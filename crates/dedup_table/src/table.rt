@@ -1,5 +1,5 @@
 //! The table itself.
-ghost use Rattle.std.specs.Prelude.{◌≡◌, ◌<◌, ◌≤◌, ◌-◌, List, [], ◌∷◌, ◌++◌, IfOk, OnOk};
+ghost use Rattle.std.specs.Prelude.{◌≡◌, ◌<◌, ◌≤◌, ◌-◌, List, [], ◌∷◌, ◌++◌, IfOk, OnErr, OnOk};
 ghost use Rattle.geo_base.specs.declared.entry.Entry.{Entry};
 ghost use Rattle.dedup_table.specs.Table.{noted, verdict, Tells};
 
@@ -64,6 +64,7 @@ impl DedupTable {
         ensures rows { self.new.rows ≡ self.old.rows }
         ensures ok { OnOk result (n ≤ self.new.room) }
         ensures more { self.old.room ≤ self.new.room }
+        ensures err { OnErr result (self.new ≡ self.old) }
     {
         self.highest.reserve(n)?;
         self.room = self.room.max(n);

@@ -1,7 +1,7 @@
 //! The report of a world, line by line.
 //!
-//! Each part appends its lines to those before it. Where a part wants memory, it is left open what it appended, since the whole
-//! is made apart from where it goes.
+//! Each part appends its lines to those before it. Where a part wants memory, those before stand: the whole is made apart from where
+//! it goes.
 ghost use Rattle.std.specs.Prelude.{◌≡◌, ◌<◌, ◌++◌, ◌∷◌, [], length, OnOk, OnErr};
 ghost use Rattle.geo_base.specs.Report.{client_lines, cluster_lines, head_line, report, topic_lines, with_line_feeds};
 ghost use Rattle.geo_top.specs.Shown.{shown_world};
@@ -32,9 +32,10 @@ pub fn append_report(
     out.append(lines.as_slice())
 }
 
-/// The counts of a run.
+/// The counts of a run; unchanged where memory is wanting.
 pub fn add_head(alloc: Global, lines: &mut Blob, world: &World) -> Result<(), Memory>
-    ensures { OnOk result (lines.new ≡ lines.old ++ (head_line (shown_world world.now) ++ 10 ∷ [])) }
+    ensures ok { OnOk result (lines.new ≡ lines.old ++ (head_line (shown_world world.now) ++ 10 ∷ [])) }
+    ensures err { OnErr result (lines.new ≡ lines.old) }
 {
     let counts = world.counts();
     let line = head_line(alloc, counts.events, counts.idle, counts.rounds)?;

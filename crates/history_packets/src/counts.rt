@@ -1,5 +1,5 @@
 //! Counts by slot.
-ghost use Rattle.std.specs.Prelude.{◌≡◌, ◌<◌, ℕ, ◌+◌, ◌==◌, OnOk, if◌then◌else◌, length};
+ghost use Rattle.std.specs.Prelude.{◌≡◌, ◌<◌, ℕ, ◌+◌, ◌==◌, OnErr, OnOk, if◌then◌else◌, length};
 ghost use Rattle.history_packets.specs.Slots.{IsRaised, count_in};
 
 use crate::slot::slot;
@@ -42,9 +42,10 @@ impl Counts {
         }
     }
 
-    /// One more in the slot of a peer, if there is one.
+    /// One more in the slot of a peer, if there is one; each count is as before where memory is wanting.
     pub fn raise_for(&mut self, peer: Option<Peer>) -> Result<(), Memory>
-        ensures { OnOk result (IsRaised peer self.old self.new) }
+        ensures ok { OnOk result (IsRaised peer self.old self.new) }
+        ensures err { OnErr result ((k : ℕ) → count_in self.new k ≡ count_in self.old k) }
     {
         match peer {
             Some(peer) => self.raise(slot(peer)),
@@ -54,7 +55,8 @@ impl Counts {
 
     /// One more in a slot. A count past 64 bits is in no memory.
     fn raise(&mut self, slot: usize) -> Result<(), Memory>
-        ensures { OnOk result ((k : ℕ) → count_in self.new k ≡ (if slot == k then count_in self.old k + 1 else count_in self.old k)) }
+        ensures ok { OnOk result ((k : ℕ) → count_in self.new k ≡ (if slot == k then count_in self.old k + 1 else count_in self.old k)) }
+        ensures err { OnErr result ((k : ℕ) → count_in self.new k ≡ count_in self.old k) }
     {
         self.reach(slot)?;
         self.counts[slot] = match self.counts[slot].checked_add(1) {

@@ -1,5 +1,5 @@
 //! A ledger's text, written.
-ghost use Rattle.std.specs.Prelude.{◌≡◌, ◌++◌, length, OnOk};
+ghost use Rattle.std.specs.Prelude.{◌≡◌, ◌++◌, length, OnOk, OnErr, take};
 ghost use Rattle.std.specs.List.{flat_map};
 ghost use Rattle.ledger_texts.specs.Readable.{AreReadable, AreTellable, IsReadable, IsTellable};
 ghost use Rattle.ledger_texts.specs.Texts.{item_text, kind_text, ledger_text, targets_text};
@@ -24,6 +24,7 @@ pub fn put_ledger(
     requires { AreTellable names.now own entries.now }
     ensures text { OnOk result (out.new ≡ out.old ++ ledger_text names.now own entries.now) }
     ensures readable { OnOk result (AreReadable names.now own entries.now) }
+    ensures err { OnErr result (take (length out.old) out.new ≡ out.old) }
 {
     put_number(out, entries.len() as u64)?;
     put_each(alloc, out, names, own, entries)
@@ -41,6 +42,7 @@ fn put_each(
     requires { AreTellable names.now own entries.now }
     ensures text { OnOk result (out.new ≡ out.old ++ flat_map (item_text names.now own) entries.now) }
     ensures readable { OnOk result (AreReadable names.now own entries.now) }
+    ensures err { OnErr result (take (length out.old) out.new ≡ out.old) }
 {
     for entry in entries {
         put_item(alloc, out, names, own, entry)?;
@@ -60,6 +62,7 @@ fn put_item(
     requires { IsTellable names.now own entry.now }
     ensures text { OnOk result (out.new ≡ out.old ++ item_text names.now own entry.now) }
     ensures readable { OnOk result (IsReadable names.now own entry.now) }
+    ensures err { OnErr result (take (length out.old) out.new ≡ out.old) }
 {
     put_word(out, entry.ident.origin)?;
     put_text(out, entry.ident.producer.as_bytes())?;
@@ -71,7 +74,8 @@ fn put_item(
 
 /// Appends what an entry is: the number of a marker's type.
 fn put_kind(out: &mut Blob, kind: Option<u64>) -> Result<(), Memory>
-    ensures { OnOk result (out.new ≡ out.old ++ kind_text kind) }
+    ensures ok { OnOk result (out.new ≡ out.old ++ kind_text kind) }
+    ensures err { OnErr result (take (length out.old) out.new ≡ out.old) }
 {
     match kind {
         None => put_byte(out, 0),
@@ -84,7 +88,8 @@ fn put_kind(out: &mut Blob, kind: Option<u64>) -> Result<(), Memory>
 
 /// Appends the clusters that an entry is for.
 fn put_targets(out: &mut Blob, to: Targets) -> Result<(), Memory>
-    ensures { OnOk result (out.new ≡ out.old ++ targets_text to) }
+    ensures ok { OnOk result (out.new ≡ out.old ++ targets_text to) }
+    ensures err { OnErr result (take (length out.old) out.new ≡ out.old) }
 {
     match to {
         Targets::All => put_byte(out, 0),

@@ -1,11 +1,12 @@
 -- Lines that are appended one after another: what each leaves of the whole.
-use Rattle.std.proofs.Common.{◌≡◌, ℕ, suc, zero, ◌+◌, ◌<◌, ◌≤◌, List, [], ◌∷◌, ◌++◌, drop, length, refl, sym, ◌∙◌, append_assoc, arith}
+use Rattle.std.proofs.Common.{◌≡◌, ℕ, suc, zero, ◌+◌, ◌<◌, ◌≤◌, List, [], ◌∷◌, ◌++◌, drop, take, length, refl, sym, ◌∙◌, append_assoc, arith}
 use Rattle.std.proofs.Math.ListN.{drop_of_length-le}
 use Rattle.std.proofs.lemmas.List.{append-nil}
 use Rattle.std.specs.Prelude.{Some, slice_get}
 use Rattle.geo_base.specs.declared.entry.Entry.{Entry}
 use Rattle.geo_base.specs.Report.{entry_line, entry_lines, with_line_feeds}
 use Rattle.geo_base.specs.Topic.{position_at}
+use Rattle.report_lines.proofs.Standing.{still_stands}
 
 -- one line of those that are left
 pub line_added : (old new line whole : List ℕ) (rest : List (List ℕ)) → new ≡ old ++ (line ++ 10 ∷ [])
@@ -38,6 +39,13 @@ pub next_added : (names : List (List ℕ)) (ledgers : List ℕ) (entries : List 
     → new ++ with_line_feeds (entry_lines names ledgers (i + 1) (drop (i + 1) entries)) ≡ whole
 next_added names ledgers entries i old new whole within added before =
     let e = item entries i within in entry_added names ledgers entries i e.0 old new whole e.1 (added e.0 e.1) before
+
+-- and what stood before it stands
+pub next_stands : (names : List (List ℕ)) (ledgers : List ℕ) (entries : List Entry) (i : ℕ) (first old new : List ℕ) → i < length entries
+    → ((e : Entry) → slice_get entries i ≡ Some e → new ≡ old ++ (entry_line names (position_at ledgers i) e ++ 10 ∷ []))
+    → take (length first) old ≡ first → take (length first) new ≡ first
+next_stands names ledgers entries i first old new within added stands =
+    let e = item entries i within in still_stands first old new (entry_line names (position_at ledgers i) e.0 ++ 10 ∷ []) (added e.0 e.1) stands
 
 -- behind the last one there is none
 pub all_added : (names : List (List ℕ)) (ledgers : List ℕ) (entries : List Entry) (i : ℕ) (new whole : List ℕ) → length entries ≤ i

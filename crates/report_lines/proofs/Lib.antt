@@ -2,3 +2,4 @@ pub mod Names
 pub mod Wholes
 pub mod Added
 pub mod Shown
+pub mod Standing

@@ -1,7 +1,8 @@
 //! Lines behind lines.
 //!
-//! Where memory ends in the midst, it is left open what was appended, since a whole report is made apart from where it goes.
-ghost use Rattle.std.specs.Prelude.{◌≡◌, ◌≤◌, ◌<◌, ◌++◌, ◌∷◌, [], length, map, slice_get, Some, OnOk, string_bytes};
+//! Where memory ends in the midst, what stood before stands, with a part of what was to be appended or none: a whole report is made
+//! apart from where it goes.
+ghost use Rattle.std.specs.Prelude.{◌≡◌, ◌≤◌, ◌<◌, ◌++◌, ◌∷◌, [], length, map, slice_get, Some, OnOk, string_bytes, OnErr, take};
 ghost use Rattle.geo_base.specs.declared.entry.Entry.{Entry};
 ghost use Rattle.geo_base.specs.Report.{entry_line, entry_lines, got_line, with_line_feeds, words};
 ghost use Rattle.geo_base.specs.Topic.{position_at};
@@ -13,7 +14,8 @@ use geo_base::{Blob, ClusterName, Entry, EntryStore, Ident, Memory, Position};
 
 /// Appends one more line.
 pub fn add(lines: &mut Blob, line: String) -> Result<(), Memory>
-    ensures { OnOk result (lines.new ≡ lines.old ++ string_bytes line) }
+    ensures ok { OnOk result (lines.new ≡ lines.old ++ string_bytes line) }
+    ensures err { OnErr result (lines.new ≡ lines.old) }
 {
     lines.append(line.as_bytes())
 }
@@ -25,7 +27,8 @@ pub fn add_entries<S: EntryStore>(
     store: &S,
 ) -> Result<(), Memory>
     requires { length clusters.now ≤ CLUSTERS }
-    ensures { OnOk result (lines.new ≡ lines.old ++ with_line_feeds (entry_lines clusters.now (S.ledgers store.now) 0 (S.entries store.now))) }
+    ensures ok { OnOk result (lines.new ≡ lines.old ++ with_line_feeds (entry_lines clusters.now (S.ledgers store.now) 0 (S.entries store.now))) }
+    ensures err { OnErr result (take (length lines.old) lines.new ≡ lines.old) }
 {
     for index in 0..store.len() {
         add_entry(lines, clusters, store, index)?;
@@ -42,7 +45,8 @@ pub fn add_entry<S: EntryStore>(
 ) -> Result<(), Memory>
     requires few { length clusters.now ≤ CLUSTERS }
     requires within { index < length (S.entries store.now) }
-    ensures { (e : Entry) → slice_get (S.entries store.now) index ≡ Some e → OnOk result (lines.new ≡ lines.old ++ (entry_line clusters.now (position_at (S.ledgers store.now) index) e ++ 10 ∷ [])) }
+    ensures ok { (e : Entry) → slice_get (S.entries store.now) index ≡ Some e → OnOk result (lines.new ≡ lines.old ++ (entry_line clusters.now (position_at (S.ledgers store.now) index) e ++ 10 ∷ [])) }
+    ensures err { OnErr result (take (length lines.old) lines.new ≡ lines.old) }
 {
     let position = place(store, index);
     match store.get(index) {
@@ -60,7 +64,8 @@ pub fn add_entry_line(
     entry: &Entry,
 ) -> Result<(), Memory>
     requires { length clusters.now ≤ CLUSTERS }
-    ensures { OnOk result (lines.new ≡ lines.old ++ (entry_line clusters.now position entry.now ++ 10 ∷ [])) }
+    ensures ok { OnOk result (lines.new ≡ lines.old ++ (entry_line clusters.now position entry.now ++ 10 ∷ [])) }
+    ensures err { OnErr result (take (length lines.old) lines.new ≡ lines.old) }
 {
     lines.append(b"entry ")?;
     add_entry_words(lines, clusters, position, entry)?;
@@ -76,7 +81,8 @@ pub fn add_entry_words(
     entry: &Entry,
 ) -> Result<(), Memory>
     requires { length clusters.now ≤ CLUSTERS }
-    ensures { OnOk result (lines.new ≡ lines.old ++ words (entry_words clusters.now position entry.now)) }
+    ensures ok { OnOk result (lines.new ≡ lines.old ++ words (entry_words clusters.now position entry.now)) }
+    ensures err { OnErr result (take (length lines.old) lines.new ≡ lines.old) }
 {
     add_position(lines, position)?;
     lines.append(b" ")?;
@@ -102,7 +108,8 @@ fn place<S: EntryStore>(store: &S, index: usize) -> Position
 
 /// Appends the messages that a client got, in order of receipt.
 pub fn add_got(lines: &mut Blob, clusters: &[ClusterName], got: &[Ident]) -> Result<(), Memory>
-    ensures { OnOk result (lines.new ≡ lines.old ++ with_line_feeds (map (got_line clusters.now) got.now)) }
+    ensures ok { OnOk result (lines.new ≡ lines.old ++ with_line_feeds (map (got_line clusters.now) got.now)) }
+    ensures err { OnErr result (take (length lines.old) lines.new ≡ lines.old) }
 {
     for ident in got {
         add_one(lines, clusters, ident)?;
@@ -112,7 +119,8 @@ pub fn add_got(lines: &mut Blob, clusters: &[ClusterName], got: &[Ident]) -> Res
 
 /// A message that a client got.
 fn add_one(lines: &mut Blob, clusters: &[ClusterName], ident: &Ident) -> Result<(), Memory>
-    ensures { OnOk result (lines.new ≡ lines.old ++ (got_line clusters.now ident.now ++ 10 ∷ [])) }
+    ensures ok { OnOk result (lines.new ≡ lines.old ++ (got_line clusters.now ident.now ++ 10 ∷ [])) }
+    ensures err { OnErr result (take (length lines.old) lines.new ≡ lines.old) }
 {
     lines.append(b"got ")?;
     add_ident(lines, clusters, ident)?;

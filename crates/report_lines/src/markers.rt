@@ -1,5 +1,5 @@
 //! The words of a marker (PIP-33), appended to what stands before them.
-ghost use Rattle.std.specs.Prelude.{◌≡◌, ◌++◌, [], ◌∷◌, codes, map, OnOk};
+ghost use Rattle.std.specs.Prelude.{◌≡◌, ◌++◌, [], ◌∷◌, codes, map, OnOk, OnErr, take, length};
 ghost use Rattle.geo_base.specs.Report.{printed, shown_cluster_position, shown_marker, shown_position, words};
 ghost use Rattle.geo_base.specs.Sizes.{place_name};
 ghost use Rattle.report_lines.specs.Spaced.{spaced};
@@ -14,7 +14,8 @@ pub(crate) fn add_marker(
     clusters: &[ClusterName],
     marker: &Marker,
 ) -> Result<(), Memory>
-    ensures { OnOk result (lines.new ≡ lines.old ++ words (shown_marker clusters.now marker.now)) }
+    ensures ok { OnOk result (lines.new ≡ lines.old ++ words (shown_marker clusters.now marker.now)) }
+    ensures err { OnErr result (take (length lines.old) lines.new ≡ lines.old) }
 {
     match marker {
         Marker::Request { id, source } => add_request(lines, clusters, id.as_bytes(), source),
@@ -36,7 +37,8 @@ fn add_request(
     id: &[u8],
     source: &Place,
 ) -> Result<(), Memory>
-    ensures { OnOk result (lines.new ≡ lines.old ++ words (codes "request" ∷ printed id.now ∷ printed (place_name clusters.now source.now) ∷ [])) }
+    ensures ok { OnOk result (lines.new ≡ lines.old ++ words (codes "request" ∷ printed id.now ∷ printed (place_name clusters.now source.now) ∷ [])) }
+    ensures err { OnErr result (take (length lines.old) lines.new ≡ lines.old) }
 {
     lines.append(b"request ")?;
     add_printed(lines, id)?;
@@ -50,7 +52,8 @@ fn add_response(
     id: &[u8],
     answer: &ClusterPosition,
 ) -> Result<(), Memory>
-    ensures { OnOk result (lines.new ≡ lines.old ++ words (codes "response" ∷ printed id.now ∷ shown_cluster_position clusters.now answer.now ∷ [])) }
+    ensures ok { OnOk result (lines.new ≡ lines.old ++ words (codes "response" ∷ printed id.now ∷ shown_cluster_position clusters.now answer.now ∷ [])) }
+    ensures err { OnErr result (take (length lines.old) lines.new ≡ lines.old) }
 {
     lines.append(b"response ")?;
     add_printed(lines, id)?;
@@ -60,7 +63,8 @@ fn add_response(
 
 /// A snapshot without its remote positions.
 fn add_snapshot(lines: &mut Blob, id: &[u8], local: Position) -> Result<(), Memory>
-    ensures { OnOk result (lines.new ≡ lines.old ++ (codes "snapshot" ++ (32 ∷ (printed id.now ++ (32 ∷ shown_position local))))) }
+    ensures ok { OnOk result (lines.new ≡ lines.old ++ (codes "snapshot" ++ (32 ∷ (printed id.now ++ (32 ∷ shown_position local))))) }
+    ensures err { OnErr result (take (length lines.old) lines.new ≡ lines.old) }
 {
     lines.append(b"snapshot ")?;
     add_printed(lines, id)?;
@@ -70,7 +74,8 @@ fn add_snapshot(lines: &mut Blob, id: &[u8], local: Position) -> Result<(), Memo
 
 /// An update without its remote positions.
 fn add_update(lines: &mut Blob, sub: &[u8]) -> Result<(), Memory>
-    ensures { OnOk result (lines.new ≡ lines.old ++ (codes "update" ++ (32 ∷ printed sub.now))) }
+    ensures ok { OnOk result (lines.new ≡ lines.old ++ (codes "update" ++ (32 ∷ printed sub.now))) }
+    ensures err { OnErr result (take (length lines.old) lines.new ≡ lines.old) }
 {
     lines.append(b"update ")?;
     add_printed(lines, sub)
@@ -82,7 +87,8 @@ fn add_positions(
     clusters: &[ClusterName],
     remote: &[ClusterPosition],
 ) -> Result<(), Memory>
-    ensures { OnOk result (lines.new ≡ lines.old ++ spaced (map (shown_cluster_position clusters.now) remote.now)) }
+    ensures ok { OnOk result (lines.new ≡ lines.old ++ spaced (map (shown_cluster_position clusters.now) remote.now)) }
+    ensures err { OnErr result (take (length lines.old) lines.new ≡ lines.old) }
 {
     for position in remote {
         lines.append(b" ")?;
@@ -97,7 +103,8 @@ fn add_cluster_position(
     clusters: &[ClusterName],
     position: &ClusterPosition,
 ) -> Result<(), Memory>
-    ensures { OnOk result (lines.new ≡ lines.old ++ shown_cluster_position clusters.now position.now) }
+    ensures ok { OnOk result (lines.new ≡ lines.old ++ shown_cluster_position clusters.now position.now) }
+    ensures err { OnErr result (take (length lines.old) lines.new ≡ lines.old) }
 {
     add_place(lines, clusters, &position.cluster)?;
     lines.append(b"=")?;
@@ -106,7 +113,8 @@ fn add_cluster_position(
 
 /// The name of a cluster that a marker names.
 fn add_place(lines: &mut Blob, clusters: &[ClusterName], place: &Place) -> Result<(), Memory>
-    ensures { OnOk result (lines.new ≡ lines.old ++ printed (place_name clusters.now place.now)) }
+    ensures ok { OnOk result (lines.new ≡ lines.old ++ printed (place_name clusters.now place.now)) }
+    ensures err { OnErr result (take (length lines.old) lines.new ≡ lines.old) }
 {
     match place {
         Place::Known(cluster) => add_printed(lines, cluster_name(clusters, *cluster).as_bytes()),

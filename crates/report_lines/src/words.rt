@@ -1,5 +1,5 @@
 //! The words of the report's lines, each appended to what stands before it.
-ghost use Rattle.std.specs.Prelude.{◌≡◌, ◌<◌, ◌≤◌, ◌&&◌, [], ◌∷◌, ◌++◌, length, nat_le, codes, decimal, if◌then◌else◌, IfOk, OnOk, slice_index_or, string_bytes};
+ghost use Rattle.std.specs.Prelude.{◌≡◌, ◌<◌, ◌≤◌, ◌&&◌, [], ◌∷◌, ◌++◌, length, nat_le, codes, decimal, if◌then◌else◌, IfOk, OnErr, OnOk, slice_index_or, string_bytes, take};
 ghost use Rattle.std.specs.List.{list_all};
 ghost use Rattle.geo_base.specs.Client.{target_names};
 ghost use Rattle.geo_base.specs.Report.{commas, printed, shown_content, shown_ident, shown_key, shown_kind, shown_position, shown_replicated, shown_state, shown_targets, words};
@@ -16,7 +16,8 @@ use std::alloc::Global;
 /// Bytes of which a terminal shows each as itself: others are shown as `?`.
 #[tactic(auto, using(crate::proofs::Shown::shown_whole))]
 pub(crate) fn add_printed(lines: &mut Blob, bytes: &[u8]) -> Result<(), Memory>
-    ensures { OnOk result (lines.new ≡ lines.old ++ printed bytes.now) }
+    ensures ok { OnOk result (lines.new ≡ lines.old ++ printed bytes.now) }
+    ensures err { OnErr result (take (length lines.old) lines.new ≡ lines.old) }
 {
     if are_shown(bytes) {
         return lines.append(bytes);
@@ -48,14 +49,16 @@ fn printed_byte(byte: u8) -> u8
 
 /// Appends a number.
 pub fn add_number(lines: &mut Blob, number: u64) -> Result<(), Memory>
-    ensures { OnOk result (lines.new ≡ lines.old ++ decimal number) }
+    ensures ok { OnOk result (lines.new ≡ lines.old ++ decimal number) }
+    ensures err { OnErr result (lines.new ≡ lines.old) }
 {
     lines.append(Buffer::new().format(number).as_bytes())
 }
 
 /// Appends a position: its ledger's number and its entry's number there.
 pub fn add_position(lines: &mut Blob, position: Position) -> Result<(), Memory>
-    ensures { OnOk result (lines.new ≡ lines.old ++ shown_position position) }
+    ensures ok { OnOk result (lines.new ≡ lines.old ++ shown_position position) }
+    ensures err { OnErr result (take (length lines.old) lines.new ≡ lines.old) }
 {
     add_number(lines, position.ledger)?;
     lines.append(b":")?;
@@ -68,7 +71,8 @@ pub(crate) fn add_ident(
     clusters: &[ClusterName],
     ident: &Ident,
 ) -> Result<(), Memory>
-    ensures { OnOk result (lines.new ≡ lines.old ++ words (shown_ident clusters.now ident.now)) }
+    ensures ok { OnOk result (lines.new ≡ lines.old ++ words (shown_ident clusters.now ident.now)) }
+    ensures err { OnErr result (take (length lines.old) lines.new ≡ lines.old) }
 {
     lines.append(cluster_name(clusters, ident.origin).as_bytes())?;
     lines.append(b" ")?;
@@ -83,7 +87,8 @@ pub(crate) fn add_content(
     clusters: &[ClusterName],
     entry: &Entry,
 ) -> Result<(), Memory>
-    ensures { OnOk result (lines.new ≡ lines.old ++ words (shown_content clusters.now entry.now entry.now.content)) }
+    ensures ok { OnOk result (lines.new ≡ lines.old ++ words (shown_content clusters.now entry.now entry.now.content)) }
+    ensures err { OnErr result (take (length lines.old) lines.new ≡ lines.old) }
 {
     match &entry.content {
         Content::Data => add_message(lines, entry),
@@ -94,7 +99,8 @@ pub(crate) fn add_content(
 
 /// What a message is: its key and its payload.
 fn add_message(lines: &mut Blob, entry: &Entry) -> Result<(), Memory>
-    ensures { OnOk result (lines.new ≡ lines.old ++ words (codes "data" ∷ shown_key entry.now.meta.key ∷ printed entry.now.payload ∷ [])) }
+    ensures ok { OnOk result (lines.new ≡ lines.old ++ words (codes "data" ∷ shown_key entry.now.meta.key ∷ printed entry.now.payload ∷ [])) }
+    ensures err { OnErr result (take (length lines.old) lines.new ≡ lines.old) }
 {
     lines.append(b"data ")?;
     add_key(lines, &entry.meta.key)?;
@@ -104,7 +110,8 @@ fn add_message(lines: &mut Blob, entry: &Entry) -> Result<(), Memory>
 
 /// A key, or `-` where there is none.
 fn add_key(lines: &mut Blob, key: &Option<Text>) -> Result<(), Memory>
-    ensures { OnOk result (lines.new ≡ lines.old ++ shown_key key.now) }
+    ensures ok { OnOk result (lines.new ≡ lines.old ++ shown_key key.now) }
+    ensures err { OnErr result (take (length lines.old) lines.new ≡ lines.old) }
 {
     match key {
         Some(key) => add_printed(lines, key.as_bytes()),
@@ -119,7 +126,8 @@ pub(crate) fn add_targets(
     to: Targets,
 ) -> Result<(), Memory>
     requires { length clusters.now ≤ CLUSTERS }
-    ensures { OnOk result (lines.new ≡ lines.old ++ shown_targets clusters.now to) }
+    ensures ok { OnOk result (lines.new ≡ lines.old ++ shown_targets clusters.now to) }
+    ensures err { OnErr result (take (length lines.old) lines.new ≡ lines.old) }
 {
     match to {
         Targets::All => lines.append(b"*"),
@@ -129,7 +137,8 @@ pub(crate) fn add_targets(
 
 fn add_names(lines: &mut Blob, clusters: &[ClusterName], bits: u8) -> Result<(), Memory>
     requires { length clusters.now ≤ CLUSTERS }
-    ensures { OnOk result (lines.new ≡ lines.old ++ commas (target_names 0 (Targets.Only bits) clusters.now)) }
+    ensures ok { OnOk result (lines.new ≡ lines.old ++ commas (target_names 0 (Targets.Only bits) clusters.now)) }
+    ensures err { OnErr result (take (length lines.old) lines.new ≡ lines.old) }
 {
     let mut is_first = true;
     for (number, name) in clusters.iter().enumerate() {
@@ -146,7 +155,8 @@ fn add_names(lines: &mut Blob, clusters: &[ClusterName], bits: u8) -> Result<(),
 
 /// One more name, behind a comma if it is not the first.
 fn add_name(lines: &mut Blob, is_first: bool, name: &str) -> Result<(), Memory>
-    ensures { OnOk result (lines.new ≡ lines.old ++ (if is_first then name.now else 44 ∷ name.now)) }
+    ensures ok { OnOk result (lines.new ≡ lines.old ++ (if is_first then name.now else 44 ∷ name.now)) }
+    ensures err { OnErr result (take (length lines.old) lines.new ≡ lines.old) }
 {
     if !is_first {
         lines.append(b",")?;

@@ -1,5 +1,5 @@
 //! The lines of a broker.
-ghost use Rattle.std.specs.Prelude.{◌≡◌, ◌<◌, ◌==◌, ◌++◌, ◌∷◌, [], if◌then◌else◌, length, map, OnOk};
+ghost use Rattle.std.specs.Prelude.{◌≡◌, ◌<◌, ◌==◌, ◌++◌, ◌∷◌, [], if◌then◌else◌, length, map, OnOk, OnErr, take};
 ghost use Rattle.geo_base.specs.Broker.{sender_at};
 ghost use Rattle.geo_base.specs.Cursor.{mark};
 ghost use Rattle.geo_base.specs.Report.{broker_lines, sender_line, sender_lines, sub_line, with_line_feeds};
@@ -15,7 +15,8 @@ use std::alloc::Global;
 /// own one unused.
 pub fn add_broker(alloc: Global, lines: &mut Blob, broker: &Broker) -> Result<(), Memory>
     requires { length broker.now.broker.senders ≡ length broker.now.site.clusters }
-    ensures { OnOk result (lines.new ≡ lines.old ++ with_line_feeds (broker_lines broker.now.site.clusters broker.now.site.own broker.now.broker)) }
+    ensures ok { OnOk result (lines.new ≡ lines.old ++ with_line_feeds (broker_lines broker.now.site.clusters broker.now.site.own broker.now.broker)) }
+    ensures err { OnErr result (take (length lines.old) lines.new ≡ lines.old) }
 {
     add_entries(lines, broker.site().clusters(), broker.store())?;
     add_senders(alloc, lines, broker)?;
@@ -25,7 +26,8 @@ pub fn add_broker(alloc: Global, lines: &mut Blob, broker: &Broker) -> Result<()
 /// The senders to the other clusters.
 fn add_senders(alloc: Global, lines: &mut Blob, broker: &Broker) -> Result<(), Memory>
     requires { length broker.now.broker.senders ≡ length broker.now.site.clusters }
-    ensures { OnOk result (lines.new ≡ lines.old ++ with_line_feeds (sender_lines broker.now.site.own 0 broker.now.site.clusters broker.now.broker.senders)) }
+    ensures ok { OnOk result (lines.new ≡ lines.old ++ with_line_feeds (sender_lines broker.now.site.own 0 broker.now.site.clusters broker.now.broker.senders)) }
+    ensures err { OnErr result (take (length lines.old) lines.new ≡ lines.old) }
 {
     let clusters = broker.site().clusters();
     for (number, cluster) in clusters.iter().enumerate() {
@@ -43,7 +45,8 @@ fn add_sender(
     name: &str,
 ) -> Result<(), Memory>
     requires { remote < length broker.now.site.clusters }
-    ensures { OnOk result (lines.new ≡ lines.old ++ with_line_feeds (if broker.now.site.own == remote then [] else sender_line name.now (sender_at broker.now.broker remote) ∷ [])) }
+    ensures ok { OnOk result (lines.new ≡ lines.old ++ with_line_feeds (if broker.now.site.own == remote then [] else sender_line name.now (sender_at broker.now.broker remote) ∷ [])) }
+    ensures err { OnErr result (take (length lines.old) lines.new ≡ lines.old) }
 {
     if broker.cluster() == remote {
         return Ok(());
@@ -57,7 +60,8 @@ fn add_sender(
 
 /// The subscriptions, in order of creation.
 fn add_subs(alloc: Global, lines: &mut Blob, broker: &Broker) -> Result<(), Memory>
-    ensures { OnOk result (lines.new ≡ lines.old ++ with_line_feeds (map (sub_line broker.now.broker) broker.now.broker.subs)) }
+    ensures ok { OnOk result (lines.new ≡ lines.old ++ with_line_feeds (map (sub_line broker.now.broker) broker.now.broker.subs)) }
+    ensures err { OnErr result (take (length lines.old) lines.new ≡ lines.old) }
 {
     for place in 0..broker.subs() {
         add_sub(alloc, lines, broker, place)?;
@@ -68,7 +72,8 @@ fn add_subs(alloc: Global, lines: &mut Blob, broker: &Broker) -> Result<(), Memo
 /// The subscription at a place.
 fn add_sub(alloc: Global, lines: &mut Blob, broker: &Broker, place: usize) -> Result<(), Memory>
     requires { place < length broker.now.broker.subs }
-    ensures { OnOk result (lines.new ≡ lines.old ++ (sub_line broker.now.broker (sub_at broker.now.broker.subs place) ++ 10 ∷ [])) }
+    ensures ok { OnOk result (lines.new ≡ lines.old ++ (sub_line broker.now.broker (sub_at broker.now.broker.subs place) ++ 10 ∷ [])) }
+    ensures err { OnErr result (take (length lines.old) lines.new ≡ lines.old) }
 {
     match broker.sub(place) {
         Some(sub) => {

@@ -1,5 +1,5 @@
 //! The lines of a client.
-ghost use Rattle.std.specs.Prelude.{◌≡◌, ◌==◌, ◌++◌, ◌∷◌, [], if◌then◌else◌, length, map, OnOk, slice_index_or};
+ghost use Rattle.std.specs.Prelude.{◌≡◌, ◌==◌, ◌++◌, ◌∷◌, [], if◌then◌else◌, length, map, OnOk, slice_index_or, OnErr, take};
 ghost use Rattle.geo_base.specs.Report.{client_line, got_line, with_line_feeds};
 
 use client::{Client, ClientView};
@@ -17,7 +17,8 @@ pub fn add_client(
     client: &Client,
     topic: usize,
 ) -> Result<(), Memory>
-    ensures { OnOk result (lines.new ≡ lines.old ++ with_line_feeds (if declared.now.topic == topic then client_line scenario.now.setup declared.now client.now ∷ map (got_line scenario.now.setup.clusters) client.now.got else [])) }
+    ensures ok { OnOk result (lines.new ≡ lines.old ++ with_line_feeds (if declared.now.topic == topic then client_line scenario.now.setup declared.now client.now ∷ map (got_line scenario.now.setup.clusters) client.now.got else [])) }
+    ensures err { OnErr result (take (length lines.old) lines.new ≡ lines.old) }
 {
     if declared.topic() as usize != topic {
         return Ok(());

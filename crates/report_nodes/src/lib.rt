@@ -1,8 +1,8 @@
 //! The lines of a report that show a broker or a client as it is.
 //!
 //! A broker's are its topic's entries, its senders to the other clusters and its subscriptions; a client's are its own line and one
-//! for each message that it got. Each call appends its lines to those before it. Where memory ends in the midst, an `Err`, it is left
-//! open what was appended, since a whole report is made apart from where it goes.
+//! for each message that it got. Each call appends its lines to those before it. Where memory ends in the midst, an `Err`, what stood
+//! before stands, with a part of what was to be appended or none: a whole report is made apart from where it goes.
 #![tactic(auto)]
 
 mod broker_lines;

@@ -2,10 +2,11 @@
 //! as a report shows them (Pulsar manual, tiered storage).
 //!
 //! A reader gets what was stored, wherever it stands; so the entries' lines are those of a report. Lines are appended to those
-//! before; where memory is wanting it is left open what was appended, since a caller makes the whole apart from where it goes.
+//! before; where memory is wanting those before stand, with a part of what was to be appended or none: a caller makes the whole apart
+//! from where it goes.
 #![tactic(auto)]
 
-ghost use Rattle.std.specs.Prelude.{◌≡◌, ◌≤◌, ◌<◌, ◌++◌, ◌∷◌, [], Some, List, length, slice_get, slice_set, string_bytes, IfOk, OnOk};
+ghost use Rattle.std.specs.Prelude.{◌≡◌, ◌≤◌, ◌<◌, ◌++◌, ◌∷◌, [], Some, List, length, slice_get, slice_set, string_bytes, IfOk, OnOk, OnErr, take};
 ghost use Rattle.std.specs.List.{sum};
 ghost use Rattle.geo_base.specs.declared.entry.Entry.{Entry};
 ghost use Rattle.geo_base.specs.Report.{entry_line, entry_lines, with_line_feeds};
@@ -106,7 +107,8 @@ pub fn add_read_entries<S: EntryStore>(
 ) -> Result<(), Memory>
     requires few { length clusters.now ≤ CLUSTERS }
     requires holds { Holds clusters.now kept_in (S.entries store.now) topic.old }
-    ensures { OnOk result (lines.new ≡ lines.old ++ with_line_feeds (entry_lines clusters.now (S.ledgers store.now) 0 (S.entries store.now))) }
+    ensures ok { OnOk result (lines.new ≡ lines.old ++ with_line_feeds (entry_lines clusters.now (S.ledgers store.now) 0 (S.entries store.now))) }
+    ensures err { OnErr result (take (length lines.old) lines.new ≡ lines.old) }
 {
     for index in 0..store.len() {
         add_read_entry(alloc, lines, clusters, store, topic, index)?;
@@ -131,6 +133,7 @@ fn add_read_entry<S: EntryStore>(
     requires counted { sum (S.ledgers store.now) ≡ length entries }
     ensures holds { Holds clusters.now kept_in entries topic.new }
     ensures line { (e : Entry) → slice_get entries index ≡ Some e → OnOk result (lines.new ≡ lines.old ++ (entry_line clusters.now (position_at (S.ledgers store.now) index) e ++ 10 ∷ [])) }
+    ensures err { OnErr result (take (length lines.old) lines.new ≡ lines.old) }
 {
     let Some(position) = store.position_of(index) else {
         unreachable!();

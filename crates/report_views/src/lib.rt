@@ -2,11 +2,11 @@
 //! a report shows them.
 //!
 //! A view is what a reader gets of a compacted topic: of each key the last message (Pulsar manual, topic compaction). Lines are
-//! appended to those before; where memory is wanting it is left open what was appended, since a caller makes the whole apart from
-//! where it goes.
+//! appended to those before; where memory is wanting those before stand, with a part of what was to be appended or none: a caller
+//! makes the whole apart from where it goes.
 #![tactic(auto)]
 
-ghost use Rattle.std.specs.Prelude.{◌≡◌, ◌≤◌, ◌++◌, ◌∷◌, [], length, string_bytes, IfOk, OnOk};
+ghost use Rattle.std.specs.Prelude.{◌≡◌, ◌≤◌, ◌++◌, ◌∷◌, [], length, string_bytes, IfOk, OnOk, OnErr, take};
 ghost use Rattle.compaction.specs.Last.{IsCompacted};
 ghost use Rattle.geo_base.specs.Report.{with_line_feeds};
 ghost use Rattle.report_views.specs.Views.{horizon_line, view_messages};
@@ -39,7 +39,8 @@ pub fn add_messages<S: EntryStore>(
     horizon: u64,
 ) -> Result<(), Memory>
     requires { length clusters.now ≤ CLUSTERS }
-    ensures { OnOk result (lines.new ≡ lines.old ++ with_line_feeds (view_messages clusters.now horizon (S.ledgers store.now) (S.entries store.now))) }
+    ensures ok { OnOk result (lines.new ≡ lines.old ++ with_line_feeds (view_messages clusters.now horizon (S.ledgers store.now) (S.entries store.now))) }
+    ensures err { OnErr result (take (length lines.old) lines.new ≡ lines.old) }
 {
     let compacted = compacted_to(alloc, store, horizon.min(store.len() as u64))?;
     let mut from = 0;

@@ -1,5 +1,5 @@
 //! Names, numbered from 0 in their order, and found by a table.
-ghost use Rattle.std.specs.Prelude.{◌≡◌, ◌<◌, ◌^◌, [], ◌∷◌, ◌++◌, false, if◌then◌else◌, is_some, length, position, None, Some, OnErr, OnOk};
+ghost use Rattle.std.specs.Prelude.{◌≡◌, ◌<◌, ◌^◌, [], ◌∷◌, ◌++◌, false, if◌then◌else◌, is_some, length, ◌≤◌, ◌+◌, true, position, None, Some, OnErr, OnOk};
 ghost use Rattle.std.specs.List.{list_any};
 ghost use Rattle.std.specs.Str.{bytes_eq};
 ghost use Rattle.script_names.specs.Names.{is_among, name_at, number_in, words};
@@ -90,19 +90,27 @@ impl<'a> NameTable<'a> {
         self.names.contains(word)
     }
 
-    /// One more name; unchanged where memory is wanting, or a number for it.
+    /// One more name; unchanged where memory is wanting, or a number for it, which only the name behind 2^32 - 1 others has not.
     #[tactic(auto, using(crate::proofs::Names::pushed))]
     pub fn push(&mut self, name: &'a [u8]) -> Result<(), Memory>
         requires { is_among self.old name.now ≡ false }
         ensures ok { OnOk result (self.new ≡ self.old ++ name.now ∷ []) }
         ensures err { OnErr result (self.new ≡ self.old) }
     {
-        if self.names.len() >= u32::MAX as usize {
+        if !has_number(self.names.len()) {
             return Err(Memory);
         }
         self.names.insert(name)?;
         Ok(())
     }
+}
+
+/// Whether the name behind so many others has a number, which with the count of all has 32 bits.
+fn has_number(before: usize) -> bool
+    ensures few { result ≡ true → before + 1 < 2 ^ 32 }
+    ensures many { result ≡ false → 2 ^ 32 ≤ before + 1 }
+{
+    before < u32::MAX as usize
 }
 
 /// The place of a name in the table.

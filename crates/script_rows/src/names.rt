@@ -1,5 +1,5 @@
 //! What a line may name.
-ghost use Rattle.std.specs.Prelude.{◌≡◌, ◌+◌, ◌<◌, ◌≤◌, ◌^◌, [], false, if◌then◌else◌, length, slice_get, None, Some, OnOk};
+ghost use Rattle.std.specs.Prelude.{◌≡◌, ◌+◌, ◌<◌, ◌≤◌, ◌^◌, [], false, if◌then◌else◌, length, slice_get, None, Some, OnErr, OnOk};
 ghost use Rattle.std.specs.Option.{option_copied};
 ghost use Rattle.script_names.specs.Names.{is_among, name_at, number_in};
 ghost use Rattle.script_rows.specs.Names.{count_of, in_role, member_at, member_of, subs_of, with_client, with_cluster, with_role, with_sub, with_topic};
@@ -190,37 +190,42 @@ impl<'a> Names<'a> {
             .count()
     }
 
-    /// One more cluster.
+    /// One more cluster; unchanged where memory is wanting.
     pub fn push_cluster(&mut self, name: &'a [u8]) -> Result<(), Memory>
         requires new { is_among self.old.clusters name.now ≡ false }
         requires room { length self.old.clusters < 8 }
-        ensures { OnOk result (self.new ≡ with_cluster self.old name.now) }
+        ensures ok { OnOk result (self.new ≡ with_cluster self.old name.now) }
+        ensures err { OnErr result (self.new ≡ self.old) }
     {
         self.clusters.push(name)
     }
 
-    /// One more topic, without subscriptions.
+    /// One more topic, without subscriptions; unchanged where memory is wanting.
     pub fn push_topic(&mut self, alloc: Global, name: &'a [u8]) -> Result<(), Memory>
         requires { is_among self.old.topics name.now ≡ false }
-        ensures { OnOk result (self.new ≡ with_topic self.old name.now) }
+        ensures ok { OnOk result (self.new ≡ with_topic self.old name.now) }
+        ensures err { OnErr result (self.new ≡ self.old) }
     {
+        self.subs.reserve(1)?;
         self.topics.push(name)?;
-        self.subs.push(NameTable::new(alloc))?;
+        self.subs.push_reserved(NameTable::new(alloc));
         Ok(())
     }
 
-    /// One more client of a topic.
+    /// One more client of a topic; unchanged where memory is wanting.
     pub fn push_client(&mut self, name: &'a [u8], topic: u32) -> Result<(), Memory>
         requires { is_among self.old.clients name.now ≡ false }
-        ensures { OnOk result (self.new ≡ with_client self.old name.now topic) }
+        ensures ok { OnOk result (self.new ≡ with_client self.old name.now topic) }
+        ensures err { OnErr result (self.new ≡ self.old) }
     {
+        self.members.reserve(1)?;
         self.clients.push(name)?;
         let member = Member {
             topic,
             produces: false,
             moves: false,
         };
-        self.members.push(member)?;
+        self.members.push_reserved(member);
         Ok(())
     }
 
@@ -238,10 +243,11 @@ impl<'a> Names<'a> {
         self.members[client as usize] = member;
     }
 
-    /// A subscription of a topic, where it is new.
+    /// A subscription of a topic, where it is new; unchanged where memory is wanting.
     pub fn note_sub(&mut self, topic: u32, name: &'a [u8]) -> Result<(), Memory>
         requires { topic < length self.old.subs }
-        ensures { OnOk result (self.new ≡ with_sub self.old topic name.now) }
+        ensures ok { OnOk result (self.new ≡ with_sub self.old topic name.now) }
+        ensures err { OnErr result (self.new ≡ self.old) }
     {
         if self.is_sub(topic, name) {
             return Ok(());

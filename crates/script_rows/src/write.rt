@@ -1,5 +1,5 @@
 //! Steps written by their rows.
-ghost use Rattle.std.specs.Prelude.{◌≡◌, [], ◌∷◌, ◌++◌, IfOk, OnOk};
+ghost use Rattle.std.specs.Prelude.{◌≡◌, [], ◌∷◌, ◌++◌, IfOk, OnOk, OnErr, take, length};
 ghost use Rattle.std.specs.Fmt.{decimal};
 ghost use Rattle.script_names.specs.Names.{name_at};
 ghost use Rattle.script_rows.specs.declared.column.Column.TheVariants as kind;
@@ -85,10 +85,12 @@ impl Value<'_> {
 }
 
 impl<'a> Names<'a> {
-    /// Writes the line of a step, without its line feed, after what stands there.
+    /// Writes the line of a step, without its line feed, after what stands there; where memory is wanting that stands, with a part of the
+    /// line or none.
     #[tactic(auto, using(crate::proofs::Spaced::halt_joined))]
     pub fn write_step(&self, alloc: Global, out: &mut Blob, step: &Step) -> Result<(), Memory>
-        ensures { OnOk result (out.new ≡ out.old ++ step_line self.now step.now) }
+        ensures ok { OnOk result (out.new ≡ out.old ++ step_line self.now step.now) }
+        ensures err { OnErr result (take (length out.old) out.new ≡ out.old) }
     {
         match step {
             Step::Plain(event) => self.write_event(alloc, out, event),
@@ -106,7 +108,8 @@ impl<'a> Names<'a> {
     /// Writes the words of an event.
     #[tactic(auto, using(crate::proofs::Spaced::word_joined))]
     fn write_event(&self, alloc: Global, out: &mut Blob, event: &Event) -> Result<(), Memory>
-        ensures { OnOk result (out.new ≡ out.old ++ join_with_byte 32 (event_words self.now event.now)) }
+        ensures ok { OnOk result (out.new ≡ out.old ++ join_with_byte 32 (event_words self.now event.now)) }
+        ensures err { OnErr result (take (length out.old) out.new ≡ out.old) }
     {
         let kind = kind_of(event);
         let values = event_values(alloc, event)?;
@@ -123,8 +126,9 @@ impl<'a> Names<'a> {
         columns: &Columns,
         values: &[Value<'_>],
     ) -> Result<(), Memory>
-        ensures { OnOk result (out.new
+        ensures ok { OnOk result (out.new
             ≡ out.old ++ spaced (words_in self.now nothing_seen columns.now values.now)) }
+        ensures err { OnErr result (take (length out.old) out.new ≡ out.old) }
     {
         let mut left = columns.copied();
         let mut seen = Seen::nothing();

@@ -1,5 +1,5 @@
 //! The parts of a state as texts.
-ghost use Rattle.std.specs.Prelude.{◌≡◌, ◌++◌, ◌∷◌, [], if◌then◌else◌, length, OnOk};
+ghost use Rattle.std.specs.Prelude.{◌≡◌, ◌++◌, ◌∷◌, [], if◌then◌else◌, length, OnOk, OnErr, take};
 ghost use Rattle.std.specs.List.{All, flat_map};
 ghost use Rattle.geo_base.specs.Sender.{Sender};
 ghost use Rattle.geo_base.specs.Subscription.{Subscription};
@@ -24,7 +24,8 @@ use std::alloc::Global;
 
 /// Appends the counts of a run.
 pub fn put_counts(out: &mut Blob, counts: &Counts) -> Result<(), Memory>
-    ensures { OnOk result (out.new ≡ out.old ++ counts_text counts.now) }
+    ensures ok { OnOk result (out.new ≡ out.old ++ counts_text counts.now) }
+    ensures err { OnErr result (take (length out.old) out.new ≡ out.old) }
 {
     put_number(out, counts.events)?;
     put_number(out, counts.idle)?;
@@ -41,7 +42,8 @@ pub fn put_node(
     node: &NodeParts,
 ) -> Result<(), Memory>
     requires { CanWrite (broker_of node.now) }
-    ensures { OnOk result (out.new ≡ out.old ++ node_text names.now own (broker_of node.now)) }
+    ensures ok { OnOk result (out.new ≡ out.old ++ node_text names.now own (broker_of node.now)) }
+    ensures err { OnErr result (take (length out.old) out.new ≡ out.old) }
 {
     let count = node.entries.len() as u64;
     put_ledgers(out, node.ledgers.as_slice())?;
@@ -51,14 +53,16 @@ pub fn put_node(
 }
 
 fn put_ledgers(out: &mut Blob, lengths: &[u64]) -> Result<(), Memory>
-    ensures { OnOk result (out.new ≡ out.old ++ ledgers_text lengths.now) }
+    ensures ok { OnOk result (out.new ≡ out.old ++ ledgers_text lengths.now) }
+    ensures err { OnErr result (take (length out.old) out.new ≡ out.old) }
 {
     put_number(out, lengths.len() as u64)?;
     put_numbers(out, lengths)
 }
 
 fn put_numbers(out: &mut Blob, numbers: &[u64]) -> Result<(), Memory>
-    ensures { OnOk result (out.new ≡ out.old ++ flat_map number numbers.now) }
+    ensures ok { OnOk result (out.new ≡ out.old ++ flat_map number numbers.now) }
+    ensures err { OnErr result (take (length out.old) out.new ≡ out.old) }
 {
     for each in numbers {
         put_number(out, *each)?;
@@ -74,7 +78,8 @@ fn put_entries(
     entries: &[Entry],
 ) -> Result<(), Memory>
     requires { HaveRests entries.now }
-    ensures { OnOk result (out.new ≡ out.old ++ list (entry_text names.now own) entries.now) }
+    ensures ok { OnOk result (out.new ≡ out.old ++ list (entry_text names.now own) entries.now) }
+    ensures err { OnErr result (take (length out.old) out.new ≡ out.old) }
 {
     put_number(out, entries.len() as u64)?;
     put_each_entry(alloc, out, names, own, entries)
@@ -89,7 +94,8 @@ fn put_each_entry(
     entries: &[Entry],
 ) -> Result<(), Memory>
     requires { HaveRests entries.now }
-    ensures { OnOk result (out.new ≡ out.old ++ flat_map (entry_text names.now own) entries.now) }
+    ensures ok { OnOk result (out.new ≡ out.old ++ flat_map (entry_text names.now own) entries.now) }
+    ensures err { OnErr result (take (length out.old) out.new ≡ out.old) }
 {
     for entry in entries {
         put_entry(alloc, out, names, own, entry)?;
@@ -99,7 +105,8 @@ fn put_each_entry(
 
 fn put_subs(out: &mut Blob, entries: u64, subs: &[DurableSub]) -> Result<(), Memory>
     requires { All (λ (s : Subscription). AreBelow entries s.cursor) (subs_of subs.now) }
-    ensures { OnOk result (out.new ≡ out.old ++ subs_text entries (subs_of subs.now)) }
+    ensures ok { OnOk result (out.new ≡ out.old ++ subs_text entries (subs_of subs.now)) }
+    ensures err { OnErr result (take (length out.old) out.new ≡ out.old) }
 {
     put_number(out, subs.len() as u64)?;
     put_each_sub(out, entries, subs)
@@ -107,7 +114,8 @@ fn put_subs(out: &mut Blob, entries: u64, subs: &[DurableSub]) -> Result<(), Mem
 
 fn put_each_sub(out: &mut Blob, entries: u64, subs: &[DurableSub]) -> Result<(), Memory>
     requires { All (λ (s : Subscription). AreBelow entries s.cursor) (subs_of subs.now) }
-    ensures { OnOk result (out.new ≡ out.old ++ flat_map (sub_text entries) (subs_of subs.now)) }
+    ensures ok { OnOk result (out.new ≡ out.old ++ flat_map (sub_text entries) (subs_of subs.now)) }
+    ensures err { OnErr result (take (length out.old) out.new ≡ out.old) }
 {
     for sub in subs {
         put_sub(out, entries, sub)?;
@@ -117,7 +125,8 @@ fn put_each_sub(out: &mut Blob, entries: u64, subs: &[DurableSub]) -> Result<(),
 
 fn put_sub(out: &mut Blob, entries: u64, sub: &DurableSub) -> Result<(), Memory>
     requires { AreBelow entries sub.now.cursor.indexes }
-    ensures { OnOk result (out.new ≡ out.old ++ sub_text entries (sub_of sub.now)) }
+    ensures ok { OnOk result (out.new ≡ out.old ++ sub_text entries (sub_of sub.now)) }
+    ensures err { OnErr result (take (length out.old) out.new ≡ out.old) }
 {
     put_name(out, &sub.name)?;
     put_byte(out, kind_byte(sub.kind))?;
@@ -127,7 +136,8 @@ fn put_sub(out: &mut Blob, entries: u64, sub: &DurableSub) -> Result<(), Memory>
 }
 
 fn put_name(out: &mut Blob, name: &SubName) -> Result<(), Memory>
-    ensures { OnOk result (out.new ≡ out.old ++ text name.now) }
+    ensures ok { OnOk result (out.new ≡ out.old ++ text name.now) }
+    ensures err { OnErr result (take (length out.old) out.new ≡ out.old) }
 {
     put_text(out, name.as_str().as_bytes())
 }
@@ -153,7 +163,8 @@ fn put_senders(
     senders: &[DurableSender],
 ) -> Result<(), Memory>
     requires { All (λ (s : Sender). AreBelow entries s.cursor) (senders_of senders.now) }
-    ensures { OnOk result (out.new ≡ out.old ++ senders_text entries own (senders_of senders.now)) }
+    ensures ok { OnOk result (out.new ≡ out.old ++ senders_text entries own (senders_of senders.now)) }
+    ensures err { OnErr result (take (length out.old) out.new ≡ out.old) }
 {
     for cluster in 0..senders.len() {
         put_place(out, entries, cluster == own as usize, &senders[cluster])?;
@@ -169,7 +180,8 @@ fn put_place(
     sender: &DurableSender,
 ) -> Result<(), Memory>
     requires { AreBelow entries sender.now.cursor.indexes }
-    ensures { OnOk result (out.new ≡ out.old ++ (if is_own then [] else sender_text entries (sender_of sender.now))) }
+    ensures ok { OnOk result (out.new ≡ out.old ++ (if is_own then [] else sender_text entries (sender_of sender.now))) }
+    ensures err { OnErr result (take (length out.old) out.new ≡ out.old) }
 {
     if is_own {
         return Ok(());

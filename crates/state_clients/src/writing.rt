@@ -1,5 +1,5 @@
 //! Clients as texts.
-ghost use Rattle.std.specs.Prelude.{◌≡◌, ◌++◌, OnOk};
+ghost use Rattle.std.specs.Prelude.{◌≡◌, ◌++◌, OnOk, OnErr, take, length};
 ghost use Rattle.std.specs.List.{flat_map};
 ghost use Rattle.client.specs.State.{stopped};
 ghost use Rattle.state_items.specs.Texts.{list, number};
@@ -11,7 +11,8 @@ use state_items::{put_number, put_text};
 
 /// Appends what a stop left of a client.
 pub fn put_client(out: &mut Blob, state: &ClientState) -> Result<(), Memory>
-    ensures { OnOk result (out.new ≡ out.old ++ client_text (stopped state.now)) }
+    ensures ok { OnOk result (out.new ≡ out.old ++ client_text (stopped state.now)) }
+    ensures err { OnErr result (take (length out.old) out.new ≡ out.old) }
 {
     put_place(out, state)?;
     put_force(out, state)?;
@@ -21,7 +22,8 @@ pub fn put_client(out: &mut Blob, state: &ClientState) -> Result<(), Memory>
 }
 
 fn put_place(out: &mut Blob, state: &ClientState) -> Result<(), Memory>
-    ensures { OnOk result (out.new ≡ out.old ++ place_text (stopped state.now)) }
+    ensures ok { OnOk result (out.new ≡ out.old ++ place_text (stopped state.now)) }
+    ensures err { OnErr result (take (length out.old) out.new ≡ out.old) }
 {
     put_number(out, u64::from(state.cluster))?;
     put_number(out, state.connection)?;
@@ -29,7 +31,8 @@ fn put_place(out: &mut Blob, state: &ClientState) -> Result<(), Memory>
 }
 
 fn put_force(out: &mut Blob, state: &ClientState) -> Result<(), Memory>
-    ensures { OnOk result (out.new ≡ out.old ++ force_text (stopped state.now)) }
+    ensures ok { OnOk result (out.new ≡ out.old ++ force_text (stopped state.now)) }
+    ensures err { OnErr result (take (length out.old) out.new ≡ out.old) }
 {
     put_index(out, state.produce)?;
     put_index(out, state.sub)?;
@@ -38,7 +41,8 @@ fn put_force(out: &mut Blob, state: &ClientState) -> Result<(), Memory>
 
 /// A line's index and one more, 0 where there is none. An index behind which there is no number counts as want of memory.
 fn put_index(out: &mut Blob, index: Option<usize>) -> Result<(), Memory>
-    ensures { OnOk result (out.new ≡ out.old ++ index_text index) }
+    ensures ok { OnOk result (out.new ≡ out.old ++ index_text index) }
+    ensures err { OnErr result (out.new ≡ out.old) }
 {
     let Some(index) = index else {
         return put_number(out, 0);
@@ -50,7 +54,8 @@ fn put_index(out: &mut Blob, index: Option<usize>) -> Result<(), Memory>
 }
 
 fn put_tally(out: &mut Blob, state: &ClientState) -> Result<(), Memory>
-    ensures { OnOk result (out.new ≡ out.old ++ tally_text (stopped state.now)) }
+    ensures ok { OnOk result (out.new ≡ out.old ++ tally_text (stopped state.now)) }
+    ensures err { OnErr result (take (length out.old) out.new ≡ out.old) }
 {
     put_number(out, state.receipts)?;
     put_number(out, state.duplicates)?;
@@ -58,14 +63,16 @@ fn put_tally(out: &mut Blob, state: &ClientState) -> Result<(), Memory>
 }
 
 fn put_publishes(out: &mut Blob, indexes: &[usize]) -> Result<(), Memory>
-    ensures { OnOk result (out.new ≡ out.old ++ list number indexes.now) }
+    ensures ok { OnOk result (out.new ≡ out.old ++ list number indexes.now) }
+    ensures err { OnErr result (take (length out.old) out.new ≡ out.old) }
 {
     put_number(out, indexes.len() as u64)?;
     put_each_index(out, indexes)
 }
 
 fn put_each_index(out: &mut Blob, indexes: &[usize]) -> Result<(), Memory>
-    ensures { OnOk result (out.new ≡ out.old ++ flat_map number indexes.now) }
+    ensures ok { OnOk result (out.new ≡ out.old ++ flat_map number indexes.now) }
+    ensures err { OnErr result (take (length out.old) out.new ≡ out.old) }
 {
     for index in indexes {
         put_number(out, *index as u64)?;
@@ -74,14 +81,16 @@ fn put_each_index(out: &mut Blob, indexes: &[usize]) -> Result<(), Memory>
 }
 
 fn put_got(out: &mut Blob, idents: &[Ident]) -> Result<(), Memory>
-    ensures { OnOk result (out.new ≡ out.old ++ list ident_text idents.now) }
+    ensures ok { OnOk result (out.new ≡ out.old ++ list ident_text idents.now) }
+    ensures err { OnErr result (take (length out.old) out.new ≡ out.old) }
 {
     put_number(out, idents.len() as u64)?;
     put_each_ident(out, idents)
 }
 
 fn put_each_ident(out: &mut Blob, idents: &[Ident]) -> Result<(), Memory>
-    ensures { OnOk result (out.new ≡ out.old ++ flat_map ident_text idents.now) }
+    ensures ok { OnOk result (out.new ≡ out.old ++ flat_map ident_text idents.now) }
+    ensures err { OnErr result (take (length out.old) out.new ≡ out.old) }
 {
     for ident in idents {
         put_ident(out, ident)?;
@@ -90,7 +99,8 @@ fn put_each_ident(out: &mut Blob, idents: &[Ident]) -> Result<(), Memory>
 }
 
 fn put_ident(out: &mut Blob, ident: &Ident) -> Result<(), Memory>
-    ensures { OnOk result (out.new ≡ out.old ++ ident_text ident.now) }
+    ensures ok { OnOk result (out.new ≡ out.old ++ ident_text ident.now) }
+    ensures err { OnErr result (take (length out.old) out.new ≡ out.old) }
 {
     put_number(out, u64::from(ident.origin))?;
     put_text(out, ident.producer.as_bytes())?;

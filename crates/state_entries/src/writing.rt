@@ -1,11 +1,10 @@
 //! An entry as its metadata's text and its payload.
-ghost use Rattle.std.specs.Prelude.{◌≡◌, ◌++◌, IfOk, OnOk};
+ghost use Rattle.std.specs.Prelude.{◌≡◌, ◌++◌, IfOk, OnOk, OnErr, take, length};
 ghost use Rattle.message_meta.specs.Known.{IsRest};
 ghost use Rattle.state_entries.specs.Texts.{AreShort, HasMetadata, HasTexts, entry_text, metadata_text, source_of};
 
 use frame_values::{canonical_payload, known_of};
 use geo_base::{Blob, ClusterName, Entry, Memory, Place};
-use pb_fields::ByteList;
 use state_items::put_text;
 use std::alloc::Global;
 
@@ -23,6 +22,7 @@ pub fn put_entry(
     ensures text { OnOk result (out.new ≡ out.old ++ entry_text names.now own entry.now) }
     ensures right { OnOk result (HasTexts names.now own entry.now) }
     ensures short { OnOk result (AreShort names.now own entry.now) }
+    ensures err { OnErr result (take (length out.old) out.new ≡ out.old) }
 {
     let metadata = metadata_text(alloc, names, own, entry)?;
     put_text(out, metadata.as_slice())?;
@@ -38,7 +38,7 @@ fn metadata_text(
     names: &[ClusterName],
     own: u32,
     entry: &Entry,
-) -> Result<ByteList, Memory>
+) -> Result<Blob, Memory>
     requires { IsRest entry.now.meta.rest }
     ensures text { IfOk result (λ b. b ≡ metadata_text names.now own entry.now) }
     ensures right { OnOk result (HasMetadata names.now own entry.now) }

@@ -1,3 +1,4 @@
+pub mod Standing
 pub mod Telling
 pub mod Loops
 pub mod Runs

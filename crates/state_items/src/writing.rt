@@ -1,5 +1,5 @@
 //! Items as texts.
-ghost use Rattle.std.specs.Prelude.{◌≡◌, ◌<◌, ◌^◌, ◌++◌, ◌∷◌, [], length, OnOk};
+ghost use Rattle.std.specs.Prelude.{◌≡◌, ◌<◌, ◌^◌, ◌++◌, ◌∷◌, ◌≤◌, [], length, IfNone, IfSome, OnErr, OnOk, take};
 ghost use Rattle.std.specs.List.{flat_map};
 ghost use Rattle.cursor_acks.specs.Acks.{AreBelow};
 ghost use Rattle.state_items.specs.Texts.{cursor, number, range, text, word};
@@ -10,14 +10,16 @@ use geo_base::{Blob, Memory};
 /// Appends a number as eight bytes.
 #[tactic(auto, unfolding(crate::specs::Texts::number))]
 pub fn put_number(out: &mut Blob, n: u64) -> Result<(), Memory>
-    ensures { OnOk result (out.new ≡ out.old ++ number n) }
+    ensures ok { OnOk result (out.new ≡ out.old ++ number n) }
+    ensures err { OnErr result (out.new ≡ out.old) }
 {
     out.append(&n.to_be_bytes())
 }
 
 /// Appends one byte.
 pub fn put_byte(out: &mut Blob, byte: u8) -> Result<(), Memory>
-    ensures { OnOk result (out.new ≡ out.old ++ byte ∷ []) }
+    ensures ok { OnOk result (out.new ≡ out.old ++ byte ∷ []) }
+    ensures err { OnErr result (out.new ≡ out.old) }
 {
     out.append(&[byte])
 }
@@ -25,7 +27,8 @@ pub fn put_byte(out: &mut Blob, byte: u8) -> Result<(), Memory>
 /// Appends a number as four bytes.
 #[tactic(auto, unfolding(crate::specs::Texts::word))]
 pub fn put_word(out: &mut Blob, n: u32) -> Result<(), Memory>
-    ensures { OnOk result (out.new ≡ out.old ++ word n) }
+    ensures ok { OnOk result (out.new ≡ out.old ++ word n) }
+    ensures err { OnErr result (out.new ≡ out.old) }
 {
     out.append(&n.to_be_bytes())
 }
@@ -34,26 +37,40 @@ pub fn put_word(out: &mut Blob, n: u32) -> Result<(), Memory>
 pub fn put_text(out: &mut Blob, content: &[u8]) -> Result<(), Memory>
     ensures text { OnOk result (out.new ≡ out.old ++ text content.now) }
     ensures short { OnOk result (length content.now < 2 ^ 32) }
+    ensures err { OnErr result (take (length out.old) out.new ≡ out.old) }
 {
-    let Ok(len) = u32::try_from(content.len()) else {
+    let Some(len) = text_len(content) else {
         return Err(Memory);
     };
     put_word(out, len)?;
     out.append(content)
 }
 
+/// How many bytes a text has, where four bytes tell it; `None` exactly where it has 2^32 or more.
+fn text_len(content: &[u8]) -> Option<u32>
+    ensures len { IfSome result (λ n. n ≡ length content.now) }
+    ensures none { IfNone result (2 ^ 32 ≤ length content.now) }
+{
+    match u32::try_from(content.len()) {
+        Ok(len) => Some(len),
+        Err(_) => None,
+    }
+}
+
 /// Appends the ranges of a cursor over a topic of `entries` entries.
 #[tactic(auto, using(crate::proofs::Runs::cursor_text))]
 pub fn put_cursor(out: &mut Blob, written: &Cursor, entries: u64) -> Result<(), Memory>
     requires { AreBelow entries written.now.indexes }
-    ensures { OnOk result (out.new ≡ out.old ++ cursor entries written.now.indexes) }
+    ensures ok { OnOk result (out.new ≡ out.old ++ cursor entries written.now.indexes) }
+    ensures err { OnErr result (take (length out.old) out.new ≡ out.old) }
 {
     put_ranges(out, written.ranges().as_slice())
 }
 
 /// Appends a list of ranges.
 fn put_ranges(out: &mut Blob, ranges: &[IndexRange]) -> Result<(), Memory>
-    ensures { OnOk result (out.new ≡ out.old ++ (number (length ranges.now) ++ flat_map range ranges.now)) }
+    ensures ok { OnOk result (out.new ≡ out.old ++ (number (length ranges.now) ++ flat_map range ranges.now)) }
+    ensures err { OnErr result (take (length out.old) out.new ≡ out.old) }
 {
     put_number(out, ranges.len() as u64)?;
     put_each(out, ranges)
@@ -61,7 +78,8 @@ fn put_ranges(out: &mut Blob, ranges: &[IndexRange]) -> Result<(), Memory>
 
 /// Appends ranges one behind the other.
 fn put_each(out: &mut Blob, ranges: &[IndexRange]) -> Result<(), Memory>
-    ensures { OnOk result (out.new ≡ out.old ++ flat_map range ranges.now) }
+    ensures ok { OnOk result (out.new ≡ out.old ++ flat_map range ranges.now) }
+    ensures err { OnErr result (take (length out.old) out.new ≡ out.old) }
 {
     for each in ranges {
         put_range(out, *each)?;
@@ -70,7 +88,8 @@ fn put_each(out: &mut Blob, ranges: &[IndexRange]) -> Result<(), Memory>
 }
 
 fn put_range(out: &mut Blob, written: IndexRange) -> Result<(), Memory>
-    ensures { OnOk result (out.new ≡ out.old ++ range written) }
+    ensures ok { OnOk result (out.new ≡ out.old ++ range written) }
+    ensures err { OnErr result (take (length out.old) out.new ≡ out.old) }
 {
     put_number(out, written.first)?;
     put_number(out, written.last)

@@ -1,5 +1,5 @@
 //! The update marker of a snapshot.
-ghost use Rattle.std.specs.Prelude.{◌≡◌, [], ◌∷◌, ◌++◌, IfOk, OnOk};
+ghost use Rattle.std.specs.Prelude.{◌≡◌, [], ◌∷◌, ◌++◌, ◌≤◌, ◌^◌, IfNone, IfOk, IfSome, OnErr, OnOk};
 ghost use Rattle.geo_base.specs.declared.marker.Marker.TheVariants as marker;
 ghost use Rattle.geo_base.specs.Builder.{named, named_from};
 
@@ -36,16 +36,28 @@ fn name_one(
     cluster: usize,
     position: Option<Position>,
 ) -> Result<(), Memory>
-    ensures { OnOk result (named.new ≡ named.old ++ named_from cluster (position ∷ [])) }
+    ensures ok { OnOk result (named.new ≡ named.old ++ named_from cluster (position ∷ [])) }
+    ensures err { OnErr result (named.new ≡ named.old) }
 {
     let Some(position) = position else {
         return Ok(());
     };
-    let Ok(number) = u32::try_from(cluster) else {
+    let Some(number) = number_of(cluster) else {
         return Err(Memory);
     };
     named.push(ClusterPosition {
         cluster: Place::Known(number),
         position,
     })
+}
+
+/// The number of a cluster at a place; `None` exactly where that has no 32 bits.
+fn number_of(place: usize) -> Option<u32>
+    ensures number { IfSome result (λ n. n ≡ place) }
+    ensures none { IfNone result (2 ^ 32 ≤ place) }
+{
+    match u32::try_from(place) {
+        Ok(number) => Some(number),
+        Err(_) => None,
+    }
 }

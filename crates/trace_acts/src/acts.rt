@@ -1,5 +1,5 @@
 //! Lines.
-ghost use Rattle.std.specs.Prelude.{◌≡◌, ◌≤◌, ◌++◌, ◌∷◌, [], length, codes, OnOk};
+ghost use Rattle.std.specs.Prelude.{◌≡◌, ◌≤◌, ◌++◌, ◌∷◌, [], length, codes, OnOk, OnErr, take};
 ghost use Rattle.geo_base.specs.Report.{words};
 ghost use Rattle.geo_base.specs.TraceItems.{Acks, Appends, Begins, Creates, Deletes, Seeks};
 ghost use Rattle.geo_base.specs.TraceText.{item_line, shown_by, shown_cause, shown_start};
@@ -17,7 +17,8 @@ use report_lines::{add_entry_words, add_number, add_position};
 /// `event NUMBER`
 #[tactic(auto, unfolding(geo_base::specs::TraceText::item_line))]
 pub fn add_begin(lines: &mut Blob, number: u64) -> Result<(), Memory>
-    ensures { (s : Setup) → OnOk result (lines.new ≡ lines.old ++ (item_line s (Begins number) ++ 10 ∷ [])) }
+    ensures ok { (s : Setup) → OnOk result (lines.new ≡ lines.old ++ (item_line s (Begins number) ++ 10 ∷ [])) }
+    ensures err { OnErr result (take (length lines.old) lines.new ≡ lines.old) }
 {
     lines.append(b"event ")?;
     add_number(lines, number)?;
@@ -34,7 +35,8 @@ pub fn add_append(
     by: Option<Position>,
 ) -> Result<(), Memory>
     requires { length at.now.clusters ≤ CLUSTERS }
-    ensures { OnOk result (lines.new ≡ lines.old ++ act_line at.now (Appends position entry.now by)) }
+    ensures ok { OnOk result (lines.new ≡ lines.old ++ act_line at.now (Appends position entry.now by)) }
+    ensures err { OnErr result (take (length lines.old) lines.new ≡ lines.old) }
 {
     add_head(lines, b"append", at)?;
     lines.append(b" ")?;
@@ -45,7 +47,8 @@ pub fn add_append(
 
 /// `create TOPIC CLUSTER SUB START`
 pub fn add_create(lines: &mut Blob, at: &Naming<'_>, sub: &[u8], latest: bool) -> Result<(), Memory>
-    ensures { OnOk result (lines.new ≡ lines.old ++ act_line at.now (Creates sub.now latest)) }
+    ensures ok { OnOk result (lines.new ≡ lines.old ++ act_line at.now (Creates sub.now latest)) }
+    ensures err { OnErr result (take (length lines.old) lines.new ≡ lines.old) }
 {
     add_sub(lines, b"create", at, sub)?;
     lines.append(b" ")?;
@@ -55,7 +58,8 @@ pub fn add_create(lines: &mut Blob, at: &Naming<'_>, sub: &[u8], latest: bool) -
 
 /// `delete TOPIC CLUSTER SUB`
 pub fn add_delete(lines: &mut Blob, at: &Naming<'_>, sub: &[u8]) -> Result<(), Memory>
-    ensures { OnOk result (lines.new ≡ lines.old ++ act_line at.now (Deletes sub.now)) }
+    ensures ok { OnOk result (lines.new ≡ lines.old ++ act_line at.now (Deletes sub.now)) }
+    ensures err { OnErr result (take (length lines.old) lines.new ≡ lines.old) }
 {
     add_sub(lines, b"delete", at, sub)?;
     lines.append(b"\n")
@@ -70,7 +74,8 @@ pub fn add_acks(
     gained: &Cursor,
     cause: Cause,
 ) -> Result<(), Memory>
-    ensures { OnOk result (lines.new ≡ lines.old ++ act_line at.now (Acks sub.now gained.now.indexes cause)) }
+    ensures ok { OnOk result (lines.new ≡ lines.old ++ act_line at.now (Acks sub.now gained.now.indexes cause)) }
+    ensures err { OnErr result (take (length lines.old) lines.new ≡ lines.old) }
 {
     add_sub(lines, b"ack", at, sub)?;
     lines.append(b" ")?;
@@ -81,7 +86,8 @@ pub fn add_acks(
 
 /// `seek TOPIC CLUSTER SUB INDEX`
 pub fn add_seek(lines: &mut Blob, at: &Naming<'_>, sub: &[u8], index: u64) -> Result<(), Memory>
-    ensures { OnOk result (lines.new ≡ lines.old ++ act_line at.now (Seeks sub.now index)) }
+    ensures ok { OnOk result (lines.new ≡ lines.old ++ act_line at.now (Seeks sub.now index)) }
+    ensures err { OnErr result (take (length lines.old) lines.new ≡ lines.old) }
 {
     add_sub(lines, b"seek", at, sub)?;
     lines.append(b" ")?;
@@ -91,7 +97,8 @@ pub fn add_seek(lines: &mut Blob, at: &Naming<'_>, sub: &[u8], index: u64) -> Re
 
 /// What was done, and where.
 fn add_head(lines: &mut Blob, kind: &[u8], at: &Naming<'_>) -> Result<(), Memory>
-    ensures { OnOk result (lines.new ≡ lines.old ++ (kind.now ++ (32 ∷ (at.now.topic ++ (32 ∷ at.now.cluster))))) }
+    ensures ok { OnOk result (lines.new ≡ lines.old ++ (kind.now ++ (32 ∷ (at.now.topic ++ (32 ∷ at.now.cluster))))) }
+    ensures err { OnErr result (take (length lines.old) lines.new ≡ lines.old) }
 {
     lines.append(kind)?;
     lines.append(b" ")?;
@@ -102,7 +109,8 @@ fn add_head(lines: &mut Blob, kind: &[u8], at: &Naming<'_>) -> Result<(), Memory
 
 /// What was done to a subscription, and where.
 fn add_sub(lines: &mut Blob, kind: &[u8], at: &Naming<'_>, sub: &[u8]) -> Result<(), Memory>
-    ensures { OnOk result (lines.new ≡ lines.old ++ (kind.now ++ (32 ∷ (at.now.topic ++ (32 ∷ (at.now.cluster ++ (32 ∷ sub.now))))))) }
+    ensures ok { OnOk result (lines.new ≡ lines.old ++ (kind.now ++ (32 ∷ (at.now.topic ++ (32 ∷ (at.now.cluster ++ (32 ∷ sub.now))))))) }
+    ensures err { OnErr result (take (length lines.old) lines.new ≡ lines.old) }
 {
     add_head(lines, kind, at)?;
     lines.append(b" ")?;
@@ -118,7 +126,8 @@ fn start(latest: bool) -> &'static [u8]
 
 /// Who acknowledged, behind a space.
 fn add_cause(lines: &mut Blob, cause: Cause) -> Result<(), Memory>
-    ensures { OnOk result (lines.new ≡ lines.old ++ spaced (shown_cause cause)) }
+    ensures ok { OnOk result (lines.new ≡ lines.old ++ spaced (shown_cause cause)) }
+    ensures err { OnErr result (take (length lines.old) lines.new ≡ lines.old) }
 {
     match cause {
         Cause::Client => lines.append(b" client"),
@@ -133,7 +142,8 @@ fn add_cause(lines: &mut Blob, cause: Cause) -> Result<(), Memory>
 
 /// The snapshot that an update tells, behind a space.
 fn add_by(lines: &mut Blob, by: Option<Position>) -> Result<(), Memory>
-    ensures { OnOk result (lines.new ≡ lines.old ++ spaced (shown_by by)) }
+    ensures ok { OnOk result (lines.new ≡ lines.old ++ spaced (shown_by by)) }
+    ensures err { OnErr result (take (length lines.old) lines.new ≡ lines.old) }
 {
     match by {
         None => Ok(()),

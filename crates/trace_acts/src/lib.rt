@@ -1,8 +1,8 @@
 //! The lines of a trace, each from its parts: that an event begins, and what was written durably of a topic at a cluster.
 //!
 //! A line ends with its line feed, and is exactly the one that `geo_base`'s definition of a trace has. Each call appends its line to
-//! those before it. Where memory ends in the midst, an `Err`, it is left open what was appended, since the lines of an event are
-//! made apart from where they go.
+//! those before it. Where memory ends in the midst, an `Err`, what stood before stands, with a part of the line or none: the lines of
+//! an event are made apart from where they go.
 #![tactic(auto)]
 
 mod acts;

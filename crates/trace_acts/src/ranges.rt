@@ -1,5 +1,5 @@
 //! The indexes that a cursor gained, as ranges.
-ghost use Rattle.std.specs.Prelude.{◌≡◌, ◌++◌, ◌∷◌, [], if◌then◌else◌, OnOk};
+ghost use Rattle.std.specs.Prelude.{◌≡◌, ◌++◌, ◌∷◌, [], if◌then◌else◌, OnOk, OnErr, take, length};
 ghost use Rattle.geo_base.specs.TraceText.{ranges_of, shown_range, shown_ranges};
 ghost use Rattle.trace_acts.specs.Ranges.{as_shown};
 
@@ -9,14 +9,16 @@ use report_lines::add_number;
 
 /// Ranges of indexes that ascend, with a gap between each two, with commas; `-` where there is none.
 pub(crate) fn add_ranges(lines: &mut Blob, gained: &Cursor) -> Result<(), Memory>
-    ensures { OnOk result (lines.new ≡ lines.old ++ shown_ranges (ranges_of gained.now.indexes)) }
+    ensures ok { OnOk result (lines.new ≡ lines.old ++ shown_ranges (ranges_of gained.now.indexes)) }
+    ensures err { OnErr result (take (length lines.old) lines.new ≡ lines.old) }
 {
     gained.is_told_by_ranges();
     add_all(lines, gained.ranges().as_slice())
 }
 
 fn add_all(lines: &mut Blob, ranges: &[IndexRange]) -> Result<(), Memory>
-    ensures { OnOk result (lines.new ≡ lines.old ++ shown_ranges (as_shown ranges.now)) }
+    ensures ok { OnOk result (lines.new ≡ lines.old ++ shown_ranges (as_shown ranges.now)) }
+    ensures err { OnErr result (take (length lines.old) lines.new ≡ lines.old) }
 {
     let Some((first, rest)) = ranges.split_first() else {
         return lines.append(b"-");
@@ -30,7 +32,8 @@ fn add_all(lines: &mut Blob, ranges: &[IndexRange]) -> Result<(), Memory>
 }
 
 fn add_range(lines: &mut Blob, range: IndexRange) -> Result<(), Memory>
-    ensures { OnOk result (lines.new ≡ lines.old ++ shown_range (record { first = range.first; last = range.last })) }
+    ensures ok { OnOk result (lines.new ≡ lines.old ++ shown_range (record { first = range.first; last = range.last })) }
+    ensures err { OnErr result (take (length lines.old) lines.new ≡ lines.old) }
 {
     add_number(lines, range.first)?;
     lines.append(b"-")?;

@@ -1,5 +1,5 @@
 //! The lines of an event's writes.
-ghost use Rattle.std.specs.Prelude.{◌≡◌, ◌++◌, take, OnOk};
+ghost use Rattle.std.specs.Prelude.{◌≡◌, ◌++◌, take, OnOk, OnErr, length};
 ghost use Rattle.broker_state.specs.Fits.{PlanFits};
 ghost use Rattle.broker_state.specs.Plan.{plan_in};
 ghost use Rattle.broker_state.specs.Writes.{machine_write};
@@ -28,7 +28,7 @@ use trace_acts::{
 };
 
 /// Appends the lines of the first `count` durable writes of an event that is prepared at a broker, in their order. An `Err` is want of
-/// memory, and then it is left open what was appended.
+/// memory, and then the lines before stand, with a part of what was to be appended or none.
 #[tactic(auto, using(crate::proofs::Steps::no_line))]
 pub fn add_writes(
     alloc: Global,
@@ -43,6 +43,7 @@ pub fn add_writes(
     requires known { Knows node.now telling.old.snapshots }
     ensures told { OnOk result (telling.new.text ≡ telling.old.text ++ lines_of node.now.site (acts_before node.now.site (cause_of node.now.broker event.now) node.now.broker (take count (plan_in node.now.broker plan.now).writes))) }
     ensures seen { HaveSeen node.now telling.old.snapshots telling.new.snapshots }
+    ensures err { OnErr result (take (length telling.old.text) telling.new.text ≡ telling.old.text) }
 {
     let cause = cause_of(node, event);
     let sub = name_of(node, plan);
@@ -66,6 +67,7 @@ fn add_write(
     requires known { Knows node.now telling.old.snapshots }
     ensures told { OnOk result (telling.new.text ≡ telling.old.text ++ lines_of node.now.site (act_of node.now.site cause node.now.broker (machine_write sub.now node.now.broker.entries write.now))) }
     ensures seen { HaveSeen node.now telling.old.snapshots telling.new.snapshots }
+    ensures err { OnErr result (take (length telling.old.text) telling.new.text ≡ telling.old.text) }
 {
     match write {
         BookWrite::Append { entry, .. } => append(alloc, telling, node, entry),
@@ -87,6 +89,7 @@ fn append(alloc: Global, telling: &mut Telling, node: &Broker, entry: &Entry) ->
     requires known { Knows node.now telling.old.snapshots }
     ensures told { OnOk result (telling.new.text ≡ telling.old.text ++ act_line (naming node.now.site) (Appends (next_position node.now.site.per_ledger node.now.broker.ledgers) entry.now (snapshot_told node.now.site node.now.broker entry.now entry.now.content))) }
     ensures seen { HaveSeen node.now telling.old.snapshots telling.new.snapshots }
+    ensures err { OnErr result (take (length telling.old.text) telling.new.text ≡ telling.old.text) }
 {
     let by = snapshot_told(alloc, &mut telling.snapshots, node, entry)?;
     add_append(
@@ -109,7 +112,8 @@ fn add_sub_write(
     write: &SubWrite,
 ) -> Result<(), Memory>
     requires { SubIsWithin node.now.broker.entries write.now }
-    ensures { OnOk result (lines.new ≡ lines.old ++ lines_of node.now.site (act_of node.now.site cause node.now.broker (machine_sub_write sub.now node.now.broker.entries write.now))) }
+    ensures ok { OnOk result (lines.new ≡ lines.old ++ lines_of node.now.site (act_of node.now.site cause node.now.broker (machine_sub_write sub.now node.now.broker.entries write.now))) }
+    ensures err { OnErr result (take (length lines.old) lines.new ≡ lines.old) }
 {
     let at = naming(node);
     let none = Cursor::none(alloc);

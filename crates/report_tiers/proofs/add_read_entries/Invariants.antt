@@ -1,4 +1,4 @@
-use Rattle.std.proofs.Common.{◌≡◌, ◌++◌, drop}
+use Rattle.std.proofs.Common.{◌≡◌, ◌++◌, drop, take, length}
 use Rattle.geo_base.specs.Report.{entry_lines, with_line_feeds}
 use Rattle.tier_store.specs.Kept.{kept_in}
 use Rattle.tiered_ledger.specs.Tiered.{Holds}
@@ -10,6 +10,7 @@ invariant-loop-index g l = record {
   holds : Holds l.clusters kept_in (g.S.EntryStore.entries l.store) l.topic;
   lines : l.lines ++ with_line_feeds (entry_lines l.clusters (g.S.EntryStore.ledgers l.store) l.index (drop l.index (g.S.EntryStore.entries l.store)))
       ≡ l.initial.lines ++ with_line_feeds (entry_lines l.clusters (g.S.EntryStore.ledgers l.store) 0 (g.S.EntryStore.entries l.store));
+  begins : take (length l.initial.lines) l.lines ≡ l.initial.lines;
 }
 
 abbrev pub ghost-add_read_entry : goal.ghost-add_read_entry

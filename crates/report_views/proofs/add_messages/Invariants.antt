@@ -1,4 +1,4 @@
-use Rattle.std.proofs.Common.{◌≡◌, ◌-◌, ◌++◌, drop, length}
+use Rattle.std.proofs.Common.{◌≡◌, ◌-◌, ◌++◌, drop, length, take}
 use Rattle.std.specs.Prelude.{min}
 use Rattle.geo_base.specs.Report.{with_line_feeds}
 use Rattle.report_views.specs.Views.{shown_lines, view_messages}
@@ -8,8 +8,11 @@ use Rattle.report_views.proofs.add_messages.Given as goal
 abbrev pub invariant-loop-index : goal.invariant-loop-index
 invariant-loop-index g l =
     let es = g.S.EntryStore.entries l.store in let ledgers = g.S.EntryStore.ledgers l.store in
-    l.lines ++ with_line_feeds (shown_lines l.clusters ledgers (min l.horizon (length es)) es l.from (drop l.from es))
-    ≡ l.initial.lines ++ with_line_feeds (view_messages l.clusters l.horizon ledgers es)
+    record {
+      so_far : l.lines ++ with_line_feeds (shown_lines l.clusters ledgers (min l.horizon (length es)) es l.from (drop l.from es))
+          ≡ l.initial.lines ++ with_line_feeds (view_messages l.clusters l.horizon ledgers es);
+      begins : take (length l.initial.lines) l.lines ≡ l.initial.lines;
+    }
 
 -- the next message stands behind those shown
 abbrev pub decreases-loop-index : goal.decreases-loop-index

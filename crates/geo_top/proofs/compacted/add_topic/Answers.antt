@@ -16,7 +16,7 @@ loop-number-preserved c =
     (c.args.lines.now ++ with_line_feeds (views_at s (shown_world b) c.args.horizon c.args.topic name 0 s.clusters))
     (rw names at c.index-clusters-number.is) c.topic.ensures c.store-store.ensures.entries c.store-store.ensures.ledgers
     (first_line name c.index-clusters-number.result c.as_str-name.result.now c.as_str.result.now _ c.loop-number.lines c.add.new.lines c.min-kept.result c.args.horizon c.len.result es
-    c.in_ok-add.ensures c.in_ok-horizon_line.ensures
+    c.in_ok-add.ensures.ok c.in_ok-horizon_line.ensures
     (c.as_str-name.ensures.text ∙ name_at s.topics c.args.topic c.index-topics-topic.result c.requires.topic (rw c.topics.ensures.names at c.index-topics-topic.is))
     c.as_str.ensures.text c.min-kept.ensures c.len.ensures.len)
-    (rw names at c.in_ok-add_messages.ensures) c.loop-number.invariant
+    (rw names at c.in_ok-add_messages.ensures.ok) c.loop-number.invariant

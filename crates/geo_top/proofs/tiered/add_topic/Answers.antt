@@ -29,7 +29,7 @@ loop-number-preserved c =
     (rw names at c.index-clusters-number.is) c.topic.ensures c.store-store.ensures.entries c.store-store.ensures.ledgers c.store-store.ensures.per_ledger
     (c.offloaded.ensures ∙ c.in_ok-moved.ensures.moved)
     (moved_first name c.index-clusters-number.result c.as_str-name.result.now c.as_str.result.now _ c.loop-number.lines c.add.new.lines c.offloaded.result
-    c.in_ok-add.ensures c.in_ok-moved_line.ensures
+    c.in_ok-add.ensures.ok c.in_ok-moved_line.ensures
     (c.as_str-name.ensures.text ∙ name_at s.topics c.args.topic c.index-topics-topic.result c.requires.topic (rw c.topics.ensures.names at c.index-topics-topic.is))
     c.as_str.ensures.text)
-    (rw names at c.in_ok-add_read_entries.ensures) c.loop-number.invariant
+    (rw names at c.in_ok-add_read_entries.ensures.ok) c.loop-number.invariant

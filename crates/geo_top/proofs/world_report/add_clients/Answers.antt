@@ -19,4 +19,4 @@ loop-number-preserved c =
     let k = c.client-client.result.now in
     client_added s (shown_world b) c.args.topic i c.index-clients-number.result k c.loop-number.lines c.add_client.new.lines
     (c.args.lines.now ++ with_line_feeds (client_lines s (shown_world b) c.args.topic 0 s.clients)) (rw clients at c.loop-number-test.true) (rw clients at c.index-clients-number.is)
-    (client_there s b i k (client_within s b i c.requires (rw clients at c.loop-number-test.true)) c.client-client.ensures) c.in_ok-add_client.ensures c.loop-number.invariant
+    (client_there s b i k (client_within s b i c.requires (rw clients at c.loop-number-test.true)) c.client-client.ensures) c.in_ok-add_client.ensures.ok c.loop-number.invariant

@@ -16,4 +16,4 @@ loop-number-preserved c =
     place_added s b c.requires.at c.args.topic c.loop-number.number c.requires.topic (rw names at c.loop-number-test.true) c.args.name.now c.index-clusters-number.result
     c.topic.result.now c.loop-number.lines c.add.new.lines c.add_broker.new.lines
     (c.args.lines.now ++ with_line_feeds (cluster_lines s (shown_world b) c.args.topic c.args.name.now 0 s.clusters))
-    (rw names at c.index-clusters-number.is) c.topic.ensures (rw (c.in_ok-place_line.ensures, c.as_str.ensures.text) at c.in_ok-add.ensures) c.in_ok-add_broker.ensures c.loop-number.invariant
+    (rw names at c.index-clusters-number.is) c.topic.ensures (rw (c.in_ok-place_line.ensures, c.as_str.ensures.text) at c.in_ok-add.ensures.ok) c.in_ok-add_broker.ensures.ok c.loop-number.invariant

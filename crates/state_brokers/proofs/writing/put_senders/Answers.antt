@@ -1,3 +1,4 @@
+use Rattle.state_items.proofs.Standing.{still_stands}
 use Rattle.state_brokers.proofs.Rows.{senders_step}
 use Rattle.state_brokers.proofs.Tails.{sender_below}
 use Rattle.state_brokers.proofs.writing.put_senders.Goals as goal
@@ -8,4 +9,9 @@ put_place-requires c =
 
 pub loop-cluster-preserved : goal.loop-cluster-preserved
 loop-cluster-preserved c =
-    senders_step c.args.entries c.args.own c.args.senders.now c.loop-cluster.cluster _ c.loop-cluster.out c.put_place.new.out _ c.loop-cluster-test.true c.loop-cluster.invariant (rw c.index-senders-cluster.is at c.in_ok-put_place.ensures)
+    record {
+      so_far =
+          senders_step c.args.entries c.args.own c.args.senders.now c.loop-cluster.cluster _ c.loop-cluster.out c.put_place.new.out _ c.loop-cluster-test.true c.loop-cluster.invariant.so_far
+          (rw c.index-senders-cluster.is at c.in_ok-put_place.ensures.ok);
+      begins = still_stands c.args.out.now c.loop-cluster.out c.put_place.new.out _ c.in_ok-put_place.ensures.ok c.loop-cluster.invariant.begins;
+    }

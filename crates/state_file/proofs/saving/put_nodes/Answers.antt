@@ -6,4 +6,4 @@ put_node-requires c = rw c.index-nodes-number.is (node_can c.args.nodes.now c.lo
 
 pub loop-number-preserved : goal.loop-number-preserved
 loop-number-preserved c =
-    nodes_step c.args.names.now c.args.nodes.now c.loop-number.number _ c.loop-number.out c.put_node.new.out _ c.loop-number-test.true c.loop-number.invariant (rw c.index-nodes-number.is at c.in_ok-put_node.ensures)
+    nodes_step c.args.names.now c.args.nodes.now c.loop-number.number _ c.loop-number.out c.put_node.new.out _ c.loop-number-test.true c.loop-number.invariant (rw c.index-nodes-number.is at c.in_ok-put_node.ensures.ok)

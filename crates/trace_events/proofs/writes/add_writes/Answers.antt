@@ -1,4 +1,6 @@
 use Rattle.std.proofs.Common.{◌<◌, arith, refl}
+use Rattle.std.proofs.Math.Seq.{take-length}
+use Rattle.report_lines.proofs.Standing.{still_stands}
 use Rattle.broker_state.specs.Plan.{name_in}
 use Rattle.geo_base.specs.Traced.{cause_of}
 use Rattle.trace_events.proofs.Seen.{seen_both, seen_same}
@@ -14,7 +16,7 @@ add_write-requires c =
     }
 
 pub loop-number-init : goal.loop-number-init
-loop-number-init c = record { told = refl; seen = seen_same c.args.node.now c.args.telling.now.snapshots c.requires.known }
+loop-number-init c = record { told = refl; begins = take-length c.args.telling.now.text; seen = seen_same c.args.node.now c.args.telling.now.snapshots c.requires.known }
 
 pub loop-number-preserved : goal.loop-number-preserved
 loop-number-preserved c =
@@ -25,5 +27,6 @@ loop-number-preserved c =
           write_added v.site (cause_of v.broker c.args.event.now) c.cause_of-cause.result v.broker c.name_of-sub.result.now (name_in v.broker.subs p) c.args.count c.loop-number.number p.writes
           c.write_at.result.now c.loop-number.telling.text c.add_write.new.telling.text _ c.write_at.ensures within c.cause_of-cause.ensures c.name_of-sub.ensures c.in_ok-add_write.ensures.told
           c.loop-number.invariant.told;
+      begins = still_stands c.args.telling.now.text c.loop-number.telling.text c.add_write.new.telling.text _ c.in_ok-add_write.ensures.told c.loop-number.invariant.begins;
       seen = seen_both v c.args.telling.now.snapshots c.loop-number.telling.snapshots c.add_write.new.telling.snapshots c.loop-number.invariant.seen c.in_ok-add_write.ensures.seen;
     }

@@ -11,7 +11,7 @@ use Rattle.history_packets.proofs.walk.Walk.pass.Goals as goal
 pub returns : goal.returns
 returns c = λ l n ds h.
     let w = c.args.self.now in let d = c.args.done.now in
-    let raised : IsRaised (asked w.cluster d) c.self.inside.counts c.raise_for.new.self = rw c.asked-asked.ensures at c.in_ok-raise_for.ensures in
+    let raised : IsRaised (asked w.cluster d) c.self.inside.counts c.raise_for.new.self = rw c.asked-asked.ensures at c.in_ok-raise_for.ensures.ok in
     let at : c.cluster_then-self-inside.result ≡ cluster_then w.cluster d.sent =
     c.cluster_then-self-inside.ensures
     ∙ (ap (λ (os : List (ByteSent WirePacket)). cluster_then c.self.inside.cluster os) (c.as_slice.ensures.value ∙ ap (λ (x : Kept). x.sent) c.done.view_is)

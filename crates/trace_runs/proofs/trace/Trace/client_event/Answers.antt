@@ -36,7 +36,7 @@ returns-clause-told c = λ w reached stands.
     let s = c.args.scenario.now.setup in let text = c.args.self.now.telling.text in
     client_told s c.args.world.now c.event.new.self w c.args.event.now text c.add_begin.new.lines tt c.requires.client stands (c.in_ok-event.ensures.leads w reached stands)
     (λ same. c.if-events-before.false (c.events.ensures.events ∙ (same ∙ sym c.events-before.ensures.events)))
-    (c.in_ok-add_begin.ensures s ∙ ap (λ (n : ℕ). text ++ (item_line s (Begins (n + 1)) ++ 10 ∷ [])) c.events-before.ensures.events)
+    (c.in_ok-add_begin.ensures.ok s ∙ ap (λ (n : ℕ). text ++ (item_line s (Begins (n + 1)) ++ 10 ∷ [])) c.events-before.ensures.events)
 
 pub returns-clause-comes : goal.returns-clause-comes
 returns-clause-comes c = λ w reached stands.

@@ -10,7 +10,7 @@ returns-clause-told c = λ w reached stands.
     let s = c.args.scenario.now.setup in let text = c.args.self.now.telling.text in
     stop_told s c.args.world.now c.stop.new.self w text c.add_begin.new.lines c.stop.result stands
     (stopping_comes s c.args.world.now c.stop.new.self w c.stop.result stands (c.stop.ensures.leads w reached stands) c.stop.ensures.err)
-    (c.in_ok-add_begin.ensures s ∙ ap (λ (n : ℕ). text ++ (item_line s (Begins (n + 1)) ++ 10 ∷ [])) c.events.ensures.events)
+    (c.in_ok-add_begin.ensures.ok s ∙ ap (λ (n : ℕ). text ++ (item_line s (Begins (n + 1)) ++ 10 ∷ [])) c.events.ensures.events)
 
 pub returns-clause-comes : goal.returns-clause-comes
 returns-clause-comes c = λ w reached stands.
