@@ -16,7 +16,7 @@ pub fn is_same_entry(entry: &Entry, other: &Entry) -> bool
     is_same_ident(&entry.ident, &other.ident)
         && is_same_targets(&entry.to, &other.to)
         && is_same_content(&entry.content, &other.content)
-        && is_same_key(&entry.meta.key, &other.meta.key)
+        && is_same_key(entry.meta.key(), other.meta.key())
         && are_same_bytes(&entry.payload, &other.payload)
 }
 
@@ -70,7 +70,9 @@ fn is_same_content(content: &Content, other: &Content) -> bool
 {
     match (content, other) {
         (Content::Data, Content::Data) => true,
-        (Content::Marked(marker), Content::Marked(other)) => is_same_marker(marker, other),
+        (Content::Marked(marker), Content::Marked(other)) => {
+            is_same_marker(marker.get(), other.get())
+        }
         (Content::Unread(kind), Content::Unread(other)) => *kind == *other,
         _ => false,
     }

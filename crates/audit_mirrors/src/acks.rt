@@ -141,7 +141,10 @@ impl TopicMirror {
 fn told_position(cluster: u32, sub: &Text, entry: &Entry) -> Option<Position>
     ensures { result ≡ told_position cluster sub.now entry.now }
 {
-    let Content::Marked(Marker::Update { sub: name, remote }) = &entry.content else {
+    let Content::Marked(marker) = &entry.content else {
+        return None;
+    };
+    let Marker::Update { sub: name, remote } = marker.get() else {
         return None;
     };
     if name.as_bytes() != sub.as_bytes() || entry.ident.origin == cluster {

@@ -24,7 +24,10 @@ pub(crate) fn own_snapshot(
     ensures snapshot { IfOk result (λ o. o ≡ own_snapshot book.now.site book.now.broker (sub_at book.now.broker.subs place) entry.now.ident.origin entry.now.content) }
     ensures small { IfOk result (λ o. IfSome o (IsSnapshotOf book.now.site)) }
 {
-    let Content::Marked(Marker::Snapshot { local, remote, .. }) = &entry.content else {
+    let Content::Marked(marker) = &entry.content else {
+        return Ok(None);
+    };
+    let Marker::Snapshot { local, remote, .. } = marker.get() else {
         return Ok(None);
     };
     if entry.ident.origin != book.site().own() || !sub_at(book, place).is_replicated() {

@@ -157,7 +157,7 @@ fn pick(sub: &Sub, entry: &Entry) -> Option<usize>
 fn key_bytes(entry: &Entry) -> &[u8]
     ensures { result.now ≡ key_bytes entry.now.meta.key }
 {
-    match &entry.meta.key {
+    match entry.meta.key() {
         Some(key) => key.as_bytes(),
         None => &[],
     }

@@ -5,9 +5,7 @@ use Rattle.std.specs.Option.{option_copied}
 use Rattle.dedup_table.specs.Table.{stream_of}
 use Rattle.dedup_table.specs.declared.stream.Stream.{Stream}
 use Rattle.frame_values.proofs.Counting.{varint_most}
-use Rattle.geo_base.specs.declared.entry.Content.TheVariants as content
 use Rattle.geo_base.specs.declared.entry.Entry.{Entry}
-use Rattle.geo_base.specs.declared.entry.Targets.TheVariants as targets
 use Rattle.geo_base.specs.Broker.{Site}
 use Rattle.geo_base.specs.Sizes.{entry_size, number_field, optional_text, tag_size, text_field}
 use Rattle.frame_values.proofs.Entries.{no_rest}
@@ -16,7 +14,8 @@ use Rattle.broker_state.specs.Plan.{PlanBook, quiet_book}
 use Rattle.broker_state.specs.declared.write.BookWrite.TheVariants as book_write
 use Rattle.broker_plans.specs.Storable.{IsStorable, most_stored}
 use Rattle.broker_plans.specs.Updates.{appending}
-use Rattle.broker_plans.specs.Usual.{entry_viewed, text_length}
+use Rattle.broker_plans.specs.Usual.{text_length}
+use Rattle.frame_values.specs.Usual.{entry_viewed}
 use Rattle.broker_plans.proofs.Keeping.{stores}
 
 -- ---- sizes
@@ -73,19 +72,9 @@ message_storable h x m few = record { read = record { rest = no_rest; marker = t
 
 -- ---- the entry that the code makes
 
-pub appended : (x : ℕ) (m : MessageView) (p : List ℕ) (k : Option (List ℕ)) (names : List (List ℕ)) (rest payload : List ℕ) (s : Stream) (q r : PlanBook)
-    → p ≡ m.meta.producer.now → k ≡ option_copied m.meta.key → names ≡ [] → rest ≡ [] → payload ≡ m.payload.now → s ≡ stream_of (entry_viewed x m).ident
-    → r ≡ record q {
-      writes = q.writes ++ book_write.Append (record {
-        ident = record { origin = x; producer = p; seq = m.meta.seq };
-        content = content.Data;
-        to = targets.All;
-        meta = record { publish_time = m.meta.publish_time; key = k; names = names; rest = rest };
-        payload = payload;
-      }) s ∷ [];
-    }
-    → r ≡ record q { writes = q.writes ++ appending (entry_viewed x m) ∷ [] }
-appended x m p k names rest payload s q r e1 e2 e3 e4 e5 e6 is = is ∙ rw (e1, e2, e3, e4, e5, e6) refl
+pub appended : (x : ℕ) (m : MessageView) (e : Entry) (s : Stream) (q r : PlanBook) → e ≡ entry_viewed x m → s ≡ stream_of (entry_viewed x m).ident
+    → r ≡ record q { writes = q.writes ++ book_write.Append e s ∷ [] } → r ≡ record q { writes = q.writes ++ appending (entry_viewed x m) ∷ [] }
+appended x m e s q r viewed stream is = is ∙ rw (viewed, stream) refl
 
 -- the plan that stores it
 pub stores_message : (e : Entry) (q p : PlanBook) → q ≡ quiet_book 0 → p ≡ record q { writes = q.writes ++ appending e ∷ [] } → p ≡ stores e

@@ -8,7 +8,8 @@ use broker_state::{BookWrite, BrokerState};
 use dedup_table::Stream;
 use durable_parts::MARKER_PRODUCER;
 use geo_base::{
-    Blob, Content, Entry, Ident, Marker, Memory, Metadata, ProducerName, Sequence, Targets, Text,
+    Blob, BoxedMarker, Content, Entry, Ident, Marker, Memory, Metadata, ProducerName, Sequence,
+    Targets, Text,
 };
 use std::alloc::Global;
 
@@ -29,14 +30,9 @@ pub fn own_marker(
             producer: ProducerName::any(alloc, MARKER_PRODUCER)?,
             seq: book.next_marker(),
         },
-        content: Content::Marked(marker),
+        content: Content::Marked(BoxedMarker::new(alloc, marker)?),
         to,
-        meta: Metadata {
-            publish_time: 0,
-            key: None,
-            names,
-            rest: Blob::new(alloc),
-        },
+        meta: Metadata::new(alloc, 0, None, names, Blob::new(alloc))?,
         payload: Blob::new(alloc),
     })
 }

@@ -25,7 +25,7 @@ pub const NOWHERE: Position = Position {
 
 /// An event that stores an entry which came, unless it is a duplicate. The answer is the position that its receipt names. Where memory is
 /// wanting, the plan has no step.
-#[tactic(auto, using(crate::proofs::Keeping::new_stored, crate::proofs::Keeping::old_stored, crate::proofs::Keeping::new_place, crate::proofs::Keeping::old_place, crate::proofs::Keeping::new_room, crate::proofs::Keeping::no_room))]
+#[tactic(auto, using(crate::proofs::Keeping::new_stored, crate::proofs::Keeping::old_stored, crate::proofs::Keeping::new_place, crate::proofs::Keeping::new_room, crate::proofs::Keeping::no_room))]
 pub fn storing(
     alloc: Global,
     book: &mut BrokerState,

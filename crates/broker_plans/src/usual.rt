@@ -11,16 +11,15 @@ ghost use Rattle.broker_state.specs.State.{SameState};
 ghost use Rattle.broker_plans.specs.Prepared.{AlsoSends, IsPrepared};
 ghost use Rattle.broker_plans.specs.Storable.{IsStorable};
 ghost use Rattle.broker_plans.specs.Updates.{appending};
-ghost use Rattle.broker_plans.specs.Usual.{entry_viewed, receipt_out, text_length};
+ghost use Rattle.broker_plans.specs.Usual.{receipt_out, text_length};
+ghost use Rattle.frame_values.specs.Usual.{entry_viewed};
 
 use crate::receiving::NOWHERE;
 use broker_state::{BookWrite, BrokerState, Plan};
 use dedup_table::Stream;
+use frame_values::entry_of_message;
 use geo_base::limits::ENTRY_BYTES;
-use geo_base::{
-    Blob, Content, Entry, EntryStore, Ident, Memory, Metadata, Peer, Position, ProducerName,
-    Sequence, Targets, Text, WireOut,
-};
+use geo_base::{EntryStore, Memory, Peer, Position, ProducerName, WireOut};
 use pulsar_commands::CommandView;
 use pulsar_frames::{MessageView, write_usual_command};
 use std::alloc::Global;
@@ -122,38 +121,9 @@ fn append_message(
     requires { stream ≡ stream_of (entry_viewed origin message).ident }
     ensures { OnOk result (plan.new ≡ record plan.old { writes = plan.old.writes ++ appending (entry_viewed origin message.entry) ∷ [] }) }
 {
-    let MessageView { meta, payload } = message;
-    let key = copy_of(alloc, meta.key)?;
-    let producer = ProducerName::any(alloc, meta.producer)?;
-    let payload = Blob::from_slice(alloc, payload)?;
-    let entry = Entry {
-        ident: Ident {
-            origin,
-            producer,
-            seq: meta.seq,
-        },
-        content: Content::Data,
-        to: Targets::All,
-        meta: Metadata {
-            publish_time: meta.publish_time,
-            key,
-            names: Sequence::new(alloc),
-            rest: Blob::new(alloc),
-        },
-        payload,
-    };
+    let entry = entry_of_message(alloc, origin, message)?;
     plan.write(BookWrite::Append { entry, stream })?;
     Ok(())
-}
-
-/// A copy of a text that may be absent.
-fn copy_of(alloc: Global, text: Option<&str>) -> Result<Option<Text>, Memory>
-    ensures { IfOk result (λ copy. copy ≡ option_copied text.entry) }
-{
-    match text {
-        None => Ok(None),
-        Some(text) => Ok(Some(Text::from_str(alloc, text)?)),
-    }
 }
 
 /// An event that sends, behind all that it does, the receipt of a SEND.

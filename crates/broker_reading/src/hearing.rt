@@ -193,7 +193,7 @@ fn keep_builder(
 }
 
 /// A marker is stored, and the snapshot that is being made is another one or none.
-#[tactic(auto, using(crate::proofs::Plans::told, crate::proofs::Plans::told_room))]
+#[tactic(auto, using(crate::proofs::Plans::told_room))]
 fn store_with_builder(
     alloc: Global,
     book: &BrokerState,

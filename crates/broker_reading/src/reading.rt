@@ -142,7 +142,7 @@ fn read_content(
     ensures { IfOk result (λ a. IsRead book.now.site book.now.broker book.now.room at.remote at.index (read_content book.now.site book.now.broker at.remote at.index content.now) a plan.new) }
 {
     match content {
-        Content::Marked(marker) => read_marker(alloc, book, at, marker, plan),
+        Content::Marked(marker) => read_marker(alloc, book, at, marker.get(), plan),
         Content::Data | Content::Unread(_) => {
             skip(book, at, plan)?;
             Ok(ReadAct::Ready)

@@ -1,34 +1,18 @@
 -- Frames of the usual form as a client reads and writes them: the machine's frames that they stand for.
 use Rattle.std.specs.Prelude.{ℕ, List, [], Option, Some, None}
-use Rattle.std.specs.Option.{option_copied, option_map}
-use Rattle.geo_base.specs.declared.entry.Content.TheVariants as content
-use Rattle.geo_base.specs.declared.entry.Entry.{Entry}
-use Rattle.geo_base.specs.declared.entry.Targets.TheVariants as targets
 use Rattle.geo_base.specs.declared.frame.Frame.{Frame}
-use Rattle.geo_base.specs.declared.marker.Place.{Place}
 use Rattle.geo_base.specs.Setup.{Declared}
 use Rattle.pulsar_commands.specs.declared.view.CommandView.{CommandView}
 use Rattle.pulsar_commands.specs.Usual.{command_viewed}
 use Rattle.pulsar_frames.specs.declared.frame.Body.{Body}
 use Rattle.pulsar_frames.specs.declared.view.FrameView.{FrameView}
 use Rattle.pulsar_frames.specs.declared.view.MessageView.{MessageView}
-use Rattle.frame_values.specs.Values.{carrying, place_of, simple_frame}
+use Rattle.frame_values.specs.Usual.{entry_viewed, source_viewed}
+use Rattle.frame_values.specs.Values.{carrying, simple_frame}
 
--- the entry that a message carries; the cluster that stored it first does not stand in the bytes, and is 0 here
-abbrev pub entry_viewed : MessageView → Entry
-entry_viewed m = record {
-  ident = record { origin = 0; producer = m.meta.producer.now; seq = m.meta.seq };
-  content = content.Data;
-  to = targets.All;
-  meta = record { publish_time = m.meta.publish_time; key = option_copied m.meta.key; names = []; rest = [] };
-  payload = m.payload.now;
-}
-
-abbrev pub source_viewed : List (List ℕ) → MessageView → Option Place
-source_viewed names m = option_map (place_of names) (option_copied m.meta.replicated_from)
-
+-- a command and the message that it carries; the cluster that stored it first does not stand in the bytes, and is 0 here
 abbrev pub carrying_viewed : List (List ℕ) → CommandView → MessageView → Frame
-carrying_viewed names v m = carrying (command_viewed v) (source_viewed names m) (entry_viewed m)
+carrying_viewed names v m = carrying (command_viewed v) (source_viewed names m) (entry_viewed 0 m)
 
 abbrev pub value_told : List (List ℕ) → CommandView → Option MessageView → Frame
 value_told names v None = simple_frame (command_viewed v)

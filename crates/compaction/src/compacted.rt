@@ -110,7 +110,7 @@ impl Compacted {
     fn keeps(&self, entry: &Entry, index: u64) -> bool
         ensures { result ≡ is_kept self.now.rows index entry.now.meta.key entry.now.payload }
     {
-        match &entry.meta.key {
+        match entry.meta.key() {
             None => true,
             Some(key) => {
                 !entry.payload.as_slice().is_empty() && is_row(&self.last, key.as_str(), index)
@@ -167,7 +167,7 @@ fn add_row(
 ) -> Result<(), Memory>
     ensures { OnOk result ((k : List ℕ) → index_in k rows.new.items ≡ option_or (index_in k rows.old.items) (if_of_key k index entry.now)) }
 {
-    if let (Content::Data, Some(key)) = (&entry.content, &entry.meta.key) {
+    if let (Content::Data, Some(key)) = (&entry.content, entry.meta.key()) {
         rows.push((String::from_str(alloc, key.as_str())?, index))?;
     }
     Ok(())

@@ -20,6 +20,7 @@ use Rattle.message_meta.specs.Known.{IsRest}
 use Rattle.message_meta.specs.Metadata.{Metadata}
 use Rattle.message_meta.specs.Usual.{meta_viewed}
 use Rattle.pulsar_commands.proofs.Numbers.{both}
+use Rattle.pulsar_commands.specs.declared.acks.AckView.{AckView}
 use Rattle.pulsar_commands.specs.declared.view.CommandView.{CommandView}
 use Rattle.pulsar_commands.specs.declared.view.CommandView.TheVariants as view
 use Rattle.pulsar_commands.specs.Usual.{command_viewed}
@@ -28,11 +29,11 @@ use Rattle.pulsar_frames.specs.declared.frame.Frame.{Frame as WireFrame}
 use Rattle.pulsar_frames.specs.declared.view.FrameView.{FrameView}
 use Rattle.pulsar_frames.specs.declared.view.MessageView.{MessageView}
 use Rattle.pulsar_frames.specs.Frames.{IsFrameText}
-use Rattle.pulsar_frames.specs.Usual.{IsUsualText, bare_viewed, carrying_viewed, frame_viewed, message_viewed}
+use Rattle.pulsar_frames.specs.Usual.{IsUsualText, acking_viewed, bare_viewed, carrying_viewed, frame_viewed, message_viewed}
 use Rattle.frame_values.specs.Coded.{IsCarriedText, IsMarkerRight, IsWritten}
 use Rattle.frame_values.specs.Standing.{Reads, text as told}
 use Rattle.frame_values.specs.Texts.{body_of, marker_number, metadata_of, payload_text}
-use Rattle.frame_values.specs.Usual.{is_data, is_usual}
+use Rattle.frame_values.specs.Usual.{entry_viewed, is_data, is_usual, source_viewed}
 use Rattle.frame_values.specs.Values.{IsEntryOf, Says, SaysValue, carrying, no_marker, place_of, simple_frame}
 use Rattle.frame_values.proofs.Entries.{no_rest, says_is}
 
@@ -48,25 +49,30 @@ viewed_carries names v m f source e some is says = says_is names (command_viewed
 pub viewed_simple : (names : List (List ℕ)) (v : FrameView) (f : Frame) → v.message ≡ None → f ≡ simple_frame (command_viewed v.command) → SaysValue names (frame_viewed v) f
 viewed_simple names v f none is = subst (λ (o : Option MessageView). Says names (command_viewed v.command) (option_map message_viewed o) f) (sym none) is
 
-pub empty_rest : (bytes : List ℕ) → bytes ≡ [] → IsRest bytes
+empty_rest : (bytes : List ℕ) → bytes ≡ [] → IsRest bytes
 empty_rest bytes is = subst (λ (b : List ℕ). IsRest b) (sym is) no_rest
 
--- the entry that the code makes of a message
-pub entry_is : (names : List (List ℕ)) (m : MessageView) (source : Option Place) (e : Entry) → e.ident.origin ≡ 0 → e.ident.producer ≡ m.meta.producer.now → e.ident.seq ≡ m.meta.seq → e.content ≡ content.Data → e.to ≡ targets.All
-    → e.meta.publish_time ≡ m.meta.publish_time → e.meta.key ≡ option_copied m.meta.key → e.meta.names ≡ [] → e.meta.rest ≡ [] → e.payload ≡ m.payload.now → source ≡ option_map (place_of names) (option_copied m.meta.replicated_from)
-    → IsEntryOf names (message_viewed m) source e
-entry_is names m source e origin producer seq kind all time key listed rest payload from = record {
-  origin = origin;
-  producer = producer;
-  seq = seq;
-  publish_time = time;
-  from = from;
-  key = key;
-  listed = listed;
-  to = all;
-  rest = rest;
-  content = no_marker refl kind payload;
+-- the entry of a message
+viewed : (names : List (List ℕ)) (m : MessageView) → IsEntryOf names (message_viewed m) (source_viewed names m) (entry_viewed 0 m)
+viewed names m = record {
+  origin = refl;
+  producer = refl;
+  seq = refl;
+  publish_time = refl;
+  from = refl;
+  key = refl;
+  listed = refl;
+  to = refl;
+  rest = refl;
+  content = no_marker refl refl refl;
 }
+
+pub entry_is : (names : List (List ℕ)) (m : MessageView) (source : Option Place) (e : Entry) → source ≡ source_viewed names m → e ≡ entry_viewed 0 m → IsEntryOf names (message_viewed m) source e
+entry_is names m source e from is = rw (from, is) (viewed names m)
+
+-- it has no field that nobody reads
+pub viewed_rest : (m : MessageView) (e : Entry) → e ≡ entry_viewed 0 m → IsRest e.meta.rest
+viewed_rest m e is = empty_rest e.meta.rest (ap (λ (e : Entry). e.meta.rest) is)
 
 -- ---- written
 
@@ -117,6 +123,9 @@ carried_is names v source e m o usual same h = IfSome_then o h (λ bytes text. c
       is_text = text.is_text;
       marker = subst (λ (c : Content). IsMarkerRight names c e.payload) (sym parts.message) tt;
     }
+
+pub ack_written : (names : List (List ℕ)) (v : AckView) (bytes : List ℕ) → IsUsualText (acking_viewed v) bytes → IsWritten names (frame.Ack v.consumer_id v.ack_type v.message_id.now) bytes
+ack_written names v bytes h = record { rest = []; kept = refl; canonical = h.canonical; is_text = h.is_text; marker = tt }
 
 pub receipt_written : (names : List (List ℕ)) (id seq : ℕ) (o : Option Position) (p : Position) (bytes : List ℕ) → o ≡ Some p → IsUsualText (bare_viewed (view.SendReceipt id seq p)) bytes → IsWritten names (frame.SendReceipt id seq o) bytes
 receipt_written names id seq o p bytes is h =

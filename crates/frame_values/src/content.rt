@@ -12,8 +12,8 @@ ghost use Rattle.frame_values.specs.Values.{IsContent, place_of, placed_cluster,
 use crate::place::{name_of, place_of};
 use geo_base::limits::CLUSTERS;
 use geo_base::{
-    Blob, ClusterName, ClusterPosition, Content, Marker as MachineMarker, Memory, Place, Sequence,
-    Text,
+    Blob, BoxedMarker, ClusterName, ClusterPosition, Content, Marker as MachineMarker, Memory,
+    Place, Sequence, Text,
 };
 use marker_codec::{ClusterMessageId, Marker, MarkerFault};
 use std::alloc::Global;
@@ -47,7 +47,8 @@ fn marked(
     match Marker::read(alloc, kind, payload.as_slice()) {
         Ok(marker) => {
             let canonical = marker.write(alloc)?;
-            let placed = Content::Marked(placed_marker(alloc, names, marker)?);
+            let placed = placed_marker(alloc, names, marker)?;
+            let placed = Content::Marked(BoxedMarker::new(alloc, placed)?);
             if canonical.as_slice() == payload.as_slice() {
                 Ok((placed, Blob::new(alloc)))
             } else {
@@ -140,7 +141,7 @@ pub fn marker_number(content: &Content) -> Option<u64>
 {
     match content {
         Content::Data => None,
-        Content::Marked(marker) => Some(match marker {
+        Content::Marked(marker) => Some(match marker.get() {
             MachineMarker::Request { .. } => 10,
             MachineMarker::Response { .. } => 11,
             MachineMarker::Snapshot { .. } => 12,
@@ -166,7 +167,7 @@ pub fn canonical_payload(
             if !kept.as_slice().is_empty() {
                 return Ok(None);
             }
-            let text = marker_text(alloc, names, marker)?;
+            let text = marker_text(alloc, names, marker.get())?;
             Ok(Some(text))
         }
         Content::Data | Content::Unread(_) => Ok(None),

@@ -37,6 +37,7 @@ pub(crate) fn entry_of(alloc: Global, names: &[ClusterName], body: Body) -> Resu
     let rest = fields_text(alloc, &meta.rest)?;
     let producer = ProducerName::from_text(meta.producer);
     let to = targets_of(names, meta.replicate_to.as_slice());
+    let metadata = Metadata::new(alloc, meta.publish_time, meta.key, meta.replicate_to, rest)?;
     let (content, payload) = content_of(alloc, names, meta.marker, payload)?;
     Ok(Carried {
         source: optional_place(names, meta.replicated_from),
@@ -48,12 +49,7 @@ pub(crate) fn entry_of(alloc: Global, names: &[ClusterName], body: Body) -> Resu
             },
             content,
             to,
-            meta: Metadata {
-                publish_time: meta.publish_time,
-                key: meta.key,
-                names: meta.replicate_to,
-                rest,
-            },
+            meta: metadata,
             payload,
         },
     })
@@ -80,10 +76,10 @@ pub fn known_of<'a>(
     KnownMeta {
         producer: entry.ident.producer.as_str(),
         seq: entry.ident.seq,
-        publish_time: entry.meta.publish_time,
+        publish_time: entry.meta.publish_time(),
         replicated_from: source_name(names, source),
-        key: &entry.meta.key,
-        replicate_to: &entry.meta.names,
+        key: entry.meta.key(),
+        replicate_to: entry.meta.names(),
         marker: marker_number(&entry.content),
     }
 }

@@ -21,4 +21,5 @@ pub use laws::{canonical_value, one_value, text_sizes};
 pub use place::{number_of, targets_of};
 pub use read::read_value;
 pub use size::is_within_limit;
+pub use usual::entry_of_message;
 pub use write::{is_readable, try_write_value, write_message, write_send, write_value};

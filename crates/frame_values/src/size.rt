@@ -32,11 +32,11 @@ fn metadata_size(entry: &Entry) -> u64
 {
     let named = add_text(0, 1, entry.ident.producer.as_bytes());
     let numbered = add_number(named, 2, entry.ident.seq);
-    let published = add_number(numbered, 3, entry.meta.publish_time);
-    let keyed = add_optional(published, 6, &entry.meta.key);
-    let listed = add_texts(keyed, 7, entry.meta.names.as_slice());
+    let published = add_number(numbered, 3, entry.meta.publish_time());
+    let keyed = add_optional(published, 6, entry.meta.key());
+    let listed = add_texts(keyed, 7, entry.meta.names());
     let marked = add_marker_type(listed, &entry.content);
-    marked.saturating_add(entry.meta.rest.as_slice().len() as u64)
+    marked.saturating_add(entry.meta.rest().len() as u64)
 }
 
 fn add_marker_type(size: u64, content: &Content) -> u64
@@ -53,7 +53,7 @@ fn payload_size(names: &[ClusterName], content: &Content, kept: &Blob) -> u64
     ensures { result ≡ counted (payload_size names.now content.now kept.now) }
 {
     match content {
-        Content::Marked(marker) if kept.as_slice().is_empty() => marker_size(names, marker),
+        Content::Marked(marker) if kept.as_slice().is_empty() => marker_size(names, marker.get()),
         _ => kept.as_slice().len() as u64,
     }
 }

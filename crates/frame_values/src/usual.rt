@@ -10,7 +10,7 @@ ghost use Rattle.pulsar_frames.specs.Frames.{carries};
 ghost use Rattle.pulsar_frames.specs.Usual.{frame_viewed, message_viewed};
 ghost use Rattle.frame_values.specs.Coded.{IsCarriedText};
 ghost use Rattle.frame_values.specs.Texts.{body_of, unread_bytes};
-ghost use Rattle.frame_values.specs.Usual.{is_usual};
+ghost use Rattle.frame_values.specs.Usual.{entry_viewed, is_usual};
 ghost use Rattle.frame_values.specs.Values.{IsEntryOf, SaysValue, carrying, place_of, simple_frame};
 
 use crate::entry::{Carried, source_name};
@@ -18,7 +18,7 @@ use crate::place::number_of;
 use geo_base::limits::CLUSTERS;
 use geo_base::{
     Blob, ClusterName, Content, Entry, Frame, Ident, Memory, Metadata, Place, ProducerName,
-    Sequence, Targets, Text,
+    Targets, Text, optional_text,
 };
 use message_meta::MetaView;
 use pulsar_commands::CommandView;
@@ -94,7 +94,7 @@ fn carrying_value(command: CommandView, source: Option<Place>, entry: Entry) -> 
 }
 
 /// The entry that a message is, and where it says that it was stored first.
-#[tactic(auto, using(crate::proofs::UsualValues::empty_rest, crate::proofs::UsualValues::entry_is))]
+#[tactic(auto, using(crate::proofs::UsualValues::entry_is, crate::proofs::UsualValues::viewed_rest))]
 fn usual_entry(
     alloc: Global,
     names: &[ClusterName],
@@ -104,38 +104,31 @@ fn usual_entry(
     ensures is { IfOk result (λ c. IsEntryOf names.now (message_viewed message.entry) c.source c.entry) }
     ensures rest { IfOk result (λ c. IsRest c.entry.meta.rest) }
 {
-    let MessageView { meta, payload } = message;
-    let source = place_named(alloc, names, meta.replicated_from)?;
-    let key = copy_of(alloc, meta.key)?;
-    Ok(Carried {
-        source,
-        entry: Entry {
-            ident: Ident {
-                origin: 0,
-                producer: ProducerName::any(alloc, meta.producer)?,
-                seq: meta.seq,
-            },
-            content: Content::Data,
-            to: Targets::All,
-            meta: Metadata {
-                publish_time: meta.publish_time,
-                key,
-                names: Sequence::new(alloc),
-                rest: Blob::new(alloc),
-            },
-            payload: Blob::from_slice(alloc, payload)?,
-        },
-    })
+    let source = place_named(alloc, names, message.meta.replicated_from)?;
+    let entry = entry_of_message(alloc, 0, message)?;
+    Ok(Carried { source, entry })
 }
 
-/// A copy of a text that may be absent.
-fn copy_of(alloc: Global, text: Option<&str>) -> Result<Option<Text>, Memory>
-    ensures { IfOk result (λ copy. copy ≡ option_copied text.entry) }
+/// The entry that a message of the usual form is, where a cluster stored it first.
+pub fn entry_of_message(
+    alloc: Global,
+    origin: u32,
+    message: MessageView<'_>,
+) -> Result<Entry, Memory>
+    ensures { IfOk result (λ e. e ≡ entry_viewed origin message.entry) }
 {
-    match text {
-        None => Ok(None),
-        Some(text) => Ok(Some(Text::from_str(alloc, text)?)),
-    }
+    let MessageView { meta, payload } = message;
+    Ok(Entry {
+        ident: Ident {
+            origin,
+            producer: ProducerName::any(alloc, meta.producer)?,
+            seq: meta.seq,
+        },
+        content: Content::Data,
+        to: Targets::All,
+        meta: Metadata::usual(meta.publish_time, optional_text(alloc, meta.key)?),
+        payload: Blob::from_slice(alloc, payload)?,
+    })
 }
 
 /// The cluster that a name names, or a copy of the name, where it names none.
@@ -189,9 +182,9 @@ fn message_of<'a>(
         meta: MetaView {
             producer: entry.ident.producer.as_str(),
             seq: entry.ident.seq,
-            publish_time: entry.meta.publish_time,
+            publish_time: entry.meta.publish_time(),
             replicated_from: source_name(names, source),
-            key: key_of(&entry.meta.key),
+            key: key_of(entry.meta.key()),
         },
         payload: entry.payload.as_slice(),
     }
@@ -211,9 +204,7 @@ fn is_usual(entry: &Entry) -> bool
     ensures { result ≡ is_usual entry.now }
 {
     match &entry.content {
-        Content::Data => {
-            entry.meta.names.as_slice().is_empty() && entry.meta.rest.as_slice().is_empty()
-        }
+        Content::Data => entry.meta.names().is_empty() && entry.meta.rest().is_empty(),
         _ => false,
     }
 }

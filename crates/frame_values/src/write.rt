@@ -1,10 +1,11 @@
 //! Writing a value as its canonical text.
-ghost use Rattle.std.specs.Prelude.{◌≡◌, ◌-◌, true, false, IfOk, IfErr};
+ghost use Rattle.std.specs.Prelude.{◌≡◌, ◌≤◌, ◌-◌, true, false, List, ℕ, length, IfOk, IfErr};
 ghost use Rattle.geo_base.specs.declared.frame.Frame.TheVariants as frame;
 ghost use Rattle.geo_base.specs.FrameSizes.{frame_size};
 ghost use Rattle.message_meta.specs.Known.{IsRest};
 ghost use Rattle.pulsar_commands.specs.Parts.{kind_of};
 ghost use Rattle.pulsar_commands.specs.Usual.{command_viewed};
+ghost use Rattle.pulsar_frames.specs.declared.fault.FrameFault.TheVariants as fault;
 ghost use Rattle.pulsar_frames.specs.Canonical.{IsTooLarge};
 ghost use Rattle.pulsar_frames.specs.Frames.{carries};
 ghost use Rattle.frame_values.specs.Coded.{IsCarriedFault, IsCarriedText, IsWritable, IsWritten, carries_entry};
@@ -14,10 +15,12 @@ use crate::command::command_of;
 use crate::content::canonical_payload;
 use crate::entry::known_of;
 use crate::usual::usual_text;
-use geo_base::{Blob, ClusterName, Entry, Frame, Memory, Place, Position};
-use pulsar_commands::{Command, CommandView};
+use geo_base::limits::ACKED_AT_ONCE;
+use geo_base::{AckKind, Blob, ClusterName, Entry, Frame, Memory, Place, Position};
+use pulsar_commands::{AckView, Command, CommandView};
 use pulsar_frames::{
-    Frame as WireFrame, FrameFault, write_carrying, write_frame, write_usual_command,
+    Frame as WireFrame, FrameFault, write_carrying, write_frame, write_usual_ack,
+    write_usual_command,
 };
 use std::alloc::Global;
 
@@ -75,6 +78,13 @@ pub fn try_write_value(
         } => message_text(alloc, names, *id, *position, source, entry),
         Frame::SendReceipt { id, seq, position } => {
             receipt_text(alloc, names, *id, *seq, *position)
+        }
+        Frame::Ack {
+            id,
+            kind,
+            positions,
+        } if positions.len() <= ACKED_AT_ONCE => {
+            ack_text(alloc, *id, *kind, positions.as_slice())
         }
         _ => simple_text(alloc, names, frame),
     }
@@ -199,7 +209,7 @@ fn any_carried_text(
     ensures fault { IfErr result (IsCarriedFault names.now command.now source.now entry.now) }
 {
     let known = known_of(names, source, entry);
-    let rest = entry.meta.rest.as_slice();
+    let rest = entry.meta.rest();
     match canonical_payload(alloc, names, &entry.content, &entry.payload)? {
         None => write_carrying(alloc, command, known, rest, entry.payload.as_slice()),
         Some(text) => write_carrying(alloc, command, known, rest, text.as_slice()),
@@ -229,6 +239,26 @@ fn receipt_text(
             Ok(write_usual_command(alloc, command)?)
         }
     }
+}
+
+/// The text of an ACK, in one pass. No cluster is named in it.
+#[tactic(auto, using(crate::proofs::UsualValues::ack_written))]
+fn ack_text(
+    alloc: Global,
+    id: u64,
+    kind: AckKind,
+    positions: &[Position],
+) -> Result<Blob, FrameFault>
+    requires { length positions.now ≤ ACKED_AT_ONCE }
+    ensures written { (names : List (List ℕ)) → IfOk result (IsWritten names (frame.Ack id kind positions.now)) }
+    ensures fault { IfErr result (λ why. why ≡ fault.Memory) }
+{
+    let ack = AckView {
+        consumer_id: id,
+        ack_type: kind,
+        message_id: positions,
+    };
+    Ok(write_usual_ack(alloc, ack)?)
 }
 
 /// The text of a frame that carries no message.

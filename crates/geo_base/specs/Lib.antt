@@ -1,4 +1,5 @@
 pub mod Name
+pub mod Metadata
 pub mod Types
 pub mod Texts
 pub mod Position

@@ -15,7 +15,7 @@ pub use Rattle.geo_base.specs.declared.entry.Content.{Content}
 pub use Rattle.geo_base.specs.declared.entry.Content.TheVariants as content
 pub use Rattle.geo_base.specs.declared.entry.Entry.{Entry}
 pub use Rattle.geo_base.specs.declared.entry.Ident.{Ident}
-pub use Rattle.geo_base.specs.declared.entry.Metadata.{Metadata}
+pub use Rattle.geo_base.specs.Metadata.{Metadata}
 pub use Rattle.geo_base.specs.declared.entry.Targets.{Targets}
 pub use Rattle.geo_base.specs.declared.entry.Targets.TheVariants as targets
 pub use Rattle.geo_base.specs.declared.event.Event.{Event}

@@ -1,8 +1,9 @@
 //! Copies of entries and of what they hold. Each may want memory, and is equal to its source otherwise.
 ghost use Rattle.std.specs.Prelude.{◌≡◌, IfOk};
+ghost use Rattle.std.specs.Option.{option_copied};
 
-use crate::entry::{Content, Entry, Ident, Metadata};
-use crate::marker::{ClusterPosition, Marker, Place};
+use crate::entry::{Content, Entry, Ident};
+use crate::marker::{BoxedMarker, ClusterPosition, Marker, Place};
 use crate::memory::Memory;
 use crate::position::Position;
 use crate::sequence::Sequence;
@@ -17,6 +18,16 @@ pub fn optional_text_copy(alloc: Global, text: &Option<Text>) -> Result<Option<T
     match text {
         None => Ok(None),
         Some(text) => Ok(Some(text.copy(alloc)?)),
+    }
+}
+
+/// The same of one that stands elsewhere.
+pub fn optional_text(alloc: Global, text: Option<&str>) -> Result<Option<Text>, Memory>
+    ensures { IfOk result (λ copy. copy ≡ option_copied text.entry) }
+{
+    match text {
+        None => Ok(None),
+        Some(text) => Ok(Some(Text::from_str(alloc, text)?)),
     }
 }
 
@@ -99,6 +110,16 @@ impl Marker {
     }
 }
 
+impl BoxedMarker {
+    /// A copy.
+    pub fn copy(&self, alloc: Global) -> Result<BoxedMarker, Memory>
+        ensures { IfOk result (λ c. c ≡ self.now) }
+    {
+        let marker = self.get().copy(alloc)?;
+        BoxedMarker::new(alloc, marker)
+    }
+}
+
 impl Content {
     /// A copy.
     pub fn copy(&self, alloc: Global) -> Result<Content, Memory>
@@ -121,20 +142,6 @@ impl Ident {
             origin: self.origin,
             producer: self.producer.copy(alloc)?,
             seq: self.seq,
-        })
-    }
-}
-
-impl Metadata {
-    /// A copy.
-    pub fn copy(&self, alloc: Global) -> Result<Metadata, Memory>
-        ensures { IfOk result (λ c. c ≡ self.now) }
-    {
-        Ok(Metadata {
-            publish_time: self.publish_time,
-            key: optional_text_copy(alloc, &self.key)?,
-            names: self.names.copy(alloc)?,
-            rest: self.rest.copy(alloc)?,
         })
     }
 }

@@ -3,10 +3,9 @@ ghost use Rattle.std.specs.Prelude.{◌≡◌, ◌/◌, ◌%◌, ◌^◌, ◌==�
 ghost use Rattle.geo_base.specs.Entry.{goes_to, same_stream};
 
 use crate::bytes::Blob;
-use crate::marker::Marker;
+use crate::marker::BoxedMarker;
+use crate::metadata::Metadata;
 use crate::name::ProducerName;
-use crate::sequence::Sequence;
-use crate::text::Text;
 
 /// What names an entry: the cluster that stored it first, its producer there, and the producer's sequence id for it.
 #[derive(Debug, Drop)]
@@ -55,19 +54,8 @@ fn is_bit_set(mask: u8, bit: u32) -> bool
 #[derive(Debug, Drop)]
 pub enum Content {
     Data,
-    Marked(Marker),
+    Marked(BoxedMarker),
     Unread(u64),
-}
-
-/// The metadata that neither names an entry nor says what it is (MessageMetadata in PulsarApi.proto).
-///
-/// `names` are the names of `replicate_to` as they stand, `rest` the bytes of the fields that nobody reads.
-#[derive(Debug, Drop)]
-pub struct Metadata {
-    pub publish_time: u64,
-    pub key: Option<Text>,
-    pub names: Sequence<Text>,
-    pub rest: Blob,
 }
 
 /// An entry as a topic stores it. The payload of a marker is empty where it is the marker's one canonical text.

@@ -1,5 +1,5 @@
 //! Names of clusters, topics and subscriptions, and of producers.
-ghost use Rattle.std.specs.Prelude.{◌≡◌, ◌↔◌, ◌<◌, [], true, false, length, IfOk, OnOk, IsErrOf, MatchOption};
+ghost use Rattle.std.specs.Prelude.{◌≡◌, ◌↔◌, ◌<◌, ◌≤◌, ◌^◌, [], true, false, length, IfNone, IfOk, IfSome, OnOk, IsErrOf, MatchOption};
 ghost use Rattle.std.specs.List.{list_all};
 ghost use Rattle.geo_base.specs.Name.{is_name, name_byte, HasBadByte};
 
@@ -194,5 +194,16 @@ impl ProducerName {
         ensures { result.now ≡ self.now }
     {
         self.text.as_str()
+    }
+}
+
+/// The number of the cluster at a place among all; `None` exactly where that has no 32 bits.
+pub fn cluster_number(place: usize) -> Option<u32>
+    ensures number { IfSome result (λ n. n ≡ place) }
+    ensures none { IfNone result (2 ^ 32 ≤ place) }
+{
+    match u32::try_from(place) {
+        Ok(number) => Some(number),
+        Err(_) => None,
     }
 }

@@ -5,10 +5,12 @@ use Rattle.std.specs.List.{AllByRecursion}
 use Rattle.std.proofs.lemmas.List.{append-nil}
 use Rattle.std.proofs.lemmas.Grind.{flat_map-append}
 use Rattle.pb_fields.specs.declared.field.Field.{Field}
+use Rattle.pb_fields.specs.Buffer.{Filled, Puts}
 use Rattle.pb_fields.specs.Canonical.{field_text, optional, text}
 use Rattle.pb_fields.specs.Field.{IsField, bytes_field, varint_field}
 use Rattle.pb_fields.specs.Front.{Fronts}
 use Rattle.pb_fields.specs.Text.{IsText, end}
+use Rattle.pb_fields.proofs.Buffers.{put_same, put_then}
 use Rattle.pb_fields.proofs.Parts.{AllByRecursion-append}
 use Rattle.message_meta.specs.Metadata.{Metadata, IsMetaText}
 use Rattle.message_meta.specs.Canonical.{IsMetadata, canonical_fields}
@@ -74,3 +76,10 @@ module _ (producer : List ℕ) (seq time : ℕ) (from key : Option (List ℕ)) w
       let five : List ℕ = text (optional (bytes_field 5) from) in
       let six : List ℕ = text (optional (bytes_field 6) key) in
       ap (λ (bs : List ℕ). length bs) usual_text ∙ omega (arith, length-append one (two ++ (three ++ (five ++ six))), length-append two (three ++ (five ++ six)), length-append three (five ++ six), length-append five six)
+
+  -- put into a buffer field by field
+  pub usual_put : (a b c d e f : Filled) → Puts a (field_text (bytes_field 1 producer)) b → Puts b (field_text (varint_field 2 seq)) c → Puts c (field_text (varint_field 3 time)) d → Puts d (text (optional (bytes_field 5) from)) e → Puts e (text (optional (bytes_field 6) key)) f
+      → Puts a (text (canonical_fields usual)) f
+  usual_put a b c d e f one two three five six =
+      let last : Puts d (text (optional (bytes_field 5) from) ++ text (optional (bytes_field 6) key)) f = put_then d e f _ _ five six in
+      put_same a f _ _ (sym usual_text) (put_then a b f _ _ one (put_then b c f _ _ two (put_then c d f _ _ three last)))

@@ -5,7 +5,7 @@ ghost use Rattle.std.specs.Option.{option_copied};
 ghost use Rattle.pb_fields.specs.Canonical.{text};
 ghost use Rattle.message_meta.specs.Known.{IsJoinedText, IsKnown, IsRest, joined, known_fields};
 
-use crate::meta::{Meta, TextList};
+use crate::meta::Meta;
 use crate::write::append_known;
 use geo_base::{Blob, Memory, Text};
 use std::alloc::Global;
@@ -28,7 +28,7 @@ pub struct KnownMeta<'a> {
     /// The key by which messages are told apart and ordered.
     pub key: &'a Option<Text>,
     /// The clusters that it is replicated to; all, where there is none.
-    pub replicate_to: &'a TextList,
+    pub replicate_to: &'a [Text],
     /// What kind of marker it is, where it is one.
     pub marker: Option<u64>,
 }
@@ -68,7 +68,7 @@ impl Meta {
             publish_time: self.publish_time,
             replicated_from: optional_str(&self.replicated_from),
             key: &self.key,
-            replicate_to: &self.replicate_to,
+            replicate_to: self.replicate_to.as_slice(),
             marker: self.marker,
         }
     }

@@ -2,21 +2,20 @@
 //! then the cluster that it was replicated from and the key, each once, in the order of their numbers, and nothing more. So it is
 //! a message to all clusters and no marker. It takes no memory.
 
-ghost use Rattle.std.specs.Prelude.{◌≡◌, ◌++◌, ◌<◌, length, IfSome, OnErr, OnOk};
+ghost use Rattle.std.specs.Prelude.{◌≡◌, ◌<◌, ◌≤◌, length, IfSome, IsUtf8};
+ghost use Rattle.std.specs.List.{AllByRecursion};
 ghost use Rattle.std.specs.Option.{option_copied};
-ghost use Rattle.pb_fields.specs.Canonical.{Extends, optional, text};
-ghost use Rattle.pb_fields.specs.Field.{bytes_field};
+ghost use Rattle.pb_fields.specs.Buffer.{Puts};
+ghost use Rattle.pb_fields.specs.Canonical.{field_text, optional, text};
+ghost use Rattle.pb_fields.specs.Field.{IsField, bytes_field};
 ghost use Rattle.pb_fields.specs.Front.{IsShortNumber};
 ghost use Rattle.message_meta.specs.Canonical.{IsMetadata, canonical_fields};
 ghost use Rattle.message_meta.specs.Metadata.{IsMetaText};
 ghost use Rattle.message_meta.specs.Usual.{meta_viewed};
 
 use crate::table::{PARTITION_KEY, PRODUCER_NAME, PUBLISH_TIME, REPLICATED_FROM, SEQUENCE_ID};
-use crate::write::{append_optional_str, append_text};
-use geo_base::{Blob, Memory};
 use pb_fields::{
-    front_optional_text, front_text, front_varint, short_field_size, varint_field_size,
-    write_varint,
+    Buffer, front_optional_text, front_text, front_varint, short_field_size, varint_field_size,
 };
 
 /// Metadata of the usual form, each part where it stands.
@@ -71,19 +70,17 @@ impl MetaView<'_> {
         Some(producer + seq + publish_time + replicated_from + key)
     }
 
-    /// Appends its canonical text; `Memory` where there is no room for it, and then what stood before stands, with some of its fields or
-    /// none.
-    #[tactic(auto, using(crate::proofs::Usual::usual_text, crate::proofs::Usual::usual_writable))]
-    pub fn append(self, out: &mut Blob) -> Result<(), Memory>
-        ensures text { OnOk result (out.new ≡ out.old ++ text (canonical_fields (meta_viewed self.entry))) }
-        ensures writable { OnOk result (IsMetadata (meta_viewed self.entry)) }
-        ensures err { OnErr result (Extends out.old out.new) }
+    /// Puts its canonical text behind the bytes of a buffer that has room for it.
+    pub fn put(self, out: &mut Buffer)
+        requires { length (text (canonical_fields (meta_viewed self))) ≤ out.old.spare }
+        ensures text { Puts out.old (text (canonical_fields (meta_viewed self.entry))) out.new }
+        ensures writable { IsMetadata (meta_viewed self.entry) }
     {
-        append_text(out, PRODUCER_NAME, self.producer)?;
-        write_varint(out, SEQUENCE_ID, self.seq)?;
-        write_varint(out, PUBLISH_TIME, self.publish_time)?;
-        append_optional_str(out, REPLICATED_FROM, self.replicated_from)?;
-        append_optional_str(out, PARTITION_KEY, self.key)
+        put_text(out, PRODUCER_NAME, self.producer);
+        out.put_varint(SEQUENCE_ID, self.seq);
+        out.put_varint(PUBLISH_TIME, self.publish_time);
+        put_optional(out, REPLICATED_FROM, self.replicated_from);
+        put_optional(out, PARTITION_KEY, self.key);
     }
 }
 
@@ -96,5 +93,31 @@ fn optional_size(number: u32, content: Option<&str>) -> Option<usize>
     match content {
         None => Some(0),
         Some(content) => short_field_size(number, content.as_bytes()),
+    }
+}
+
+/// Puts the field of a text.
+fn put_text(out: &mut Buffer, number: u32, content: &str)
+    requires number { IsShortNumber number }
+    requires room { length (field_text (bytes_field number content.now)) ≤ out.old.spare }
+    ensures text { Puts out.old (field_text (bytes_field number content.now)) out.new }
+    ensures field { IsField (bytes_field number content.now) }
+    ensures utf8 { IsUtf8 content.now }
+{
+    out.put_bytes(number, content.as_bytes());
+}
+
+/// The same of a text that may be absent.
+#[tactic(auto, using(pb_fields::proofs::Buffers::put_none, pb_fields::proofs::Buffers::put_last))]
+fn put_optional(out: &mut Buffer, number: u32, content: Option<&str>)
+    requires number { IsShortNumber number }
+    requires room { length (text (optional (bytes_field number) (option_copied content))) ≤ out.old.spare }
+    ensures text { Puts out.old (text (optional (bytes_field number) (option_copied content.entry))) out.new }
+    ensures fields { AllByRecursion IsField (optional (bytes_field number) (option_copied content.entry)) }
+    ensures utf8 { IfSome (option_copied content.entry) IsUtf8 }
+{
+    match content {
+        None => {}
+        Some(content) => put_text(out, number, content),
     }
 }

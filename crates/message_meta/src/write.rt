@@ -10,7 +10,7 @@ ghost use Rattle.message_meta.specs.Canonical.{IsMetadata, required_fields, opti
 ghost use Rattle.message_meta.specs.Known.{IsKnown, joined, known_fields};
 
 use crate::known::KnownMeta;
-use crate::meta::{Meta, TextList};
+use crate::meta::Meta;
 use crate::table::{
     MARKER_TYPE, PARTITION_KEY, PRODUCER_NAME, PUBLISH_TIME, REPLICATE_TO, REPLICATED_FROM,
     SEQUENCE_ID,
@@ -74,7 +74,7 @@ fn append_optional(out: &mut Blob, known: KnownMeta<'_>) -> Result<(), Memory>
 }
 
 /// Appends the field of a text; unchanged where memory is wanting.
-pub(crate) fn append_text(out: &mut Blob, number: u32, content: &str) -> Result<(), Memory>
+fn append_text(out: &mut Blob, number: u32, content: &str) -> Result<(), Memory>
     requires { IsFieldNumber number }
     ensures ok { OnOk result (out.new ≡ out.old ++ field_text (bytes_field number content.now)) }
     ensures field { OnOk result (IsField (bytes_field number content.now)) }
@@ -85,11 +85,7 @@ pub(crate) fn append_text(out: &mut Blob, number: u32, content: &str) -> Result<
 }
 
 /// The same of a text that may be absent.
-pub(crate) fn append_optional_str(
-    out: &mut Blob,
-    number: u32,
-    content: Option<&str>,
-) -> Result<(), Memory>
+fn append_optional_str(out: &mut Blob, number: u32, content: Option<&str>) -> Result<(), Memory>
     requires { IsFieldNumber number }
     ensures ok { OnOk result (out.new ≡ out.old ++ text (optional (bytes_field number) (option_copied content.entry))) }
     ensures fields { OnOk result (AllByRecursion IsField (optional (bytes_field number) (option_copied content.entry))) }
@@ -114,13 +110,13 @@ fn append_optional_text(out: &mut Blob, number: u32, content: &Option<Text>) -> 
     }
 }
 
-fn append_texts(out: &mut Blob, number: u32, contents: &TextList) -> Result<(), Memory>
+fn append_texts(out: &mut Blob, number: u32, contents: &[Text]) -> Result<(), Memory>
     requires { IsFieldNumber number }
     ensures ok { OnOk result (out.new ≡ out.old ++ text (map (bytes_field number) contents.now)) }
     ensures fields { OnOk result (AllByRecursion IsField (map (bytes_field number) contents.now)) }
     ensures utf8 { OnOk result (AllByRecursion IsUtf8 contents.now) }
 {
-    for content in contents.as_slice() {
+    for content in contents {
         append_text(out, number, content.as_str())?;
     }
     Ok(())

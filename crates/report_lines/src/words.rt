@@ -92,7 +92,7 @@ pub(crate) fn add_content(
 {
     match &entry.content {
         Content::Data => add_message(lines, entry),
-        Content::Marked(marker) => add_marker(lines, clusters, marker),
+        Content::Marked(marker) => add_marker(lines, clusters, marker.get()),
         Content::Unread(_) => lines.append(b"unread"),
     }
 }
@@ -103,7 +103,7 @@ fn add_message(lines: &mut Blob, entry: &Entry) -> Result<(), Memory>
     ensures err { OnErr result (take (length lines.old) lines.new ≡ lines.old) }
 {
     lines.append(b"data ")?;
-    add_key(lines, &entry.meta.key)?;
+    add_key(lines, entry.meta.key())?;
     lines.append(b" ")?;
     add_printed(lines, entry.payload.as_slice())
 }

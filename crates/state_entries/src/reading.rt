@@ -24,6 +24,7 @@ pub fn read_entry(
     let rest = fields_text(alloc, &meta.rest)?;
     let producer = ProducerName::from_text(meta.producer);
     let to = targets_of(names, meta.replicate_to.as_slice());
+    let metadata = Metadata::new(alloc, meta.publish_time, meta.key, meta.replicate_to, rest)?;
     let (content, payload) = content_of(alloc, names, meta.marker, payload)?;
     Ok(Entry {
         ident: Ident {
@@ -33,12 +34,7 @@ pub fn read_entry(
         },
         content,
         to,
-        meta: Metadata {
-            publish_time: meta.publish_time,
-            key: meta.key,
-            names: meta.replicate_to,
-            rest,
-        },
+        meta: metadata,
         payload,
     })
 }

@@ -45,7 +45,7 @@ fn metadata_text(
 {
     let source = source_of(own, entry.ident.origin);
     let known = known_of(names, &source, entry);
-    let bytes = known.write_with(alloc, entry.meta.rest.as_slice())?;
+    let bytes = known.write_with(alloc, entry.meta.rest())?;
     Ok(bytes)
 }
 

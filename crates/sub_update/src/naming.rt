@@ -1,9 +1,11 @@
 //! The update marker of a snapshot.
-ghost use Rattle.std.specs.Prelude.{◌≡◌, [], ◌∷◌, ◌++◌, ◌≤◌, ◌^◌, IfNone, IfOk, IfSome, OnErr, OnOk};
+ghost use Rattle.std.specs.Prelude.{◌≡◌, [], ◌∷◌, ◌++◌, IfOk, OnErr, OnOk};
 ghost use Rattle.geo_base.specs.declared.marker.Marker.TheVariants as marker;
 ghost use Rattle.geo_base.specs.Builder.{named, named_from};
 
-use geo_base::{ClusterPosition, Cut, Marker, Memory, Place, Position, Sequence, SubName, Text};
+use geo_base::{
+    ClusterPosition, Cut, Marker, Memory, Place, Position, Sequence, SubName, Text, cluster_number,
+};
 use std::alloc::Global;
 
 /// The marker that tells the other clusters that a subscription has passed a snapshot: its name, and each remote position of
@@ -42,22 +44,11 @@ fn name_one(
     let Some(position) = position else {
         return Ok(());
     };
-    let Some(number) = number_of(cluster) else {
+    let Some(number) = cluster_number(cluster) else {
         return Err(Memory);
     };
     named.push(ClusterPosition {
         cluster: Place::Known(number),
         position,
     })
-}
-
-/// The number of a cluster at a place; `None` exactly where that has no 32 bits.
-fn number_of(place: usize) -> Option<u32>
-    ensures number { IfSome result (λ n. n ≡ place) }
-    ensures none { IfNone result (2 ^ 32 ≤ place) }
-{
-    match u32::try_from(place) {
-        Ok(number) => Some(number),
-        Err(_) => None,
-    }
 }

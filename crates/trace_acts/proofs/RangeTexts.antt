@@ -1,6 +1,6 @@
 -- The ranges that a cursor is kept as are those of its indexes.
 use Rattle.std.proofs.Common.{◌≡◌, ℕ, zero, suc, ◌+◌, ◌-◌, ◌<◌, ◌≤◌, ◌==◌, Bool, false, List, [], ◌∷◌, ◌++◌, drop, get_or, length, refl, sym, ap, subst, append_assoc, ◌∙◌, arith}
-use Rattle.std.proofs.lemmas.List.{append-nil, drop_all, drop_more}
+use Rattle.std.proofs.lemmas.List.{append-nil}
 use Rattle.std.specs.Prelude.{if◌then◌else◌, Err, Ok, OnOk, Result}
 use Rattle.std.specs.List.{range_with_len}
 use Rattle.std.proofs.lemmas.Bool.{eq-eqb}
@@ -89,14 +89,14 @@ first_shown all r rs old new these is =
     ∙ (append_assoc old (shown_range (range r.first r.last)) (behind_commas (as_shown rs))
     ∙ (ap (λ (t : List ℕ). old ++ t) (sym (with_commas (range r.first r.last) (as_shown rs))) ∙ ap (λ (qs : List CursorRange). old ++ shown_ranges (as_shown qs)) (sym these)))
 
-pub more_shown : (rs : List CursorRange) (i : ℕ) (d : CursorRange) (old comma new whole : List ℕ) → i < length rs → comma ≡ old ++ 44 ∷ []
-    → new ≡ comma ++ shown_range (range (get_or rs i d).first (get_or rs i d).last)
-    → old ++ behind_commas (as_shown (drop i rs)) ≡ whole → new ++ behind_commas (as_shown (drop (i + 1) rs)) ≡ whole
-more_shown rs i d old comma new whole lt e1 e2 before =
-    let r = get_or rs i d in let rest = behind_commas (as_shown (drop (i + 1) rs)) in
+pub more_shown : (all rs : List CursorRange) (r : CursorRange) (old comma new whole : List ℕ) → all ≡ r ∷ rs → comma ≡ old ++ 44 ∷ []
+    → new ≡ comma ++ shown_range (range r.first r.last)
+    → old ++ behind_commas (as_shown all) ≡ whole → new ++ behind_commas (as_shown rs) ≡ whole
+more_shown all rs r old comma new whole these e1 e2 before =
+    let rest = behind_commas (as_shown rs) in
     ap (λ (t : List ℕ). t ++ rest) (e2 ∙ ap (λ (t : List ℕ). t ++ shown_range (range r.first r.last)) e1)
-    ∙ (three old (shown_range (range r.first r.last)) rest ∙ (ap (λ (qs : List CursorRange). old ++ behind_commas (as_shown qs)) (sym (drop_more rs i d lt)) ∙ before))
+    ∙ (three old (shown_range (range r.first r.last)) rest ∙ (ap (λ (qs : List CursorRange). old ++ behind_commas (as_shown qs)) (sym these) ∙ before))
 
-pub all_shown : (rs : List CursorRange) (i : ℕ) (new whole : List ℕ) → length rs ≤ i → new ++ behind_commas (as_shown (drop i rs)) ≡ whole → new ≡ whole
-all_shown rs i new whole past before =
-    sym (append-nil new) ∙ (ap (λ (qs : List CursorRange). new ++ behind_commas (as_shown qs)) (sym (drop_all i rs past)) ∙ before)
+pub all_shown : (rs : List CursorRange) (new whole : List ℕ) → rs ≡ [] → new ++ behind_commas (as_shown rs) ≡ whole → new ≡ whole
+all_shown rs new whole none before =
+    sym (append-nil new) ∙ (ap (λ (qs : List CursorRange). new ++ behind_commas (as_shown qs)) (sym none) ∙ before)

@@ -3,7 +3,7 @@ ghost use Rattle.std.specs.Prelude.{◌≡◌, ◌++◌, ◌∷◌, [], if◌the
 ghost use Rattle.geo_base.specs.TraceText.{ranges_of, shown_range, shown_ranges};
 ghost use Rattle.trace_acts.specs.Ranges.{as_shown};
 
-use cursor_acks::{Cursor, IndexRange};
+use cursor_acks::{Cursor, IndexRange, RangeList};
 use geo_base::{Blob, Memory};
 use report_lines::add_number;
 
@@ -13,20 +13,21 @@ pub(crate) fn add_ranges(lines: &mut Blob, gained: &Cursor) -> Result<(), Memory
     ensures err { OnErr result (take (length lines.old) lines.new ≡ lines.old) }
 {
     gained.is_told_by_ranges();
-    add_all(lines, gained.ranges().as_slice())
+    add_all(lines, gained.ranges())
 }
 
-fn add_all(lines: &mut Blob, ranges: &[IndexRange]) -> Result<(), Memory>
-    ensures ok { OnOk result (lines.new ≡ lines.old ++ shown_ranges (as_shown ranges.now)) }
+fn add_all(lines: &mut Blob, ranges: &RangeList) -> Result<(), Memory>
+    ensures ok { OnOk result (lines.new ≡ lines.old ++ shown_ranges (as_shown ranges.now.list)) }
     ensures err { OnErr result (take (length lines.old) lines.new ≡ lines.old) }
 {
-    let Some((first, rest)) = ranges.split_first() else {
+    let mut rest = ranges.iter();
+    let Some(first) = rest.next() else {
         return lines.append(b"-");
     };
-    add_range(lines, *first)?;
+    add_range(lines, first)?;
     for range in rest {
         lines.append(b",")?;
-        add_range(lines, *range)?;
+        add_range(lines, range)?;
     }
     Ok(())
 }

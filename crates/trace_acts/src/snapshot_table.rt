@@ -170,7 +170,7 @@ fn update_in(entry: &Entry) -> Option<&[ClusterPosition]>
     ensures { MatchOption result (IsNoUpdate entry.entry.now.content) (λ named. IsUpdate entry.entry.now.content named.now) }
 {
     match &entry.content {
-        Content::Marked(marker) => match marker {
+        Content::Marked(marker) => match marker.get() {
             Marker::Update { remote, .. } => Some(remote.as_slice()),
             Marker::Request { .. } | Marker::Response { .. } | Marker::Snapshot { .. } => None,
         },
@@ -183,7 +183,7 @@ fn snapshot_in(entry: &Entry) -> Option<(Position, &[ClusterPosition])>
     ensures { MatchOption result (IsNoSnapshot entry.entry.now.content) (λ f. IsSnapshot entry.entry.now.content f.0 f.1.now) }
 {
     match &entry.content {
-        Content::Marked(marker) => match marker {
+        Content::Marked(marker) => match marker.get() {
             Marker::Snapshot { local, remote, .. } => Some((*local, remote.as_slice())),
             Marker::Request { .. } | Marker::Response { .. } | Marker::Update { .. } => None,
         },

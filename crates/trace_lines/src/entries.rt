@@ -93,12 +93,8 @@ pub(crate) fn entry_with(
 ) -> Result<Entry, Memory>
     ensures { IfOk result (λ entry. entry ≡ entry_with names.now.clusters ident to what) }
 {
-    let meta = Metadata {
-        publish_time: 0,
-        key: what.key,
-        names: target_names(alloc, names.cluster_names(), to)?,
-        rest: Blob::new(alloc),
-    };
+    let named = target_names(alloc, names.cluster_names(), to)?;
+    let meta = Metadata::new(alloc, 0, what.key, named, Blob::new(alloc))?;
     Ok(Entry {
         ident,
         content: what.content,

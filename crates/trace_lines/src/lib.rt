@@ -15,6 +15,6 @@ mod texts;
 mod words;
 
 pub use line::{Line, Written};
-pub use lines::line_of;
+pub use lines::{begun_event, line_of};
 pub use names::Names;
 pub use ranges::AckedRanges;

@@ -1,6 +1,8 @@
 //! Lines.
-ghost use Rattle.std.specs.Prelude.{◌≡◌, ◌<◌, [], ◌∷◌, length, option_map, IfOk, MatchOption};
+ghost use Rattle.std.specs.Prelude.{◌≡◌, ◌<◌, [], ◌∷◌, Some, length, option_map, IfOk, IfSome, MatchOption};
+ghost use Rattle.geo_base.specs.TraceItems.{Begins};
 ghost use Rattle.trace_lines.specs.Lines.{ack_of, act_of, append_of, cause_of, create_of, delete_of, event_of, item_read, seek_of, write_of};
+ghost use Rattle.trace_lines.specs.Names.{DeclaredNames};
 ghost use Rattle.trace_lines.specs.Ranges.{ranges_from, ranges_of};
 ghost use Rattle.trace_lines.specs.Said.{act_said, item_said};
 ghost use Rattle.trace_lines.specs.Words.{start_of};
@@ -31,12 +33,32 @@ pub fn line_of(alloc: Global, names: &Names<'_>, line: &[u8]) -> Result<Option<L
     write_of(alloc, names, kind, words)
 }
 
+/// The number of the event that a line begins; None where it has not that form. It takes no memory.
+#[tactic(auto, unfolding(crate::specs::Lines::item_read))]
+pub fn begun_event(line: &[u8]) -> Option<u64>
+    ensures { IfSome result (λ number. (names : DeclaredNames) → item_read names line.now ≡ Some (Begins number)) }
+{
+    let mut words = LineWords::new(line);
+    let kind = words.next_word()?;
+    if is_word(kind, b"event") {
+        event_number(words)
+    } else {
+        None
+    }
+}
+
 /// `event NUMBER`
 fn event_of(words: LineWords<'_>) -> Option<Line>
     ensures { option_map item_said result ≡ event_of words.entry }
 {
-    let number = number(words.last_word()?)?;
+    let number = event_number(words)?;
     Some(Line::Begins(number))
+}
+
+fn event_number(words: LineWords<'_>) -> Option<u64>
+    ensures { option_map Begins result ≡ event_of words.entry }
+{
+    number(words.last_word()?)
 }
 
 /// `KIND TOPIC CLUSTER ..`

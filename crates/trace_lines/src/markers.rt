@@ -7,7 +7,7 @@ use crate::names::{cluster_position_of, place_of};
 use crate::numbers::position_of;
 use crate::texts::{sub_of, text_of};
 use crate::words::LineWords;
-use geo_base::{Blob, ClusterPosition, Content, Marker, Memory, Position, Sequence};
+use geo_base::{Blob, BoxedMarker, ClusterPosition, Content, Marker, Memory, Position, Sequence};
 use script_names::{NameTable, is_word};
 use std::alloc::Global;
 
@@ -45,7 +45,8 @@ pub(crate) fn request_of(
         return Ok(None);
     };
     let marker = Marker::Request { id, source };
-    Ok(Some(marked(alloc, Content::Marked(marker), None)))
+    let content = Content::Marked(BoxedMarker::new(alloc, marker)?);
+    Ok(Some(marked(alloc, content, None)))
 }
 
 /// `response ID CLUSTER=L:E`
@@ -70,7 +71,8 @@ pub(crate) fn response_of(
         return Ok(None);
     };
     let marker = Marker::Response { id, answer };
-    Ok(Some(marked(alloc, Content::Marked(marker), None)))
+    let content = Content::Marked(BoxedMarker::new(alloc, marker)?);
+    Ok(Some(marked(alloc, content, None)))
 }
 
 /// `snapshot ID L:E CLUSTER=L:E ..`
@@ -98,7 +100,8 @@ pub(crate) fn snapshot_of(
         return Ok(None);
     };
     let marker = Marker::Snapshot { id, local, remote };
-    Ok(Some(marked(alloc, Content::Marked(marker), None)))
+    let content = Content::Marked(BoxedMarker::new(alloc, marker)?);
+    Ok(Some(marked(alloc, content, None)))
 }
 
 /// `update SUB CLUSTER=L:E ..`
@@ -120,7 +123,8 @@ pub(crate) fn update_of(
         return Ok(None);
     };
     let marker = Marker::Update { sub, remote };
-    Ok(Some(marked(alloc, Content::Marked(marker), None)))
+    let content = Content::Marked(BoxedMarker::new(alloc, marker)?);
+    Ok(Some(marked(alloc, content, None)))
 }
 
 /// `update SUB CLUSTER=L:E .. by L:E`, of the own cluster
@@ -145,7 +149,8 @@ pub(crate) fn own_update_of(
         sub,
         remote: told.remote,
     };
-    Ok(Some(marked(alloc, Content::Marked(marker), Some(told.by))))
+    let content = Content::Marked(BoxedMarker::new(alloc, marker)?);
+    Ok(Some(marked(alloc, content, Some(told.by))))
 }
 
 /// `unread`

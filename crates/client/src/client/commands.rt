@@ -135,6 +135,9 @@ impl Client {
         ensures entry { IfOk result (λ e. e ≡ published site.now.setup site.now.declared (as_connected connection self.now) line.entry.seq line.entry.to line.entry.key.now line.entry.text.now) }
         ensures message { IfOk result (λ e. is_message e ≡ true) }
     {
+        let key = optional_text_copy(alloc, line.key)?;
+        let names = target_names(alloc, site.clusters(), line.to)?;
+        let meta = Metadata::new(alloc, 0, key, names, Blob::new(alloc))?;
         Ok(Entry {
             ident: Ident {
                 origin: connection.cluster,
@@ -143,12 +146,7 @@ impl Client {
             },
             content: Content::Data,
             to: line.to,
-            meta: Metadata {
-                publish_time: 0,
-                key: optional_text_copy(alloc, line.key)?,
-                names: target_names(alloc, site.clusters(), line.to)?,
-                rest: Blob::new(alloc),
-            },
+            meta,
             payload: line.text.copy(alloc)?,
         })
     }

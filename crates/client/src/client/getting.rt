@@ -6,7 +6,8 @@ ghost use Rattle.geo_base.specs.Getting.{answered, get, got_frame, got_message, 
 ghost use Rattle.geo_base.specs.declared.packet.Packet.{Packet};
 ghost use Rattle.client.specs.Counted.{CanCount};
 ghost use Rattle.client.specs.Packets.{IsDiscarded, IsSaid, StandsFor, StandsForNext};
-ghost use Rattle.client.specs.Usual.{carrying_viewed, entry_viewed, source_viewed, value_viewed};
+ghost use Rattle.client.specs.Usual.{carrying_viewed, value_viewed};
+ghost use Rattle.frame_values.specs.Usual.{entry_viewed, source_viewed};
 ghost use Rattle.frame_values.specs.Values.{simple_frame};
 ghost use Rattle.pulsar_commands.specs.Usual.{command_viewed};
 ghost use Rattle.pulsar_frames.specs.Frames.{IsFrameText};
@@ -170,7 +171,7 @@ impl Client {
         position: Position,
         message: MessageView<'_>,
     ) -> Result<(), Memory>
-        ensures ok { OnOk result (self.new ≡ got_message self.old id position (source_viewed site.now.setup.clusters message.entry) (entry_viewed message.entry)) }
+        ensures ok { OnOk result (self.new ≡ got_message self.old id position (source_viewed site.now.setup.clusters message.entry) (entry_viewed 0 message.entry)) }
         ensures err { OnErr result (self.new ≡ self.old) }
     {
         let MetaView { producer, seq, .. } = message.meta;

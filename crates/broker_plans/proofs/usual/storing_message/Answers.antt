@@ -1,6 +1,6 @@
 use Rattle.std.proofs.Common.{◌≡◌, true, false}
 use Rattle.geo_base.specs.Topic.{accepts}
-use Rattle.broker_plans.specs.Usual.{entry_viewed}
+use Rattle.frame_values.specs.Usual.{entry_viewed}
 use Rattle.broker_plans.proofs.Keeping.{new_stored, old_stored, stream_tells}
 use Rattle.broker_plans.proofs.UsualMessages.{stores_message}
 use Rattle.broker_plans.proofs.usual.storing_message.Goals as goal

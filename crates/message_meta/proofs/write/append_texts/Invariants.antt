@@ -7,7 +7,7 @@ use Rattle.message_meta.proofs.write.append_texts.Given as goal
 
 abbrev pub invariant-loop-content : goal.invariant-loop-content
 invariant-loop-content l = record {
-  so_far : l.out ≡ l.fn.out ++ text (map (bytes_field l.number) (take l.content-index l.content-items));
-  fields : AllByRecursion IsField (map (bytes_field l.number) (take l.content-index l.content-items));
-  utf8 : AllByRecursion IsUtf8 (take l.content-index l.content-items);
+  so_far : l.out ≡ l.fn.out ++ text (map (bytes_field l.number) (take l.content-index l.contents));
+  fields : AllByRecursion IsField (map (bytes_field l.number) (take l.content-index l.contents));
+  utf8 : AllByRecursion IsUtf8 (take l.content-index l.contents);
 }

@@ -1,14 +1,16 @@
-use Rattle.std.proofs.Common.{rules, ◌≡◌, ◌∷◌}
+use Rattle.std.proofs.Common.{◌≡◌, ◌∷◌, List, ap, sym, ◌∙◌}
 use Rattle.std.proofs.Math.Seq.{take-append_seam}
+use Rattle.cursor_acks.specs.declared.range.IndexRange.{IndexRange}
 use Rattle.report_lines.proofs.Standing.{still_stands, stands_on, on_err}
-use Rattle.trace_acts.proofs.RangeTexts.{all_shown, first_shown, more_shown}
+use Rattle.trace_acts.proofs.RangeTexts.{first_shown, more_shown}
 use Rattle.trace_acts.proofs.ranges.add_all.Goals as goal
 
 pub loop-range-init : goal.loop-range-init
 loop-range-init c =
-    let these : c.args.ranges.now ≡ c.in-Some.first.now ∷ c.in-Some.rest.now = first_of (assumption (c.in-Some.ensures), search rules) in
+    let these : c.args.ranges.now.list ≡ c.in-Some.first ∷ c.into_iter-range-iterator.result =
+    sym c.iter-rest.ensures ∙ (c.in-Some.ensures.steps ∙ ap (λ (rs : List IndexRange). c.in-Some.first ∷ rs) (sym c.into_iter-range-iterator.ensures.into_iter_gives)) in
     record {
-      so_far = first_shown c.args.ranges.now c.in-Some.first.now c.in-Some.rest.now c.args.lines.now c.add_range.new.lines these c.in_ok-add_range.ensures.ok;
+      so_far = first_shown c.args.ranges.now.list c.in-Some.first c.into_iter-range-iterator.result c.args.lines.now c.add_range.new.lines these c.in_ok-add_range.ensures.ok;
       begins = rw c.in_ok-add_range.ensures.ok (take-append_seam c.args.lines.now _);
     }
 
@@ -16,8 +18,8 @@ pub loop-range-preserved : goal.loop-range-preserved
 loop-range-preserved c =
     record {
       so_far =
-          more_shown c.in-Some.rest.now c.loop-range.range-index (record { first = 0; last = 0 }) c.loop-range.lines c.append-in-loop-range.new.self c.add_range-in-loop-range.new.lines _
-          c.loop-range-test.true c.in_ok-append.ensures.ok c.in_ok-add_range-2.ensures.ok c.loop-range.invariant.so_far;
+          more_shown c.loop-range.range-iterator c.next-in-loop-range.new.self c.in-Some-range.range c.loop-range.lines c.append-in-loop-range.new.self c.add_range-in-loop-range.new.lines _
+          c.in-Some-range.ensures.steps c.in_ok-append.ensures.ok c.in_ok-add_range-2.ensures.ok c.loop-range.invariant.so_far;
       begins =
           still_stands c.args.lines.now c.append-in-loop-range.new.self c.add_range-in-loop-range.new.lines _ c.in_ok-add_range-2.ensures.ok
           (still_stands c.args.lines.now c.loop-range.lines c.append-in-loop-range.new.self _ c.in_ok-append.ensures.ok c.loop-range.invariant.begins);
@@ -28,6 +30,3 @@ returns-in_err-add_range-2-clause-err c =
     let old = c.args.lines.now in
     let before = still_stands old c.loop-range.lines c.append-in-loop-range.new.self _ c.in_ok-append.ensures.ok c.loop-range.invariant.begins in
     on_err c.from_residual-in_err-add_range-2.result (stands_on old c.append-in-loop-range.new.self c.add_range-in-loop-range.new.lines before c.in_err-add_range-2.ensures.err)
-
-pub returns-clause-ok : goal.returns-clause-ok
-returns-clause-ok c = all_shown c.in-Some.rest.now c.loop-range.range-index c.loop-range.lines _ c.loop-range-test.false c.loop-range.invariant.so_far
