@@ -1,8 +1,8 @@
 //! Frames.
-use geo_base::{Blob, Position, Sequence, Text};
+use geo_base::{AckKind, Blob, Position, Sequence, Text};
 use message_meta::{Meta, MetaView};
 use pb_fields::FieldList;
-use pulsar_commands::{Command, CommandView};
+use pulsar_commands::{AckView, Command, CommandView};
 use pulsar_frames::*;
 use std::alloc::{AllocError, Global};
 use std::test::Fail;
@@ -24,7 +24,19 @@ const RECEIPT: [u8; 22] = [
     0x1a, 0x04, 0x08, 0x00, 0x10, 0x01,
 ];
 
-/// That frame with another payload, written.
+/// The ACK of consumer 1 for 0:1 and 1:128.
+const ACK: [u8; 29] = [
+    0x00, 0x00, 0x00, 0x19, 0x00, 0x00, 0x00, 0x15, 0x08, 0x0a, 0x52, 0x11, 0x08, 0x01, 0x10, 0x00,
+    0x1a, 0x04, 0x08, 0x00, 0x10, 0x01, 0x1a, 0x05, 0x08, 0x01, 0x10, 0x80, 0x01,
+];
+
+/// The same with its first position before its two numbers.
+const TURNED_ACK: [u8; 29] = [
+    0x00, 0x00, 0x00, 0x19, 0x00, 0x00, 0x00, 0x15, 0x08, 0x0a, 0x52, 0x11, 0x1a, 0x04, 0x08, 0x00,
+    0x10, 0x01, 0x08, 0x01, 0x10, 0x00, 0x1a, 0x05, 0x08, 0x01, 0x10, 0x80, 0x01,
+];
+
+/// That SEND with another payload, written.
 fn write_send(alloc: Global, payload: Blob) -> Result<Blob, FrameFault> {
     let meta = Meta {
         producer: Text::from_str(alloc, "p")?,
@@ -47,7 +59,7 @@ fn write_send(alloc: Global, payload: Blob) -> Result<Blob, FrameFault> {
     write_frame(alloc, &frame)
 }
 
-/// How many bytes that frame takes with a payload of so many, or its fault.
+/// How many bytes that SEND takes with a payload of so many, or its fault.
 fn size_of_send(alloc: Global, payload: usize) -> Result<String, AllocError> {
     let payload = Blob::from_vec(vec![in alloc; 0u8; payload]?);
     match write_send(alloc, payload) {
@@ -310,6 +322,32 @@ fn frames_of_the_usual_form_are_seen_where_they_stand(rt: HostRuntime) -> Result
     assert_eq!(rt; message.payload, b"hi".as_slice());
     assert!(rt; usual_frame(&RECEIPT).is_some());
     assert!(rt; usual_frame(&PING).is_none());
+    Ok(())
+}
+
+#[test]
+fn acks_are_read_in_either_form_and_written_in_one(rt: HostRuntime) -> Result<(), Fail> {
+    let alloc = rt.alloc();
+    let positions = [
+        Position {
+            ledger: 0,
+            entry: 1,
+        },
+        Position {
+            ledger: 1,
+            entry: 128,
+        },
+    ];
+    let ack = AckView {
+        consumer_id: 1,
+        ack_type: AckKind::Individual,
+        message_id: &positions,
+    };
+    assert_eq!(rt; write_usual_ack(alloc, ack)?.as_slice(), ACK.as_slice());
+    for text in [ACK, TURNED_ACK] {
+        let frame = read_frame(alloc, &text)?.ok_or("no frame")?;
+        assert_eq!(rt; frame.command.write(alloc)?.as_slice(), &ACK[8..]);
+    }
     Ok(())
 }
 

@@ -14,3 +14,4 @@ pub mod Fronts
 pub mod Sizes
 mod Short
 pub mod Heads
+pub mod Buffers

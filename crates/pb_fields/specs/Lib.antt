@@ -7,3 +7,4 @@ pub mod Message
 pub mod Embedded
 pub mod Printed
 pub mod Front
+pub mod Buffer

@@ -4,6 +4,7 @@
 //! is the first without a reading, and why. The writer writes the shortest text.
 #![tactic(auto)]
 
+mod buffer;
 pub mod embedded;
 mod fault;
 mod field;
@@ -17,6 +18,7 @@ mod taken;
 mod values;
 mod write;
 
+pub use buffer::Buffer;
 pub use fault::{FieldFault, PbFault};
 pub use field::{Field, FieldList, Value, WireType};
 pub use front::{front_bytes, front_optional_text, front_text, front_varint};

@@ -11,3 +11,4 @@ pub mod Refused
 pub mod Unique
 pub mod Writing
 pub mod UsualCommands
+pub mod UsualAcks

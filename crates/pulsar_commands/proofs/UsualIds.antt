@@ -1,14 +1,16 @@
 -- A position as writers make it: its two numbers in their order.
-use Rattle.std.proofs.Common.{◌≡◌, ℕ, ◌+◌, List, [], ◌∷◌, ◌++◌, length, refl, sym, ap, subst, ◌∙◌, append_assoc, append-nil, length-append}
+use Rattle.std.proofs.Common.{◌≡◌, ℕ, ◌+◌, List, [], ◌∷◌, ◌++◌, length, refl, sym, ap, subst, ◌∙◌, append_assoc, append-nil, length-append, arith}
 use Rattle.geo_base.specs.declared.position.Position.{Position}
 use Rattle.pb_fields.specs.declared.field.Field.{Field}
 use Rattle.pb_fields.specs.declared.field.Value.TheVariants as value
+use Rattle.pb_fields.specs.Buffer.{Filled, Puts}
 use Rattle.pb_fields.specs.Canonical.{field_text, head_text}
 use Rattle.pb_fields.specs.Field.{IsField, varint_field}
 use Rattle.pb_fields.specs.Front.{Fronts}
 use Rattle.pb_fields.specs.Text.{IsText, end}
 use Rattle.pb_fields.specs.Message.{Fits}
 use Rattle.pb_fields.specs.Embedded.{FitsWith, AnyContent}
+use Rattle.pb_fields.proofs.Buffers.{content_put, put_two}
 use Rattle.pb_fields.proofs.Heads.{head_content}
 use Rattle.pb_fields.proofs.Parts.{fits_row}
 use Rattle.pulsar_commands.specs.Canonical.{WritesPart, id_field, id_text}
@@ -66,3 +68,17 @@ id_appended old head first new n size p headed sized one two a b =
       appends = whole ∙ ap (λ (bs : List ℕ). (old ++ before) ++ bs) (sym (id_is p)) ∙ append_assoc old before (id_text p) ∙ ap (λ (bs : List ℕ). old ++ bs) (head_content n (id_text p) ∙ sym (append-nil (field_text (id_field n p))));
       writable = record { ledger = a.value; entry = b.value };
     }
+
+-- ---- put into a buffer
+
+pub id_put : (a b c d : Filled) (n size : ℕ) (p : Position) → Puts a (head_text n size) b → size ≡ length (id_text p) → Puts b (field_text (varint_field 1 p.ledger)) c → Puts c (field_text (varint_field 2 p.entry)) d → Puts a (field_text (id_field n p)) d
+id_put a b c d n size p headed sized one two =
+    let head : Puts a (head_text n (length (id_text p))) b = subst (λ (k : ℕ). Puts a (head_text n k) b) sized headed in
+    content_put a b d n (id_text p) head (put_two b c d (field_text (varint_field 1 p.ledger)) (field_text (varint_field 2 p.entry)) one two)
+
+-- what it takes
+pub id_field_length : (n size : ℕ) (p : Position) → size ≡ length (id_text p) → length (field_text (id_field n p)) ≡ length (head_text n size) + (length (field_text (varint_field 1 p.ledger)) + length (field_text (varint_field 2 p.entry)))
+id_field_length n size p sized =
+    let head : length (head_text n size) ≡ length (head_text n (length (id_text p))) = ap (λ (k : ℕ). length (head_text n k)) sized in
+    let whole : length (head_text n (length (id_text p)) ++ id_text p) ≡ length (field_text (id_field n p)) = ap (λ (bs : List ℕ). length bs) (head_content n (id_text p)) in
+    omega (arith, head, whole, length-append (head_text n (length (id_text p))) (id_text p), id_length p)

@@ -1,9 +1,9 @@
 //! Appending the fields of a command's own message.
 
-pub(crate) mod broker;
+mod broker;
 mod connection;
-mod consumer;
-pub(crate) mod producer;
+pub(crate) mod consumer;
+mod producer;
 
 ghost use Rattle.std.specs.Prelude.{OnOk};
 ghost use Rattle.pulsar_commands.specs.Parts.{parts};

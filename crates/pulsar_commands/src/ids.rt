@@ -1,16 +1,18 @@
 //! Positions in commands (MessageIdData in PulsarApi.proto).
 
-ghost use Rattle.std.specs.Prelude.{◌≡◌, ◌<◌, ◌++◌, ◌∷◌, [], length, Some, true, false, IfOk, IfErr, OnOk, IfSome, OnErr};
+ghost use Rattle.std.specs.Prelude.{◌≡◌, ◌<◌, ◌≤◌, ◌++◌, ◌∷◌, [], length, Some, true, false, IfOk, IfErr, OnOk, IfSome, OnErr};
 ghost use Rattle.std.specs.List.{AllByRecursion};
-ghost use Rattle.pb_fields.specs.Canonical.{Extends};
+ghost use Rattle.pb_fields.specs.Buffer.{Puts};
+ghost use Rattle.pb_fields.specs.Canonical.{Extends, field_text};
 ghost use Rattle.pb_fields.specs.declared.message.Form.TheVariants as form;
 ghost use Rattle.pb_fields.specs.Field.{IsFieldNumber};
+ghost use Rattle.pb_fields.specs.Front.{IsShortNumber};
 ghost use Rattle.pb_fields.specs.Message.{IsMessage, IsRow, IsWrongOrMemory, values};
 ghost use Rattle.pb_fields.specs.Embedded.{IsMessageWith};
 ghost use Rattle.pulsar_commands.specs.Part as part;
 ghost use Rattle.pulsar_commands.specs.Part.{IsIdText, AreIds, Says};
 ghost use Rattle.pulsar_commands.specs.Text.{IdRight, IdWrong};
-ghost use Rattle.pulsar_commands.specs.Canonical.{WritesPart, id_text};
+ghost use Rattle.pulsar_commands.specs.Canonical.{IsPosition, WritesPart, id_field, id_text};
 
 use crate::command::PositionList;
 use crate::table::{ENTRY, ID_ROWS, LEDGER};
@@ -19,7 +21,7 @@ use pb_fields::embedded::{
     Embedded, Unread, optional_message, read_message_with, required_message,
 };
 use pb_fields::message::{MessageFault, Row, required_varint};
-use pb_fields::{Field, front_varint, varint_field_size, write_head, write_varint};
+use pb_fields::{Buffer, Field, front_varint, varint_field_size, write_head, write_varint};
 use std::alloc::Global;
 
 /// The embedded messages of a command are ids.
@@ -164,6 +166,18 @@ pub(crate) fn append_id(out: &mut Blob, number: u32, position: Position) -> Resu
     write_varint(out, ENTRY, position.entry)
 }
 
+/// Puts an id behind the bytes of a buffer that has room for it.
+pub(crate) fn put_id(out: &mut Buffer, number: u32, position: Position)
+    requires number { IsShortNumber number }
+    requires room { length (field_text (id_field number position)) ≤ out.old.spare }
+    ensures text { Puts out.old (field_text (id_field number position)) out.new }
+    ensures writable { IsPosition position }
+{
+    out.put_head(number, id_size(position));
+    out.put_varint(LEDGER, position.ledger);
+    out.put_varint(ENTRY, position.entry);
+}
+
 /// Appends an id where there is one.
 pub(crate) fn append_optional_id(
     out: &mut Blob,
@@ -181,15 +195,11 @@ pub(crate) fn append_optional_id(
 }
 
 /// Appends a repeated id.
-pub(crate) fn append_ids(
-    out: &mut Blob,
-    number: u32,
-    positions: &PositionList,
-) -> Result<(), Memory>
+pub(crate) fn append_ids(out: &mut Blob, number: u32, positions: &[Position]) -> Result<(), Memory>
     requires { IsFieldNumber number }
     ensures { OnOk result (WritesPart out.old (part.ids number positions.now) out.new) }
 {
-    for position in positions.as_slice() {
+    for position in positions {
         append_id(out, number, *position)?;
     }
     Ok(())

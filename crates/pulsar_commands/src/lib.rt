@@ -1,6 +1,7 @@
 //! The commands of the Pulsar binary protocol (BaseCommand in PulsarApi.proto), read from bytes and written.
 #![tactic(auto)]
 
+mod acks;
 mod append;
 mod bodies;
 pub mod command;
@@ -14,6 +15,7 @@ mod table;
 mod view;
 mod write;
 
+pub use acks::AckView;
 pub use command::{Command, PositionList};
 pub use fault::CommandFault;
 pub use kind::Kind;

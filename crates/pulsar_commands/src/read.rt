@@ -10,10 +10,12 @@ ghost use Rattle.pb_fields.specs.Message.{Fits, IsMessage, IsWrongOrMemory, last
 ghost use Rattle.pb_fields.specs.Embedded.{FitsWith, IsMessageWith, IsWrongWith, WrongFieldsWith};
 ghost use Rattle.pulsar_commands.specs.declared.command.Command.{Command};
 ghost use Rattle.pulsar_commands.specs.declared.fault.CommandFault.{CommandFault};
+ghost use Rattle.pulsar_commands.specs.declared.kind.Kind.TheVariants as kind;
 ghost use Rattle.pulsar_commands.specs.Table.{kind_number, rows_of, type_rows, held_rows, choices_of, IsKnown};
 ghost use Rattle.pulsar_commands.specs.Text.{IdRight, BodyRight, BodyWrong, HasType, IsLast, IsCommand, IsCommandText, usual};
 ghost use Rattle.pulsar_commands.specs.Faults.{FirstUnknown, WrongOfType, WrongCommand, IsFaultOrMemory};
 
+use crate::acks::usual_ack;
 use crate::bodies::command_of_body;
 use crate::command::Command;
 use crate::fault::CommandFault;
@@ -72,6 +74,29 @@ fn usual_form(bytes: &[u8]) -> Option<(Kind, &[u8])>
 
 /// The command of a type, where its own message is the content.
 fn command_of_content(alloc: Global, kind: Kind, content: &[u8]) -> Result<Command, CommandFault>
+    ensures found { IfOk result (IsCommand (usual kind content.now)) }
+    ensures fault { IfErr result (IsFaultOrMemory (WrongOfType kind (usual kind content.now))) }
+{
+    match kind {
+        Kind::Ack => ack_of_content(alloc, content),
+        _ => any_of_content(alloc, kind, content),
+    }
+}
+
+/// An ACK: at once where its content has the usual form, else field by field.
+#[tactic(auto, using(crate::proofs::UsualCommands::held_is))]
+fn ack_of_content(alloc: Global, content: &[u8]) -> Result<Command, CommandFault>
+    ensures found { IfOk result (IsCommand (usual kind.Ack content.now)) }
+    ensures fault { IfErr result (IsFaultOrMemory (WrongOfType kind.Ack (usual kind.Ack content.now))) }
+{
+    match usual_ack(alloc, content)? {
+        Some(ack) => Ok(ack),
+        None => any_of_content(alloc, Kind::Ack, content),
+    }
+}
+
+/// The command of a type, by the fields of its own message.
+fn any_of_content(alloc: Global, kind: Kind, content: &[u8]) -> Result<Command, CommandFault>
     ensures found { IfOk result (IsCommand (usual kind content.now)) }
     ensures fault { IfErr result (IsFaultOrMemory (WrongOfType kind (usual kind content.now))) }
 {

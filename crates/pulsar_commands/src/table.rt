@@ -44,6 +44,9 @@ pub(crate) const LEDGER: u32 = 1;
 /// The entryId of a MessageIdData.
 pub(crate) const ENTRY: u32 = 2;
 
+/// The message_id of a CommandAck.
+pub(crate) const MESSAGE_ID: u32 = 3;
+
 /// MessageIdData: ledgerId, entryId.
 pub(crate) const ID_ROWS: [Row; 2] = [required!(LEDGER, Varint), required!(ENTRY, Varint)];
 

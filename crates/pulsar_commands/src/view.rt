@@ -1,28 +1,26 @@
 //! The commands of the usual form, looked at in their place and written from their numbers: SEND, its receipt and MESSAGE, each of
 //! whose fields is there once, in the order of their numbers, and nothing more. They take no memory.
 
-ghost use Rattle.std.specs.Prelude.{◌≡◌, ◌<◌, ◌++◌, ◌∷◌, [], length, IfSome, OnOk, OnErr};
-ghost use Rattle.pb_fields.specs.Canonical.{Extends};
+ghost use Rattle.std.specs.Prelude.{◌≡◌, ◌<◌, ◌≤◌, ◌∷◌, [], length, Some, IfSome};
+ghost use Rattle.std.specs.List.{AllByRecursion};
+ghost use Rattle.pb_fields.specs.Buffer.{Puts};
 ghost use Rattle.pb_fields.specs.Field.{bytes_field};
 ghost use Rattle.pb_fields.specs.Front.{IsShortNumber};
 ghost use Rattle.pb_fields.specs.Text.{IsText};
+ghost use Rattle.pulsar_commands.specs.declared.command.Command.TheVariants as command;
 ghost use Rattle.pulsar_commands.specs.declared.kind.Kind.TheVariants as kind;
-ghost use Rattle.pulsar_commands.specs.Canonical.{IsWritable, Writes, body_text, command_text};
+ghost use Rattle.pulsar_commands.specs.Canonical.{IsPart, IsWritable, body_text, command_text};
 ghost use Rattle.pulsar_commands.specs.Parts.{kind_of, parts};
 ghost use Rattle.pulsar_commands.specs.Table.{kind_number};
 ghost use Rattle.pulsar_commands.specs.Text.{IsCommandText};
 ghost use Rattle.pulsar_commands.specs.Usual.{IsHeldText, command_viewed};
 
-use crate::append::broker::{append_message, append_send_receipt};
-use crate::append::producer::append_send;
 use crate::command::Command;
-use crate::ids::{id_size, usual_id};
+use crate::ids::{id_size, put_id, usual_id};
 use crate::kind::Kind;
 use crate::table::TYPE;
-use geo_base::{Blob, Memory, Position};
-use pb_fields::{
-    SHORT_HEAD, front_bytes, front_varint, varint_field_size, write_head, write_varint,
-};
+use geo_base::Position;
+use pb_fields::{Buffer, SHORT_HEAD, front_bytes, front_varint, varint_field_size};
 
 /// Bytes of the field of a command's type: its tag and the type's number, which is below 128.
 const TYPE_BYTES: usize = 2;
@@ -167,18 +165,18 @@ impl CommandView {
         TYPE_BYTES + SHORT_HEAD + self.body_size()
     }
 
-    /// Appends its canonical text; `Memory` where there is no room for it, and then what stood before stands, with some of its fields or
-    /// none.
-    #[tactic(auto, using(crate::proofs::UsualCommands::command_appended, crate::proofs::UsualCommands::command_writable))]
-    pub fn append(self, out: &mut Blob) -> Result<(), Memory>
-        ensures text { OnOk result (out.new ≡ out.old ++ command_text (command_viewed self)) }
-        ensures writable { OnOk result (IsWritable (command_viewed self)) }
-        ensures err { OnErr result (Extends out.old out.new) }
+    /// Puts its canonical text, whose size `size` gave, behind the bytes of a buffer that has room for it.
+    pub fn put(self, out: &mut Buffer, size: usize)
+        requires size { size ≡ length (command_text (command_viewed self)) }
+        requires few { size < 64 }
+        requires room { size ≤ out.old.spare }
+        ensures text { Puts out.old (command_text (command_viewed self)) out.new }
+        ensures writable { IsWritable (command_viewed self) }
     {
         let number = self.kind().number();
-        write_varint(out, TYPE, u64::from(number))?;
-        write_head(out, number, self.body_size())?;
-        self.append_body(out)
+        out.put_varint(TYPE, u64::from(number));
+        out.put_head(number, size - (TYPE_BYTES + SHORT_HEAD));
+        self.put_body(out);
     }
 
     /// The bytes of the command's own message.
@@ -213,26 +211,56 @@ impl CommandView {
         }
     }
 
-    /// Appends the fields of the command's own message.
-    fn append_body(self, out: &mut Blob) -> Result<(), Memory>
-        ensures ok { OnOk result (Writes out.old (parts (command_viewed self)) out.new) }
-        ensures err { OnErr result (Extends out.old out.new) }
+    /// Puts the fields of the command's own message.
+    fn put_body(self, out: &mut Buffer)
+        requires { length (body_text (command_viewed self)) ≤ out.old.spare }
+        ensures text { Puts out.old (body_text (command_viewed self)) out.new }
+        ensures writable { AllByRecursion IsPart (parts (command_viewed self)) }
     {
         match self {
             CommandView::Send {
                 producer_id,
                 sequence_id,
                 num_messages,
-            } => append_send(out, producer_id, sequence_id, num_messages),
+            } => put_send(out, producer_id, sequence_id, num_messages),
             CommandView::SendReceipt {
                 producer_id,
                 sequence_id,
                 message_id,
-            } => append_send_receipt(out, producer_id, sequence_id, Some(message_id)),
+            } => put_receipt(out, producer_id, sequence_id, message_id),
             CommandView::Message {
                 consumer_id,
                 message_id,
-            } => append_message(out, consumer_id, message_id),
+            } => put_message(out, consumer_id, message_id),
         }
     }
+}
+
+fn put_send(out: &mut Buffer, producer_id: u64, sequence_id: u64, num_messages: u64)
+    requires { length (body_text (command.Send producer_id sequence_id num_messages)) ≤ out.old.spare }
+    ensures text { Puts out.old (body_text (command.Send producer_id sequence_id num_messages)) out.new }
+    ensures writable { AllByRecursion IsPart (parts (command.Send producer_id sequence_id num_messages)) }
+{
+    out.put_varint(1, producer_id);
+    out.put_varint(2, sequence_id);
+    out.put_varint(3, num_messages);
+}
+
+fn put_receipt(out: &mut Buffer, producer_id: u64, sequence_id: u64, message_id: Position)
+    requires { length (body_text (command.SendReceipt producer_id sequence_id (Some message_id))) ≤ out.old.spare }
+    ensures text { Puts out.old (body_text (command.SendReceipt producer_id sequence_id (Some message_id))) out.new }
+    ensures writable { AllByRecursion IsPart (parts (command.SendReceipt producer_id sequence_id (Some message_id))) }
+{
+    out.put_varint(1, producer_id);
+    out.put_varint(2, sequence_id);
+    put_id(out, 3, message_id);
+}
+
+fn put_message(out: &mut Buffer, consumer_id: u64, message_id: Position)
+    requires { length (body_text (command.Message consumer_id message_id)) ≤ out.old.spare }
+    ensures text { Puts out.old (body_text (command.Message consumer_id message_id)) out.new }
+    ensures writable { AllByRecursion IsPart (parts (command.Message consumer_id message_id)) }
+{
+    out.put_varint(1, consumer_id);
+    put_id(out, 2, message_id);
 }

@@ -1,16 +1,17 @@
 -- Frames of the usual form, read and written.
-use Rattle.std.proofs.Common.{◌≡◌, ℕ, ◌+◌, ◌<◌, ◌≤◌, true, false, List, [], ◌++◌, Option, None, Some, length, sym, ap, subst, ◌∙◌, append_assoc, append-nil, length-append, arith}
+use Rattle.std.proofs.Common.{◌≡◌, ℕ, ◌+◌, ◌<◌, ◌≤◌, true, false, List, [], ◌++◌, Option, None, Some, length, refl, sym, ap, subst, ◌∙◌, append_assoc, append-nil, length-append, arith}
 use Rattle.std.specs.Prelude.{IfSome, is_some}
 use Rattle.std.specs.Option.{option_map}
 use Rattle.message_meta.specs.Canonical.{IsMetadata}
 use Rattle.message_meta.specs.Metadata.{Metadata, IsMetaText}
 use Rattle.message_meta.specs.Usual.{meta_viewed}
 use Rattle.pulsar_commands.specs.declared.command.Command.{Command}
+use Rattle.pulsar_commands.specs.declared.acks.AckView.{AckView}
 use Rattle.pulsar_commands.specs.declared.view.CommandView.{CommandView}
 use Rattle.pulsar_commands.specs.Canonical.{IsWritable, command_text}
 use Rattle.pulsar_commands.specs.Parts.{kind_of}
 use Rattle.pulsar_commands.specs.Text.{IsCommandText}
-use Rattle.pulsar_commands.specs.Usual.{command_viewed}
+use Rattle.pulsar_commands.specs.Usual.{ack_viewed, command_viewed}
 use Rattle.pulsar_frames.specs.declared.frame.Body.{Body}
 use Rattle.pulsar_frames.specs.declared.frame.Frame.{Frame}
 use Rattle.pulsar_frames.specs.declared.layout.BodyParts.{BodyParts}
@@ -19,7 +20,7 @@ use Rattle.pulsar_frames.specs.declared.view.MessageView.{MessageView}
 use Rattle.pulsar_frames.specs.Canonical.{IsComplete, canonical_body, canonical_layout, frame_text}
 use Rattle.pulsar_frames.specs.Frames.{IsFrameText, MeansBody, carries}
 use Rattle.pulsar_frames.specs.Layout.{BodyLayout, Layout, TakesLayout, content_text, frame_limit, layout_text, size, sized}
-use Rattle.pulsar_frames.specs.Usual.{IsUsualText, bare_viewed, carrying_viewed, message_viewed}
+use Rattle.pulsar_frames.specs.Usual.{IsUsualText, acking_viewed, bare_viewed, carrying_viewed, message_viewed}
 use Rattle.pulsar_frames.specs.Viewed.{body_layout, layout}
 use Rattle.pulsar_frames.proofs.Layouts.{length-sized}
 use Rattle.pulsar_frames.proofs.Written.{canonical_is}
@@ -57,17 +58,25 @@ usual_is f bytes is command carried meta small = record {
 counts : (a b : ℕ) (bytes : List ℕ) → a ≡ b → size a ++ bytes ≡ size b ++ bytes
 counts a b bytes same = ap (λ (n : ℕ). size n ++ bytes) same
 
-pub bare_text_is : (v : CommandView) (begun out : List ℕ) (command : ℕ) → carries (kind_of (command_viewed v)) ≡ false → command ≡ length (command_text (command_viewed v)) → command < 64
-    → begun ≡ size (4 + command) ++ size command → out ≡ begun ++ command_text (command_viewed v) → IsWritable (command_viewed v) → IsUsualText (bare_viewed v) out
-bare_text_is v begun out command carried sized_is few is written writable =
-    let f : Frame = bare_viewed v in
-    let text : List ℕ = command_text (command_viewed v) in
+-- a command that carries no message
+pub command_text_is : (c : Command) (begun out : List ℕ) (command : ℕ) → carries (kind_of c) ≡ false → command ≡ length (command_text c) → command < 5000100
+    → begun ≡ size (4 + command) ++ size command → out ≡ begun ++ command_text c → IsWritable c → IsUsualText (record { command = c; body = None }) out
+command_text_is c begun out command carried sized_is few is written writable =
+    let f : Frame = record { command = c; body = None } in
+    let text : List ℕ = command_text c in
     let content : List ℕ = content_text (canonical_layout f) in
     let parts : content ≡ size command ++ text = append-nil (sized text) ∙ counts (length text) command text (sym sized_is) in
     let long : length content ≡ 4 + command = omega (arith, ap (λ (bs : List ℕ). length bs) (append-nil (sized text)), length-sized text, sized_is) in
     let whole : out ≡ frame_text f =
     written ∙ ap (λ (bs : List ℕ). bs ++ text) is ∙ append_assoc (size (4 + command)) (size command) text ∙ ap (λ (bs : List ℕ). size (4 + command) ++ bs) (sym parts) ∙ counts (4 + command) (length content) content (sym long) in
     usual_is f out whole writable (sym carried) tt (omega (arith, long, few))
+
+pub bare_text_is : (v : CommandView) (begun out : List ℕ) (command : ℕ) → carries (kind_of (command_viewed v)) ≡ false → command ≡ length (command_text (command_viewed v)) → command < 64
+    → begun ≡ size (4 + command) ++ size command → out ≡ begun ++ command_text (command_viewed v) → IsWritable (command_viewed v) → IsUsualText (bare_viewed v) out
+bare_text_is v begun out command carried sized_is few is written writable = command_text_is (command_viewed v) begun out command carried sized_is (omega (arith, few)) is written writable
+
+pub ack_text_is : (a : AckView) (begun out : List ℕ) (command : ℕ) → command ≡ length (command_text (ack_viewed a)) → command < 5000100 → begun ≡ size (4 + command) ++ size command → out ≡ begun ++ command_text (ack_viewed a) → IsWritable (ack_viewed a) → IsUsualText (acking_viewed a) out
+ack_text_is a begun out command sized_is few is written writable = command_text_is (ack_viewed a) begun out command refl sized_is few is written writable
 
 pub carrying_text_is : (v : CommandView) (m : MessageView) (begun first second third out : List ℕ) (command meta total : ℕ) → carries (kind_of (command_viewed v)) ≡ true → command ≡ length (command_text (command_viewed v))
     → meta ≡ length (canonical_body (message_viewed m)).meta → total ≡ 8 + command + meta + length m.payload.now → total ≤ frame_limit → begun ≡ size total ++ size command → first ≡ begun ++ command_text (command_viewed v) → second ≡ first ++ size meta

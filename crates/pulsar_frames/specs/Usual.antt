@@ -3,7 +3,8 @@ use Rattle.std.specs.Prelude.{◌≡◌, ℕ, List, None, Some}
 use Rattle.std.specs.Option.{option_map}
 use Rattle.message_meta.specs.Usual.{meta_viewed}
 use Rattle.pulsar_commands.specs.declared.view.CommandView.{CommandView}
-use Rattle.pulsar_commands.specs.Usual.{command_viewed}
+use Rattle.pulsar_commands.specs.declared.acks.AckView.{AckView}
+use Rattle.pulsar_commands.specs.Usual.{ack_viewed, command_viewed}
 use Rattle.pulsar_frames.specs.declared.frame.Body.{Body}
 use Rattle.pulsar_frames.specs.declared.frame.Frame.{Frame}
 use Rattle.pulsar_frames.specs.declared.view.FrameView.{FrameView}
@@ -20,6 +21,9 @@ frame_viewed v = record { command = command_viewed v.command; body = option_map 
 
 abbrev pub bare_viewed : CommandView → Frame
 bare_viewed c = record { command = command_viewed c; body = None }
+
+abbrev pub acking_viewed : AckView → Frame
+acking_viewed a = record { command = ack_viewed a; body = None }
 
 abbrev pub carrying_viewed : CommandView → MessageView → Frame
 carrying_viewed c m = record { command = command_viewed c; body = Some (message_viewed m) }

@@ -19,4 +19,4 @@ pub use read::{carries_message, read_frame};
 pub use reader::FrameReader;
 pub use view::{FrameView, MessageView, usual_frame};
 pub use write::{write_carrying, write_frame};
-pub use write_view::{write_usual_command, write_usual_message};
+pub use write_view::{write_usual_ack, write_usual_command, write_usual_message};

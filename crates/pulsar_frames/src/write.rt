@@ -147,9 +147,8 @@ fn join(alloc: Global, total: u64, parts: FrameParts<'_>) -> Result<Blob, Memory
 }
 
 /// Appends a size, four bytes, the greatest first.
-
 #[tactic(auto, unfolding(crate::specs::Layout::size))]
-pub(crate) fn append_size(out: &mut Blob, bytes: u64) -> Result<(), Memory>
+fn append_size(out: &mut Blob, bytes: u64) -> Result<(), Memory>
     requires { bytes < 2 ^ 32 }
     ensures { OnOk result (out.new ≡ out.old ++ size bytes) }
 {

@@ -48,7 +48,7 @@ pub(super) fn append_of_broker(out: &mut Blob, command: &Command) -> Result<(), 
 }
 
 /// Appends the fields of the receipt of a SEND.
-pub(crate) fn append_send_receipt(
+fn append_send_receipt(
     out: &mut Blob,
     producer_id: u64,
     sequence_id: u64,
@@ -78,11 +78,7 @@ fn append_send_error(
 }
 
 /// Appends the fields of a MESSAGE.
-pub(crate) fn append_message(
-    out: &mut Blob,
-    consumer_id: u64,
-    message_id: Position,
-) -> Result<(), Memory>
+fn append_message(out: &mut Blob, consumer_id: u64, message_id: Position) -> Result<(), Memory>
     ensures ok { OnOk result (Writes out.old (parts (command.Message consumer_id message_id)) out.new) }
     ensures err { OnErr result (Extends out.old out.new) }
 {

@@ -6,10 +6,10 @@ ghost use Rattle.pulsar_commands.specs.Parts.{parts, kind_of, sub_number, ack_nu
 ghost use Rattle.pulsar_commands.specs.Senders.{IsOfConsumer};
 ghost use Rattle.pulsar_commands.specs.Canonical.{Writes};
 
-use crate::command::{Command, PositionList};
+use crate::command::Command;
 use crate::ids::append_ids;
 use crate::parts::{append_flag, append_number, append_optional_text, append_text};
-use geo_base::{AckKind, Blob, Memory, SubKind, Text};
+use geo_base::{AckKind, Blob, Memory, Position, SubKind, Text};
 
 /// Appends the fields of a command of a consumer.
 pub(super) fn append_of_consumer(out: &mut Blob, command: &Command) -> Result<(), Memory>
@@ -43,7 +43,7 @@ pub(super) fn append_of_consumer(out: &mut Blob, command: &Command) -> Result<()
             consumer_id,
             ack_type,
             message_id,
-        } => append_ack(out, *consumer_id, *ack_type, message_id),
+        } => append_ack(out, *consumer_id, *ack_type, message_id.as_slice()),
         Command::Flow {
             consumer_id,
             message_permits,
@@ -86,11 +86,12 @@ fn append_subscribe(out: &mut Blob, subscribe: Subscribe<'_>) -> Result<(), Memo
     append_flag(out, 14, subscribe.replicate_subscription_state)
 }
 
+/// Appends the fields of an ACK.
 fn append_ack(
     out: &mut Blob,
     consumer_id: u64,
     ack_type: AckKind,
-    message_id: &PositionList,
+    message_id: &[Position],
 ) -> Result<(), Memory>
     ensures { OnOk result (Writes out.old (parts (command.Ack consumer_id ack_type message_id.now)) out.new) }
 {
@@ -133,7 +134,7 @@ fn sub_type_number(kind: SubKind) -> u64
 }
 
 /// The number of a value of ack_type.
-fn ack_type_number(kind: AckKind) -> u64
+pub(crate) fn ack_type_number(kind: AckKind) -> u64
     ensures { result ≡ ack_number kind }
 {
     match kind {

@@ -52,7 +52,7 @@ fn append_producer(
 }
 
 /// Appends the fields of a SEND.
-pub(crate) fn append_send(
+fn append_send(
     out: &mut Blob,
     producer_id: u64,
     sequence_id: u64,

@@ -6,7 +6,7 @@ use Rattle.pulsar_commands.specs.Text.{IdRight, IdWrong, usual}
 use Rattle.pulsar_commands.specs.Faults.{WrongOfType, body}
 use Rattle.pulsar_commands.proofs.Refused.{of_message_wrong}
 use Rattle.pulsar_commands.proofs.Usual.{usual_type, usual_right, usual_last, usual_wrong}
-use Rattle.pulsar_commands.proofs.read.command_of_content.Goals as goal
+use Rattle.pulsar_commands.proofs.read.any_of_content.Goals as goal
 
 pub returns-in_err-held-clause-fault : goal.returns-in_err-held-clause-fault
 returns-in_err-held-clause-fault c =
