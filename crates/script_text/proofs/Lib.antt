@@ -33,3 +33,6 @@ pub mod Following
 pub mod Growing
 pub mod OneText
 pub mod RecentLines
+pub mod Formed
+pub mod CoveredLines
+pub mod Feeds

@@ -1,5 +1,5 @@
 -- Lines that were read before, and what they schedule.
-use Rattle.std.specs.Prelude.{◌≡◌, ℕ, true, List, [], Option, None, Some, Result, Ok, Err, ⊤}
+use Rattle.std.specs.Prelude.{◌≡◌, ℕ, ◌⊎◌, true, List, [], Option, None, Some, Result, Ok, Err, slice_set, ⊤}
 use Rattle.geo_base.specs.declared.event.Step.{Step}
 use Rattle.script_rows.specs.declared.fault.Rule.{Rule}
 use Rattle.script_rows.specs.declared.progress.Progress.{Progress}
@@ -16,6 +16,9 @@ pub record Kept : Type 0 where
 
 abbrev pub nothing_kept : Kept
 nothing_kept = record { line = []; step = None }
+
+abbrev pub IsNothing : Kept → Type 0
+IsNothing k = k ≡ nothing_kept
 
 abbrev pub ended_line : List ℕ → TextLine
 ended_line bytes = record { bytes = bytes; ended = true }
@@ -36,3 +39,7 @@ Means p n k = IsKept p n k.step k.line
 -- where events have begun
 abbrev pub among_events : Progress → Progress
 among_events p = record p { last = stage.Event }
+
+-- so many lines, of which one was noted at some place, or none
+abbrev pub IsNoted : List Kept → List Kept → Kept → Type 0
+IsNoted before after k = (after ≡ before) ⊎ ((place : ℕ) × (after ≡ slice_set before place k))

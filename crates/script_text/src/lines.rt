@@ -1,11 +1,12 @@
 //! The lines of a script.
-ghost use Rattle.std.specs.Prelude.{◌≡◌, ◌&&◌, false, [], ◌∷◌, MatchOption, IfNone, IfSome};
+ghost use Rattle.std.specs.Prelude.{◌≡◌, ◌==◌, ◌&&◌, false, [], ◌∷◌, MatchOption, IfNone, IfSome, position};
 ghost use Rattle.std.specs.List.{list_all};
+ghost use Rattle.script_names.specs.Words.{cut_by};
 ghost use Rattle.script_text.specs.Drafts.{StartsWithStep, says_step};
 ghost use Rattle.script_text.specs.Lines.{lines_of, is_skipped, is_printable};
 
 use crate::steps::says_step;
-use script_names::cut_at;
+use memchr::memchr;
 use std::marker::Model;
 
 /// A line of a script.
@@ -100,7 +101,7 @@ impl<'a> Lines<'a> {
         if self.rest.is_empty() {
             return None;
         }
-        match cut_at(self.rest, b'\n') {
+        match cut_line(self.rest) {
             Some((bytes, rest)) => {
                 self.rest = rest;
                 Some(TextLine { bytes, ended: true })
@@ -145,4 +146,45 @@ impl<'a> Lines<'a> {
             }
         }
     }
+}
+
+/// The bytes before the first line feed and those after it.
+#[tactic(auto, using(crate::proofs::Cuts::cut_found, crate::proofs::Cuts::cut_none))]
+fn cut_line(bytes: &[u8]) -> Option<(&[u8], &[u8])>
+    ensures { MatchOption result
+        (cut_by 10 bytes.now ≡ bytes.now ∷ [])
+        (λ parts. cut_by 10 bytes.now ≡ parts.0.now ∷ cut_by 10 parts.1.now) }
+{
+    let end = line_end(bytes)?;
+    Some((&bytes[..end], &bytes[end + 1..]))
+}
+
+/// How many bytes are looked through at once: few lines of a schedule are longer.
+const NEAR: usize = 32;
+
+/// The place of the first line feed.
+#[tactic(auto, using(crate::proofs::Feeds::found_behind, crate::proofs::Feeds::none_behind))]
+fn line_end(bytes: &[u8]) -> Option<usize>
+    ensures { result ≡ position (λ b. b == 10) bytes.now }
+{
+    let mut seen = 0;
+    let mut rest = bytes;
+    while let Some((near, behind)) = rest.split_first_chunk::<NEAR>() {
+        if let Some(place) = memchr(b'\n', near) {
+            return Some(seen + place);
+        }
+        seen += NEAR;
+        rest = behind;
+    }
+    match feed_in(rest) {
+        Some(place) => Some(seen + place),
+        None => None,
+    }
+}
+
+/// The same, of few bytes.
+fn feed_in(bytes: &[u8]) -> Option<usize>
+    ensures { result ≡ position (λ b. b == 10) bytes.now }
+{
+    bytes.iter().position(|b| *b == b'\n')
 }

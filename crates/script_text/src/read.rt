@@ -174,7 +174,7 @@ impl Declarations {
         let mut progress = self.progress();
         let mut number = first;
         while let Some(line) = lines.next_line() {
-            match steps.read_next(progress, &names, number, &line, &mut recent) {
+            match steps.read_next(progress, &names, number, line, &mut recent) {
                 Ok(()) => {}
                 Err(LineFault::Broken(rule)) => {
                     return Err(ScriptFault::Rule {

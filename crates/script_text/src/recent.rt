@@ -1,20 +1,30 @@
 //! Steps of lines that were read before: the events of a schedule name a few nodes again and again, and a line schedules the same
 //! step each time that it stands there.
-ghost use Rattle.std.specs.Prelude.{◌≡◌, ◌<◌, replicate, slice_get, slice_set, IfOk, IfSome, Some};
-ghost use Rattle.script_text.specs.Recent.{nothing_kept};
+ghost use Rattle.std.specs.Prelude.{◌≡◌, ◌<◌, ◌≤◌, length, All, Contains, IfOk, IfSome, Some};
+ghost use Rattle.script_text.specs.Recent.{IsNoted, IsNothing};
 
+use crate::form::Short;
+use crate::line_ends::{first_eight, first_four, is_same, last_eight, last_four};
 use geo_base::{Memory, Step};
 use std::alloc::Global;
 use std::marker::Model;
 
-/// How many lines are kept, one for each number that a line's bytes are summed up to (own).
-const PLACES: usize = 256;
+/// How many lines are kept, one for each number that 12 bits write (own): a script names hundreds of different steps, and two
+/// of them should seldom share a place.
+const PLACES: usize = 4096;
+
+/// The bits of 64 above which the 12 of a place stand.
+const PLACE_SHIFT: u32 = 52;
+
+/// 2^64 over the golden ratio: the upper bits of a product with it depend on each bit of the other number (multiplicative
+/// hashing, after Knuth).
+const SPREAD: u64 = 0x9e37_79b9_7f4a_7c15;
 
 /// A line without its line feed, and the step that it schedules; none where no line was noted.
 #[derive(Debug, Drop)]
 struct Place<'a> {
     line: &'a [u8],
-    step: Option<Step>,
+    step: Option<Short>,
 }
 
 impl<'a> Model for Place<'a> {
@@ -27,10 +37,14 @@ impl<'a> Model for Place<'a> {
 
 impl<'a> Place<'a> {
     /// The step of a line, where it is this one.
-    fn step_of(&self, line: &[u8]) -> Option<Step>
-        ensures { IfSome result (λ s. self.now ≡ record { line = line.now; step = Some s }) }
+    fn step_of(&self, line: &[u8]) -> Option<&Short>
+        ensures { IfSome result (λ s. self.now ≡ record { line = line.now; step = Some s.now }) }
     {
-        if self.line == line { self.step } else { None }
+        if is_same(self.line, line) {
+            self.step.as_ref()
+        } else {
+            None
+        }
     }
 }
 
@@ -48,14 +62,14 @@ impl<'a> Model for Recent<'a> {
 
     ghost view = { λ r. r.places.items };
 
-    ghost invariant = { λ r. length r.places.items ≡ 256 };
+    ghost invariant = { λ r. length r.places.items ≡ 4096 };
 }
 
 impl<'a> Recent<'a> {
     /// No line. An `Err` is want of memory.
     #[tactic(auto, using(crate::proofs::RecentLines::one_more, crate::proofs::RecentLines::none_yet))]
     pub(crate) fn new(alloc: Global) -> Result<Recent<'a>, Memory>
-        ensures { IfOk result (λ r. r ≡ replicate 256 nothing_kept) }
+        ensures { IfOk result (All IsNothing) }
     {
         let mut places = Vec::new(alloc);
         places.reserve_exact(PLACES)?;
@@ -68,35 +82,49 @@ impl<'a> Recent<'a> {
         Ok(Recent { places })
     }
 
-    /// The step of a line, where it is the one that was noted last at its place.
-    pub(crate) fn find(&self, place: usize, line: &[u8]) -> Option<Step>
-        ensures { IfSome result (λ s. slice_get self.now place ≡ Some (record { line = line.now; step = Some s })) }
+    /// The step of a line, where it was noted and no line after it at its place.
+    pub(crate) fn find(&self, line: &[u8]) -> Option<&Short>
+        ensures { IfSome result (λ s. Contains self.now (record { line = line.now; step = Some s.now })) }
     {
-        match self.places.get(place) {
-            Some(kept) => kept.step_of(line),
-            None => None,
-        }
+        self.places[place_of(line)].step_of(line)
     }
 
-    /// A line was read that schedules a step.
-    pub(crate) fn note(&mut self, place: usize, line: &'a [u8], step: Step)
-        requires { place < 256 }
-        ensures { self.new ≡ slice_set self.old place (record { line = line.now; step = Some step }) }
+    /// A line was read that schedules a step. It is noted if the step has a short form, as nearly each has.
+    pub(crate) fn note(&mut self, line: &'a [u8], step: &Step)
+        ensures { IsNoted self.old self.new (record { line = line.now; step = Some step.now }) }
     {
-        self.places[place] = Place {
-            line,
-            step: Some(step),
-        };
+        if let Some(short) = Short::of(step) {
+            self.places[place_of(line)] = Place {
+                line,
+                step: Some(short),
+            };
+        }
     }
 }
 
 /// The place of a line.
 pub(crate) fn place_of(line: &[u8]) -> usize
-    ensures { result < 256 }
+    ensures { result < 4096 }
 {
-    let mut sum: u32 = 0;
-    for byte in line {
-        sum = sum.wrapping_mul(33).wrapping_add(u32::from(*byte));
+    (number_of(line).wrapping_mul(SPREAD) >> PLACE_SHIFT) as usize
+}
+
+/// A number of a line: its first eight bytes and its last sixteen, so that different lines of at most 24 bytes seldom share one.
+/// A line of fewer than four bytes schedules no step.
+fn number_of(line: &[u8]) -> u64 {
+    match line.len() {
+        0..4 => 0,
+        4..8 => u64::from(first_four(line)) << 32 | u64::from(last_four(line)),
+        8..16 => ends_of(line),
+        _ => ends_of(line).wrapping_add(last_eight(&line[..line.len() - 8]).rotate_left(13)),
     }
-    (sum % 256) as usize
+}
+
+/// The number of a line's first eight bytes and its last.
+fn ends_of(line: &[u8]) -> u64
+    requires { 8 ≤ length line.now }
+{
+    first_eight(line)
+        .rotate_left(29)
+        .wrapping_add(last_eight(line))
 }

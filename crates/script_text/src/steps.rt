@@ -3,15 +3,16 @@ ghost use Rattle.std.specs.Prelude.{◌≡◌, true, [], All, None, Some, IfErr,
 ghost use Rattle.script_rows.specs.declared.fault.LineFault.TheVariants as LineFault;
 ghost use Rattle.script_rows.specs.declared.progress.Stage.TheVariants as stage;
 ghost use Rattle.script_rows.specs.Reading.{values_in};
-ghost use Rattle.script_text.specs.Adding.{with_step};
+ghost use Rattle.script_text.specs.Adding.{first_of, with_step};
 ghost use Rattle.script_text.specs.Drafts.{Judges, heads_step, says_step};
 ghost use Rattle.script_text.specs.Recent.{Means, Schedules, among_events};
 ghost use Rattle.script_text.specs.Rules.{lowest, said_by};
 ghost use Rattle.script_text.specs.Schedule.{scheduled};
 ghost use Rattle.script_text.specs.Script.{no_steps};
 
+use crate::form::Short;
 use crate::lines::TextLine;
-use crate::recent::{Recent, place_of};
+use crate::recent::Recent;
 use crate::step_list::StepList;
 use geo_base::{Memory, Step};
 use script_rows::{Heading, LineFault, Names, Progress, Row, Rule, Stage, heading_of};
@@ -88,42 +89,78 @@ impl Steps {
         }
     }
 
-    /// The same, where lines that schedule steps among events were noted.
+    /// The same, where lines that schedule steps among events were noted. The line is moved on, so that it stands in memory only
+    /// where it is read.
     pub(crate) fn read_next<'a>(
         &mut self,
         progress: Progress,
         names: &Names<'_>,
         number: u64,
-        line: &TextLine<'a>,
+        line: TextLine<'a>,
         recent: &mut Recent<'a>,
     ) -> Result<(), LineFault>
         requires recent { All (Means (among_events progress) names.now) recent.old }
-        ensures judges { Judges result self.new (scheduled number progress names.now self.old line.now) }
+        ensures judges { Judges result self.new (scheduled number progress names.now self.old line.entry) }
         ensures recent { All (Means (among_events progress) names.now) recent.new }
     {
         if progress.last == Stage::Event && line.is_ended() {
             self.read_again(progress, names, number, line, recent)
         } else {
-            self.read_line(progress, names, number, line)
+            self.read_unnoted(progress, names, number, line)
         }
     }
 
-    /// The same of a line that may have been noted, or else is noted now.
+    /// The same of a line among events that ends.
+    #[tactic(auto, using(crate::proofs::RecentLines::noted_schedules))]
     fn read_again<'a>(
         &mut self,
         progress: Progress,
         names: &Names<'_>,
         number: u64,
-        line: &TextLine<'a>,
+        line: TextLine<'a>,
         recent: &mut Recent<'a>,
     ) -> Result<(), LineFault>
         requires late { progress.last ≡ stage.Event }
-        requires ended { line.now.ended ≡ true }
+        requires ended { line.ended ≡ true }
         requires recent { All (Means (among_events progress) names.now) recent.old }
-        ensures judges { Judges result self.new (scheduled number progress names.now self.old line.now) }
+        ensures judges { Judges result self.new (scheduled number progress names.now self.old line.entry) }
         ensures recent { All (Means (among_events progress) names.now) recent.new }
     {
-        match step_again(progress, names, line, recent) {
+        match recent.find(line.bytes()) {
+            Some(step) => self.take_short(number, step),
+            None => self.read_and_note(progress, names, number, line, recent),
+        }
+    }
+
+    /// The same of a line that is not noted.
+    fn read_unnoted(
+        &mut self,
+        progress: Progress,
+        names: &Names<'_>,
+        number: u64,
+        line: TextLine<'_>,
+    ) -> Result<(), LineFault>
+        ensures { Judges result self.new (scheduled number progress names.now self.old line.entry) }
+    {
+        self.read_line(progress, names, number, &line)
+    }
+
+    /// The same of a line that was not noted, and is now if it schedules a step.
+    fn read_and_note<'a>(
+        &mut self,
+        progress: Progress,
+        names: &Names<'_>,
+        number: u64,
+        line: TextLine<'a>,
+        recent: &mut Recent<'a>,
+    ) -> Result<(), LineFault>
+        requires late { progress.last ≡ stage.Event }
+        requires ended { line.ended ≡ true }
+        requires recent { All (Means (among_events progress) names.now) recent.old }
+        ensures judges { Judges result self.new (scheduled number progress names.now self.old line.entry) }
+        ensures recent { All (Means (among_events progress) names.now) recent.new }
+    {
+        match step_noted(progress, names, &line, recent) {
             Err(rule) => Err(LineFault::Broken(rule)),
             Ok(step) => self.take(number, step),
         }
@@ -145,10 +182,27 @@ impl Steps {
         ensures { OnOk result (self.new ≡ with_step number self.old (Some step)) }
     {
         self.list.push(step)?;
+        self.note_first(number);
+        Ok(())
+    }
+
+    /// The step of a line that was noted.
+    fn take_short(&mut self, number: u64, step: &Short) -> Result<(), LineFault>
+        ensures ok { OnOk result (self.new ≡ with_step number self.old (Some step.now)) }
+        ensures err { IfErr result (λ why. why ≡ LineFault.Memory) }
+    {
+        self.list.push_short(step)?;
+        self.note_first(number);
+        Ok(())
+    }
+
+    /// A line scheduled a step: it is the first one's where none did before.
+    fn note_first(&mut self, number: u64)
+        ensures { self.new ≡ record self.old { first = first_of self.old.first number } }
+    {
         if self.first.is_none() {
             self.first = Some(number);
         }
-        Ok(())
     }
 }
 
@@ -167,9 +221,9 @@ fn step_of(progress: Progress, names: &Names<'_>, line: &TextLine<'_>) -> Result
     Ok(heading.step(row.as_slice()))
 }
 
-/// The same among events of a line that ends: as it was noted, or read and noted.
-#[tactic(auto, using(crate::proofs::RecentLines::noted_schedules, crate::proofs::RecentLines::note_means))]
-fn step_again<'a>(
+/// The same among events of a line that ends. What it schedules is noted.
+#[tactic(auto, using(crate::proofs::RecentLines::note_means))]
+fn step_noted<'a>(
     progress: Progress,
     names: &Names<'_>,
     line: &TextLine<'a>,
@@ -181,13 +235,9 @@ fn step_again<'a>(
     ensures schedules { Schedules progress names.now line.now result }
     ensures recent { All (Means (among_events progress) names.now) recent.new }
 {
-    let place = place_of(line.bytes());
-    if let Some(step) = recent.find(place, line.bytes()) {
-        return Ok(Some(step));
-    }
     let step = step_of(progress, names, line)?;
     if let Some(step) = step {
-        recent.note(place, line.bytes(), step);
+        recent.note(line.bytes(), &step);
     }
     Ok(step)
 }
