@@ -24,43 +24,9 @@ added_again rs i h e =
 pub acked_again : (rs : List IndexRange) → AreKept rs → (i : ℕ) → has (indexes_of rs) i ≡ true → with_index (indexes_of rs) i ≡ indexes_of rs
 acked_again rs h i e = sym (added_again rs i h (sym (has_indexes rs i) ∙ e))
 
-pub one_fits : (rs : List IndexRange) (i at from to : ℕ) (r : IndexRange) → AreKept rs → IsPlace rs i at → covers rs i ≡ false → Begins rs i at from r.first → Ends rs i at to r.last → Fits rs from to r
-one_fits rs i at from to r h p out b e = record {
-  order = omega (arith, b.order, e.order);
-  within = e.within;
-  own = omega (arith, b.reached, e.reached);
-  bounded = e.bounded;
-  low = b.apart;
-  joined = λ k d lo hi. elim (cases_lt k at) [
-    | inl under ↦ (b.joined k d lo under, omega (arith, p.before k d (omega arith) under, e.reached))
-    | inr over ↦ (
-      grind (arith, b.reached, p.after k d over, covers_at rs k d i, e.within, hi, out),
-      e.joined k d over hi,
-    )
-  ];
-  high = e.apart;
-}
-
-pub one_added : (rs : List IndexRange) (i at from to : ℕ) (r : IndexRange) → AreKept rs → Fits rs from to r → Begins rs i at from r.first → Ends rs i at to r.last → indexes_of (edited rs from to r) ≡ with_index (indexes_of rs) i
-one_added rs i at from to r h f b e =
-    same_set 0 (indexes_of (edited rs from to r)) (with_index (indexes_of rs) i) (rising (edited rs from to r) (edited_kept rs from to r h f)) (rising_with_index 0 (indexes_of rs) i (rising rs h) (omega arith)) (λ j.
-    has_indexes (edited rs from to r) j
-    ∙ covers_edited rs from to r j f
-    ∙ grind (arith, nat_tests, has_with_index (indexes_of rs) i j, has_indexes rs j, b.held j, e.held j, b.reached, e.reached))
-
-before_out : (set : List ℕ) (i : ℕ) → ((j : ℕ) → j + 1 ≡ i → has set j ≡ false) → has_before set i ≡ false
+pub before_out : (set : List ℕ) (i : ℕ) → ((j : ℕ) → j + 1 ≡ i → has set j ≡ false) → has_before set i ≡ false
 before_out set zero h = refl
 before_out set (suc i) h = h i (omega arith)
-
--- it needs room only where it stands alone
-pub one_alone : (rs : List IndexRange) (i at from to first last : ℕ) → covers rs i ≡ false → Begins rs i at from first → Ends rs i at to last → from ≡ to → stands_alone (indexes_of rs) i ≡ true
-one_alone rs i at from to first last out b e same =
-    let left : from ≡ at = omega (arith, b.order, e.order) in
-    let right : at ≡ to = omega (arith, b.order, e.order) in
-    let before : has_before (indexes_of rs) i ≡ false = before_out (indexes_of rs) i (λ j f. has_indexes rs j ∙ b.alone left j f) in
-    let own : has (indexes_of rs) i ≡ false = has_indexes rs i ∙ out in
-    let after : has (indexes_of rs) (i + 1) ≡ false = has_indexes rs (i + 1) ∙ e.alone right in
-    rw (before, own, after) refl
 
 pub all_fit : (rs : List IndexRange) (i at to : ℕ) (r : IndexRange) → r.first ≡ 0 → IsPlace rs (i + 1) at → Ends rs i at to r.last → Fits rs 0 to r
 all_fit rs i at to r z p e = record {
@@ -82,3 +48,10 @@ all_added rs i at to r z h f e =
     has_indexes (edited rs 0 to r) j
     ∙ covers_edited rs 0 to r j f
     ∙ grind (arith, nat_tests, has_with_indexes (indexes_of rs) (below (i + 1)) j, has_range 0 (i + 1) j, has_indexes rs j, e.held j, e.reached, z))
+
+-- what all three ways to put them in come to
+pub put_up_to : (rs ss : List IndexRange) (i at to : ℕ) (r : IndexRange) → r.first ≡ 0 → AreKept rs → IsPlace rs (i + 1) at → Ends rs i at to r.last → ss ≡ edited rs 0 to r
+    → AreKept ss × (indexes_of ss ≡ with_indexes (indexes_of rs) (below (i + 1)))
+put_up_to rs ss i at to r z h p e is =
+    let f : Fits rs 0 to r = all_fit rs i at to r z p e in
+    rw is (edited_kept rs 0 to r h f, all_added rs i at to r z h f e)

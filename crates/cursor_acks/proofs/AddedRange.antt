@@ -1,17 +1,19 @@
 -- One range in place of some is a range more of acknowledged indexes, none of which was acknowledged.
-use Rattle.std.proofs.Common.{◌≡◌, ℕ, zero, suc, ◌+◌, ◌-◌, ◌<◌, ◌≤◌, Bool, true, false, List, length, get_or, inl, inr, refl, sym, ◌∙◌, arith}
-use Rattle.std.specs.Prelude.{nat_le, nat_lt, not}
+use Rattle.std.proofs.Common.{◌≡◌, ℕ, zero, suc, ◌+◌, ◌-◌, ◌<◌, ◌≤◌, Bool, true, false, List, length, get_or, inl, inr, refl, ap, sym, ◌∙◌, arith}
+use Rattle.std.specs.Prelude.{nat_le, nat_lt, not, ◌||◌}
 use Rattle.std.specs.List.{list_all, range_with_len}
 use Rattle.std.proofs.lemmas.Bool.{cases_lt, false≢true}
 use Rattle.std.proofs.lemmas.Bool.Decides.{nat_tests}
 use Rattle.std.proofs.lemmas.List.{get_or_default}
-use Rattle.geo_base.specs.Cursor.{has, with_indexes}
+use Rattle.geo_base.specs.Cursor.{has, with_index, with_indexes}
 use Rattle.cursor_acks.specs.declared.range.IndexRange.{IndexRange}
-use Rattle.cursor_acks.specs.Acks.{are_free, from_to}
+use Rattle.cursor_acks.specs.Acks.{are_free, from_to, has_before, stand_alone, stands_alone}
 use Rattle.cursor_acks.specs.Ranges.{covers, indexes_of}
 use Rattle.cursor_acks.specs.Places.{AreKept, Begins, Ends, IsPlace}
 use Rattle.cursor_acks.proofs.Covered.{covers_at, has_indexes, rising_indexes, uncovered}
 use Rattle.cursor_acks.proofs.Edited.{Fits, covers_edited, edited, edited_kept}
+use Rattle.cursor_acks.proofs.Added.{before_out}
+use Rattle.cursor_acks.proofs.Places.{rises}
 use Rattle.cursor_acks.proofs.Sets.{Rising, has_range, has_with_indexes, rising_with_indexes, same_set}
 
 -- ---- none of some indexes is acknowledged
@@ -98,12 +100,50 @@ range_added rs first last at at' from to r h le f b e =
     ∙ covers_edited rs from to r j f
     ∙ grind (arith, nat_tests, has_with_indexes (indexes_of rs) (from_to first last) j, has_range first (last + 1 - first) j, has_indexes rs j, b.held j, e.held j, b.reached, e.reached, le))
 
--- ---- what the test for a range answers
+-- the indexes that are not there stand at one place
+pub place_free : (rs : List IndexRange) (first last at : ℕ) → AreKept rs → IsPlace rs first at → first ≤ last → are_free (indexes_of rs) first last ≡ true → IsPlace rs (last + 1) at
+place_free rs first last at h p le free = record {
+  within = p.within;
+  before = λ k d a b. omega (arith, p.before k d a b, le);
+  after = λ k d a b.
+      let n : at < length rs = omega (arith, a, b) in
+      elim (cases_lt last (get_or rs at d).first) [
+        | inl lt ↦ omega (arith, lt, h.apart.each at d n, rises rs h at k d a b)
+        | inr over ↦ absurd (false≢true (sym (not_free rs first last at d h p n over le) ∙ free))
+      ];
+}
 
-pub free_past : (rs : List IndexRange) (first last at : ℕ) → AreKept rs → IsPlace rs first at → first ≤ last → length rs ≤ at → nat_le (length rs) at ≡ are_free (indexes_of rs) first last
-free_past rs first last at h p le past =
-    let free : are_free (indexes_of rs) first last ≡ true = free_there rs first last at h p (λ d n. absurd (omega (arith, n, past))) le in
-    grind (arith, nat_tests, past, free)
+-- what all four ways to put them in come to
+pub put_in : (rs ss : List IndexRange) (first last at from to : ℕ) (r : IndexRange) → AreKept rs → first ≤ last → are_free (indexes_of rs) first last ≡ true → IsPlace rs first at
+    → Begins rs first at from r.first → Ends rs last at to r.last → ss ≡ edited rs from to r → AreKept ss × (indexes_of ss ≡ with_indexes (indexes_of rs) (from_to first last))
+put_in rs ss first last at from to r h le free p b e is =
+    let f : Fits rs from to r = range_fits rs first last at at from to r h le free p (place_free rs first last at h p le free) b e in
+    rw is (edited_kept rs from to r h f, range_added rs first last at at from to r h le f b e)
+
+pub put_alone : (rs : List IndexRange) (first last at from to low high : ℕ) → Begins rs first at from low → Ends rs last at to high → from ≡ to → stand_alone (indexes_of rs) first last ≡ true
+put_alone rs first last at from to low high b e same =
+    let left : from ≡ at = omega (arith, b.order, e.order, same) in
+    let right : at ≡ to = omega (arith, b.order, e.order, same) in
+    let before : has_before (indexes_of rs) first ≡ false = before_out (indexes_of rs) first (λ j f. has_indexes rs j ∙ b.alone left j f) in
+    let after : has (indexes_of rs) (last + 1) ≡ false = has_indexes rs (last + 1) ∙ e.alone right in
+    rw (before, after) refl
+
+-- one index is as many indexes from it to itself
+pub one_free : (rs : List IndexRange) (i : ℕ) → covers rs i ≡ false → are_free (indexes_of rs) i i ≡ true
+one_free rs i out =
+    all_free (indexes_of rs) i (i + 1 - i) (λ j low high.
+    let same : j ≡ i = omega (arith, low, high) in
+    rw same (has_indexes rs i ∙ out))
+
+pub one_index : (set : List ℕ) (i : ℕ) → with_indexes set (from_to i i) ≡ with_index set i
+one_index set i =
+    let one : i + 1 - i ≡ 1 = omega arith in
+    ap (λ n. with_indexes set (range_with_len i n)) one
+
+pub one_alone : (set : List ℕ) (i : ℕ) → has set i ≡ false → stands_alone set i ≡ stand_alone set i i
+one_alone set i out = ap (λ (b : Bool). not (has_before set i || (b || has set (i + 1)))) out
+
+-- ---- what the test for a range answers
 
 pub free_before : (rs : List IndexRange) (first last at : ℕ) (e : IndexRange) → AreKept rs → IsPlace rs first at → first ≤ last → at < length rs
     → nat_lt last (get_or rs at e).first ≡ are_free (indexes_of rs) first last

@@ -6,3 +6,7 @@ pub mod Edited
 pub mod Added
 pub mod AddedRange
 pub mod Reading
+pub mod Joined
+pub mod Found
+pub mod Parts
+pub mod Counted

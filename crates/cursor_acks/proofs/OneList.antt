@@ -1,9 +1,10 @@
 -- A set has one list of ranges.
-use Rattle.std.proofs.Common.{◌≡◌, ℕ, suc, ◌+◌, ◌<◌, ◌≤◌, true, false, List, [], ◌∷◌, refl, ap, sym, ◌∙◌, arith}
+use Rattle.std.proofs.Common.{◌≡◌, ℕ, suc, ◌+◌, ◌<◌, ◌≤◌, ◌^◌, true, false, List, [], ◌∷◌, length, refl, ap, sym, ◌∙◌, arith}
 use Rattle.std.proofs.lemmas.Bool.Decides.{nat_tests}
+use Rattle.geo_base.specs.Cursor.{has}
 use Rattle.cursor_acks.specs.declared.range.IndexRange.{IndexRange}
-use Rattle.cursor_acks.specs.Ranges.{AreApart, AreRangesOf, covers}
-use Rattle.cursor_acks.proofs.Covered.{apart_tail, uncovered}
+use Rattle.cursor_acks.specs.Ranges.{AreApart, AreRangesOf, IsToldByRanges, covers}
+use Rattle.cursor_acks.proofs.Covered.{apart_tail, has_indexes, uncovered}
 
 -- nothing below the first range is covered
 covered_from : (r : IndexRange) (rs : List IndexRange) (i : ℕ) → AreApart (r ∷ rs) → covers (r ∷ rs) i ≡ true → r.first ≤ i
@@ -55,3 +56,9 @@ same_ranges (r ∷ rs) (s ∷ ss) h k e =
 
 pub one_list : (set : List ℕ) (rs ss : List IndexRange) → AreRangesOf set rs → AreRangesOf set ss → rs ≡ ss
 one_list set rs ss h k = same_ranges rs ss h.apart k.apart (λ i. h.same i ∙ sym (k.same i))
+
+-- ranges of a set that ranges tell are those, and so no more than a list can count
+pub told_few : (set : List ℕ) (rs : List IndexRange) → IsToldByRanges set → AreRangesOf set rs → length rs < 2 ^ 64
+told_few set rs told are =
+    let mine : AreRangesOf set told.ranges = record { apart = told.apart; same = λ i. sym (has_indexes told.ranges i) ∙ ap (λ (s : List ℕ). has s i) (sym told.is) } in
+    omega (arith, ap length (one_list set rs told.ranges are mine), told.few)

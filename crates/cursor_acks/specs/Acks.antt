@@ -16,6 +16,10 @@ has_before set (suc i) = has set i
 abbrev pub stands_alone : List ℕ → ℕ → Bool
 stands_alone set i = not (has_before set i || (has set i || has set (i + 1)))
 
+-- no neighbour of the indexes from one to another is acknowledged
+abbrev pub stand_alone : List ℕ → ℕ → ℕ → Bool
+stand_alone set first last = not (has_before set first || has set (last + 1))
+
 -- all indexes from one to another, itself included
 abbrev pub from_to : ℕ → ℕ → List ℕ
 from_to first last = range_with_len first (last + 1 - first)

@@ -1,3 +1,4 @@
 pub mod Acks
+pub mod Blocks
 pub mod Places
 pub mod Ranges

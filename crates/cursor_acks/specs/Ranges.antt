@@ -4,9 +4,10 @@ use Rattle.std.specs.List.{All, AllPairs, range_with_len}
 use Rattle.cursor_acks.specs.declared.range.IndexRange.{IndexRange}
 use Rattle.geo_base.specs.Cursor.{has}
 
--- a list of ranges, and how many more find room
+-- a list of ranges, the blocks that it stands in, and how many more find room
 pub record Ranges : Type 0 where
   pub list : List IndexRange
+  pub blocks : List (List IndexRange)
   pub spare : ℕ
 
 -- an index lies in a range

@@ -1,11 +1,11 @@
 //! A cursor.
-ghost use Rattle.std.specs.Prelude.{◌≡◌, ◌≤◌, ◌<◌, ◌+◌, ◌-◌, ℕ, [], true, false, length, IfOk, OnOk, IfErr, OnErr};
+ghost use Rattle.std.specs.Prelude.{◌≡◌, ◌≤◌, ◌<◌, ◌+◌, ◌-◌, ℕ, [], true, false, IfOk, OnOk, IfErr, OnErr};
 ghost use Rattle.geo_base.specs.Cursor.{below, has, mark, next_open, with_index, with_indexes};
 ghost use Rattle.cursor_acks.specs.Acks.{IsFirstOpen, are_free, from_to, if_below, stands_alone};
 ghost use Rattle.cursor_acks.specs.Ranges.{AreRangesOf, IsToldByRanges};
 
-use crate::range::{IndexRange, RangeList};
-use crate::search::{holds, place_of};
+use crate::list::RangeList;
+use crate::range::IndexRange;
 use geo_base::Memory;
 use std::alloc::Global;
 use std::marker::Model;
@@ -152,19 +152,23 @@ impl Cursor {
         ensures mark { result ≡ mark self.now.indexes }
         ensures least { IsFirstOpen self.now.indexes 0 result }
     {
-        let ranges = self.ranges.as_slice();
-        if !ranges.is_empty() && ranges[0].first == 0 {
-            return ranges[0].last + 1;
+        match self.ranges.first() {
+            None => 0,
+            Some(lowest) => {
+                if lowest.first == 0 {
+                    lowest.last + 1
+                } else {
+                    0
+                }
+            }
         }
-        0
     }
 
     /// Whether an index is acknowledged.
     pub fn is_acked(&self, index: u64) -> bool
         ensures { result ≡ has self.now.indexes index }
     {
-        let ranges = self.ranges.as_slice();
-        holds(ranges, place_of(ranges, index), index)
+        self.ranges.holds(self.ranges.place_of(index), index)
     }
 
     /// Whether no index from one to another is acknowledged.
@@ -172,9 +176,10 @@ impl Cursor {
         requires { first ≤ last }
         ensures { result ≡ are_free self.now.indexes first last }
     {
-        let ranges = self.ranges.as_slice();
-        let at = place_of(ranges, first);
-        at >= ranges.len() || ranges[at].first > last
+        match self.ranges.get(self.ranges.place_of(first)) {
+            Some(range) => range.first > last,
+            None => true,
+        }
     }
 
     /// The least index at or after `from` that is not acknowledged; it may be the topic's length or past it. To acknowledge
@@ -184,12 +189,16 @@ impl Cursor {
         ensures below { (end : ℕ) → next_open self.now.indexes from (end - from) ≡ if_below result end }
         ensures again { (i : ℕ) → has self.now.indexes i ≡ true → with_index self.now.indexes i ≡ self.now.indexes }
     {
-        let ranges = self.ranges.as_slice();
-        let at = place_of(ranges, from);
-        if at < ranges.len() && ranges[at].first <= from {
-            return ranges[at].last + 1;
+        match self.ranges.get(self.ranges.place_of(from)) {
+            None => from,
+            Some(range) => {
+                if range.first <= from {
+                    range.last + 1
+                } else {
+                    from
+                }
+            }
         }
-        from
     }
 
     /// The one list of ascending ranges, never adjacent, that together hold the acknowledged indexes.
@@ -203,7 +212,7 @@ impl Cursor {
     pub fn is_told_by_ranges(&self)
         ensures { IsToldByRanges self.now.indexes }
     {
-        let _count = count_of(self.ranges.as_slice());
+        let _ranges = &self.ranges;
     }
 
     /// A cursor with the same acknowledged indexes.
@@ -213,13 +222,6 @@ impl Cursor {
         let ranges = self.ranges.copy(alloc)?;
         Ok(Cursor { ranges })
     }
-}
-
-/// How many ranges there are.
-fn count_of(ranges: &[IndexRange]) -> usize
-    ensures { result ≡ length ranges.now }
-{
-    ranges.len()
 }
 
 /// Whether an index has an entry in a topic of `len` entries.

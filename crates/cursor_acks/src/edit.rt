@@ -1,59 +1,98 @@
 //! How the ranges change when indexes are acknowledged.
-ghost use Rattle.std.specs.Prelude.{◌≡◌, ◌≤◌, ◌<◌, ◌+◌, ◌^◌, ◌∷◌, ◌++◌, true, false, take, drop, length};
-ghost use Rattle.geo_base.specs.Cursor.{below, has, with_index, with_indexes};
-ghost use Rattle.cursor_acks.specs.Acks.{are_free, from_to, stands_alone};
+ghost use Rattle.std.specs.Prelude.{◌≡◌, ◌≤◌, ◌<◌, ◌+◌, ◌^◌, ◌++◌, ◌∷◌, true, false, IfNone, IfSome, drop, take};
+ghost use Rattle.geo_base.specs.Cursor.{below, with_index, with_indexes};
+ghost use Rattle.cursor_acks.specs.Acks.{are_free, from_to, stand_alone, stands_alone};
+ghost use Rattle.cursor_acks.specs.Blocks.{IsFound, IsRange, flat};
 ghost use Rattle.cursor_acks.specs.Ranges.{covers, indexes_of};
 ghost use Rattle.cursor_acks.specs.Places.{AreKept, Begins, Ends, IsPlace};
 
-use crate::range::{IndexRange, RangeList};
-use crate::search::{holds, place_of};
-
-/// Where the range of a new index begins: the place of its first range, and its first index.
-fn begin(ranges: &[IndexRange], at: usize, index: u64) -> (usize, u64)
-    requires kept { AreKept ranges.now }
-    requires place { IsPlace ranges.now index at }
-    requires new { covers ranges.now index ≡ false }
-    ensures { Begins ranges.now index at result.0 result.1 }
-{
-    if at > 0 && ranges[at - 1].last + 1 == index {
-        return (at - 1, ranges[at - 1].first);
-    }
-    (at, index)
-}
-
-/// Where the range of an index ends that all ranges before a place lie at or below: the place behind its last range, and
-/// its last index.
-fn end(ranges: &[IndexRange], at: usize, index: u64) -> (usize, u64)
-    requires below { index + 1 < 2 ^ 64 }
-    requires kept { AreKept ranges.now }
-    requires place { IsPlace ranges.now (index + 1) at }
-    ensures { Ends ranges.now index at result.0 result.1 }
-{
-    if at < ranges.len() && ranges[at].first <= index + 1 {
-        return (at + 1, ranges[at].last);
-    }
-    (at, index)
-}
+use crate::list::RangeList;
+use crate::place::Place;
+use crate::range::IndexRange;
 
 impl RangeList {
-    /// One range takes the place of those from `from` to before `to`.
-    fn replace(&mut self, from: usize, to: usize, range: IndexRange)
-        requires order { from ≤ to }
-        requires within { to ≤ length self.old.list }
-        requires room { from ≡ to → 0 < self.old.spare }
-        ensures list { self.new.list ≡ take from self.old.list ++ range ∷ drop to self.old.list }
-        ensures spare { self.old.spare ≤ self.new.spare + 1 }
-        ensures grown { from < to → self.old.spare ≤ self.new.spare }
+    /// The range that a new index is joined to below: its place, and its first index.
+    fn begin(&self, at: Place, index: u64) -> Option<(Place, u64)>
+        requires kept { AreKept self.now.list }
+        requires found { IsFound self.now.blocks at }
+        requires place { IsPlace self.now.list index (flat self.now.blocks at) }
+        requires new { covers self.now.list index ≡ false }
+        ensures some { IfSome result (λ b. IsRange self.now.blocks b.0 × ((flat self.now.blocks b.0 + 1 ≡ flat self.now.blocks at) × Begins self.now.list index (flat self.now.blocks at) (flat self.now.blocks b.0) b.1)) }
+        ensures none { IfNone result (Begins self.now.list index (flat self.now.blocks at) (flat self.now.blocks at) index) }
     {
-        if from == to {
-            match self.items.insert(from, range) {
-                Ok(()) => {}
-                Err(_) => unreachable!(),
-            }
-        } else {
-            self.items[from] = range;
-            self.items.drain(from + 1..to);
+        match self.before(at) {
+            None => None,
+            Some(low) => match self.get(low) {
+                None => None,
+                Some(range) => {
+                    if range.last + 1 == index {
+                        Some((low, range.first))
+                    } else {
+                        None
+                    }
+                }
+            },
         }
+    }
+
+    /// Where the range ends that an index is joined to above, which all ranges before a place end at or before.
+    fn end(&self, at: Place, index: u64) -> Option<u64>
+        requires below { index + 1 < 2 ^ 64 }
+        requires kept { AreKept self.now.list }
+        requires found { IsFound self.now.blocks at }
+        requires place { IsPlace self.now.list (index + 1) (flat self.now.blocks at) }
+        ensures some { IfSome result (λ last. IsRange self.now.blocks at × Ends self.now.list index (flat self.now.blocks at) (flat self.now.blocks at + 1) last) }
+        ensures none { IfNone result (Ends self.now.list index (flat self.now.blocks at) (flat self.now.blocks at) index) }
+    {
+        match self.get(at) {
+            None => None,
+            Some(range) => {
+                if range.first <= index + 1 {
+                    Some(range.last)
+                } else {
+                    None
+                }
+            }
+        }
+    }
+
+    /// All indexes from one to another, none of which is there, at the place of the first. It needs room, and takes some,
+    /// only where no neighbour of them is there.
+    fn put(&mut self, at: Place, first: u64, last: u64)
+        requires below { last + 1 < 2 ^ 64 }
+        requires order { first ≤ last }
+        requires new { are_free (indexes_of self.old.list) first last ≡ true }
+        requires kept { AreKept self.old.list }
+        requires found { IsFound self.old.blocks at }
+        requires place { IsPlace self.old.list first (flat self.old.blocks at) }
+        requires room { stand_alone (indexes_of self.old.list) first last ≡ true → 0 < self.old.spare }
+        ensures kept { AreKept self.new.list }
+        ensures indexes { indexes_of self.new.list ≡ with_indexes (indexes_of self.old.list) (from_to first last) }
+        ensures spare { self.old.spare ≤ self.new.spare + 1 }
+        ensures grown { stand_alone (indexes_of self.old.list) first last ≡ false → self.old.spare ≤ self.new.spare }
+    {
+        match self.begin(at, first) {
+            None => match self.end(at, last) {
+                None => self.insert(at, IndexRange { first, last }),
+                Some(last) => self.set(at, IndexRange { first, last }),
+            },
+            Some((low, first)) => match self.end(at, last) {
+                None => self.set(low, IndexRange { first, last }),
+                Some(last) => self.join(low, at, IndexRange { first, last }),
+            },
+        }
+    }
+
+    /// One range takes the place of two neighbours.
+    fn join(&mut self, low: Place, high: Place, range: IndexRange)
+        requires low { IsRange self.old.blocks low }
+        requires high { IsRange self.old.blocks high }
+        requires order { flat self.old.blocks low + 1 ≡ flat self.old.blocks high }
+        ensures list { self.new.list ≡ take (flat self.old.blocks low) self.old.list ++ range ∷ drop (flat self.old.blocks high + 1) self.old.list }
+        ensures spare { self.old.spare ≤ self.new.spare }
+    {
+        self.set(high, range);
+        self.remove(low);
     }
 
     /// One more index. It needs room, and takes some, only where neither it nor a neighbour of it is there.
@@ -66,14 +105,10 @@ impl RangeList {
         ensures spare { self.old.spare ≤ self.new.spare + 1 }
         ensures grown { stands_alone (indexes_of self.old.list) index ≡ false → self.old.spare ≤ self.new.spare }
     {
-        let ranges = self.as_slice();
-        let at = place_of(ranges, index);
-        if holds(ranges, at, index) {
-            return;
+        let at = self.place_of(index);
+        if !self.holds(at, index) {
+            self.put(at, index, index);
         }
-        let (from, first) = begin(ranges, at, index);
-        let (to, last) = end(ranges, at, index);
-        self.replace(from, to, IndexRange { first, last });
     }
 
     /// All indexes up to one.
@@ -85,10 +120,36 @@ impl RangeList {
         ensures indexes { indexes_of self.new.list ≡ with_indexes (indexes_of self.old.list) (below (index + 1)) }
         ensures spare { self.old.spare ≤ self.new.spare + 1 }
     {
-        let ranges = self.as_slice();
-        let at = place_of(ranges, index + 1);
-        let (to, last) = end(ranges, at, index);
-        self.replace(0, to, IndexRange { first: 0, last });
+        let at = self.place_of(index + 1);
+        match self.end(at, index) {
+            Some(last) => self.start_at(at, IndexRange { first: 0, last }),
+            None => match self.before(at) {
+                Some(low) => self.start_at(
+                    low,
+                    IndexRange {
+                        first: 0,
+                        last: index,
+                    },
+                ),
+                None => self.insert(
+                    at,
+                    IndexRange {
+                        first: 0,
+                        last: index,
+                    },
+                ),
+            },
+        }
+    }
+
+    /// One range takes the place of that at a place and all before.
+    fn start_at(&mut self, at: Place, range: IndexRange)
+        requires { IsRange self.old.blocks at }
+        ensures list { self.new.list ≡ range ∷ drop (flat self.old.blocks at + 1) self.old.list }
+        ensures spare { self.old.spare ≤ self.new.spare }
+    {
+        self.set(at, range);
+        self.drop_before(at);
     }
 
     /// All indexes from one to another, none of which is there.
@@ -102,19 +163,8 @@ impl RangeList {
         ensures indexes { indexes_of self.new.list ≡ with_indexes (indexes_of self.old.list) (from_to first last) }
         ensures spare { self.old.spare ≤ self.new.spare + 1 }
     {
-        let ranges = self.as_slice();
-        let at = place_of(ranges, first);
-        let (from, low) = begin(ranges, at, first);
-        let behind = place_of(ranges, last + 1);
-        let (to, high) = end(ranges, behind, last);
-        self.replace(
-            from,
-            to,
-            IndexRange {
-                first: low,
-                last: high,
-            },
-        );
+        let at = self.place_of(first);
+        self.put(at, first, last);
     }
 
     /// All indexes below an end, and no other.
@@ -124,12 +174,14 @@ impl RangeList {
         ensures indexes { indexes_of self.new.list ≡ below end }
         ensures spare { self.old.spare ≤ self.new.spare + 1 }
     {
-        self.items.clear();
+        self.clear();
         if end > 0 {
-            self.items.push_reserved(IndexRange {
-                first: 0,
-                last: end - 1,
-            });
+            let start = Place {
+                block: 0,
+                offset: 0,
+            };
+            let last = end - 1;
+            self.insert(start, IndexRange { first: 0, last });
         }
     }
 }

@@ -2,15 +2,23 @@
 //! cursor has a mark-delete position and individual acknowledgements above it).
 //!
 //! A cursor is kept as inclusive ranges, ascending and never adjacent, so that it is short while acknowledgements come
-//! nearly in order. An index is found by binary search, and a change moves at most the ranges behind it.
+//! nearly in order. They stand in blocks of at most 64: an index is found by two binary searches, and a change moves at most
+//! the ranges of one block, and the list of the blocks only where one is split or goes.
 #![tactic(auto)]
 
+mod block;
+mod blocks;
 mod cursor;
 mod edit;
+mod iter;
 mod laws;
+mod list;
+mod place;
 mod range;
 mod search;
 
 pub use cursor::{Cursor, PastEnd};
+pub use iter::RangeIter;
 pub use laws::{acks_add, acks_stay_below, one_list_of_ranges};
-pub use range::{IndexRange, RangeList};
+pub use list::RangeList;
+pub use range::IndexRange;

@@ -4,8 +4,9 @@
 //! that they are made of (`busy`, `join`, `picked`, `give`): a broker looks before it writes anything, and steps after.
 //!
 //! What is out and what is due again ascend by index. So an offer, and each index of an acknowledgement (`forget_each`), costs
-//! a binary search in both and in the cursor's ranges, and moves nothing where indexes come in order or in reverse; `forget_to`
-//! goes over what it takes out alone. A consumer that leaves, and `forget`, go over all that is out.
+//! a binary search in both and in the cursor's ranges. An index that is out no more leaves an empty slot, so that acknowledgements move
+//! nothing in whatever order they come; `forget_to` goes over what it takes out alone. A consumer that leaves, and `forget`, go over all
+//! that is out.
 #![tactic(auto)]
 
 mod acking;
@@ -16,6 +17,7 @@ mod offering;
 mod outstanding;
 mod parts;
 mod plain_pick;
+mod slot;
 
 pub use dispatcher::Dispatcher;
 pub use fault::{AckFault, AttachFault, ConsumerNotFound};

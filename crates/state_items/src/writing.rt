@@ -4,7 +4,7 @@ ghost use Rattle.std.specs.List.{flat_map};
 ghost use Rattle.cursor_acks.specs.Acks.{AreBelow};
 ghost use Rattle.state_items.specs.Texts.{cursor, number, range, text, word};
 
-use cursor_acks::{Cursor, IndexRange};
+use cursor_acks::{Cursor, IndexRange, RangeList};
 use geo_base::{Blob, Memory};
 
 /// Appends a number as eight bytes.
@@ -64,12 +64,14 @@ pub fn put_cursor(out: &mut Blob, written: &Cursor, entries: u64) -> Result<(), 
     ensures ok { OnOk result (out.new ≡ out.old ++ cursor entries written.now.indexes) }
     ensures err { OnErr result (take (length out.old) out.new ≡ out.old) }
 {
-    put_ranges(out, written.ranges().as_slice())
+    written.is_told_by_ranges();
+    put_ranges(out, written.ranges())
 }
 
 /// Appends a list of ranges.
-fn put_ranges(out: &mut Blob, ranges: &[IndexRange]) -> Result<(), Memory>
-    ensures ok { OnOk result (out.new ≡ out.old ++ (number (length ranges.now) ++ flat_map range ranges.now)) }
+fn put_ranges(out: &mut Blob, ranges: &RangeList) -> Result<(), Memory>
+    requires { length ranges.now.list < 2 ^ 64 }
+    ensures ok { OnOk result (out.new ≡ out.old ++ (number (length ranges.now.list) ++ flat_map range ranges.now.list)) }
     ensures err { OnErr result (take (length out.old) out.new ≡ out.old) }
 {
     put_number(out, ranges.len() as u64)?;
@@ -77,12 +79,12 @@ fn put_ranges(out: &mut Blob, ranges: &[IndexRange]) -> Result<(), Memory>
 }
 
 /// Appends ranges one behind the other.
-fn put_each(out: &mut Blob, ranges: &[IndexRange]) -> Result<(), Memory>
-    ensures ok { OnOk result (out.new ≡ out.old ++ flat_map range ranges.now) }
+fn put_each(out: &mut Blob, ranges: &RangeList) -> Result<(), Memory>
+    ensures ok { OnOk result (out.new ≡ out.old ++ flat_map range ranges.now.list) }
     ensures err { OnErr result (take (length out.old) out.new ≡ out.old) }
 {
-    for each in ranges {
-        put_range(out, *each)?;
+    for each in ranges.iter() {
+        put_range(out, each)?;
     }
     Ok(())
 }

@@ -4,4 +4,4 @@ use Rattle.cursor_acks.proofs.cursor.Cursor.is_acked.Goals as goal
 
 pub returns : goal.returns
 returns c =
-    rw (← c.self.view_is) (rw c.as_slice-ranges.ensures at c.holds.ensures ∙ sym (has_indexes c.self.inside.ranges.list c.args.index))
+    rw (← c.self.view_is) (c.holds.ensures ∙ sym (has_indexes c.self.inside.ranges.list c.args.index))

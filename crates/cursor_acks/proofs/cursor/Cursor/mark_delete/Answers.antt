@@ -1,32 +1,35 @@
-use Rattle.std.proofs.Common.{◌≢◌, ◌<◌, get_or, length, sym, arith}
-use Rattle.std.proofs.lemmas.Bool.Decides.{nat_tests}
+use Rattle.std.proofs.Common.{◌≡◌, ◌≢◌, ◌+◌, ◌<◌, get_or, length, ap, sym, ◌∙◌, arith}
 use Rattle.std.proofs.lemmas.List.{get_or_default}
 use Rattle.cursor_acks.specs.declared.range.IndexRange.{IndexRange}
-use Rattle.cursor_acks.specs.Places.{AreKept}
 use Rattle.cursor_acks.proofs.Reading.{first_open, mark_first, mark_not, zero_open}
 use Rattle.cursor_acks.proofs.cursor.Cursor.mark_delete.Goals as goal
-use Rattle.cursor_acks.proofs.cursor.Cursor.mark_delete.Goals.{else-not-is_empty-via-then-not-is_empty+else-ranges-eq0, else-not-is_empty-via-else-not-is_empty}
 
-abbrev empty : IndexRange
-empty = record { first = 0; last = 0 }
+pub returns-in-None : goal.returns-in-None
+returns-in-None c =
+    let rs = c.self.inside.ranges.list in
+    let out : (d : IndexRange) → 0 < length rs → (get_or rs 0 d).first ≢ 0 = λ d n. absurd (omega (arith, n, ap length c.in-None.ensures.none)) in
+    rw (← c.self.view_is) (record { mark = sym (mark_not rs c.self.invariant out); least = zero_open rs c.self.invariant out })
 
-pub returns-then-ranges-eq0 : goal.returns-then-ranges-eq0
-returns-then-ranges-eq0 c =
-    let rs = c.as_slice-ranges.result.now in
-    let kept : AreKept rs = rw c.as_slice-ranges.ensures c.self.invariant in
-    let some : 0 < length rs = grind (arith, nat_tests, c.is_empty.ensures, c.if-not-is_empty.true) in
-    rw (← c.self.view_is, ← c.as_slice-ranges.ensures) (record {
-      mark = sym (mark_first rs empty kept some c.if-ranges-eq0.true);
-      least = first_open rs empty kept some c.if-ranges-eq0.true;
-    })
+pub overflow_add-result : goal.overflow_add-result
+overflow_add-result c =
+    let rs = c.self.inside.ranges.list in
+    let here = c.in-Some.ensures.some in
+    omega (arith, c.self.invariant.bounded 0 c.in-Some.lowest here.0, ap (λ (r : IndexRange). r.last) here.1)
 
-pub returns : goal.returns
-returns c =
-    let rs = c.as_slice-ranges.result.now in
-    let kept : AreKept rs = rw c.as_slice-ranges.ensures c.self.invariant in
+pub returns-then-lowest-eq0 : goal.returns-then-lowest-eq0
+returns-then-lowest-eq0 c =
+    let rs = c.self.inside.ranges.list in
+    let r = c.in-Some.lowest in
+    let here = c.in-Some.ensures.some in
+    let zero : (get_or rs 0 r).first ≡ 0 = sym (ap (λ (x : IndexRange). x.first) here.1) ∙ c.if-lowest-eq0.true in
+    let last : (get_or rs 0 r).last + 1 ≡ r.last + 1 = omega (arith, ap (λ (x : IndexRange). x.last) here.1) in
+    rw (← c.self.view_is, ← last) (record { mark = sym (mark_first rs r c.self.invariant here.0 zero); least = first_open rs r c.self.invariant here.0 zero })
+
+pub returns-else-lowest-eq0 : goal.returns-else-lowest-eq0
+returns-else-lowest-eq0 c =
+    let rs = c.self.inside.ranges.list in
+    let r = c.in-Some.lowest in
+    let here = c.in-Some.ensures.some in
     let out : (d : IndexRange) → 0 < length rs → (get_or rs 0 d).first ≢ 0 =
-    elim c.else-not-is_empty.branch [
-      | else-not-is_empty-via-then-not-is_empty+else-ranges-eq0 w ↦ λ d n. rw (get_or_default rs 0 d empty n) w.if-ranges-eq0.false
-      | else-not-is_empty-via-else-not-is_empty w ↦ λ d n. absurd (grind (arith, nat_tests, n, c.is_empty.ensures, w.if-not-is_empty.false))
-    ] in
-    rw (← c.self.view_is, ← c.as_slice-ranges.ensures) (record { mark = sym (mark_not rs kept out); least = zero_open rs kept out })
+    λ d n e. c.if-lowest-eq0.false (ap (λ (x : IndexRange). x.first) (here.1 ∙ get_or_default rs 0 r d n) ∙ e) in
+    rw (← c.self.view_is) (record { mark = sym (mark_not rs c.self.invariant out); least = zero_open rs c.self.invariant out })

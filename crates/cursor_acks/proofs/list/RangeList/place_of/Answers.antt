@@ -1,0 +1,19 @@
+use Rattle.std.proofs.Common.{◌≡◌, ◌+◌, ◌-◌, ◌<◌, ◌≤◌, ℕ, [], get_or, length, sym}
+use Rattle.cursor_acks.specs.Blocks.{end_of, joined}
+use Rattle.cursor_acks.specs.Places.{AreKept, IsPlace}
+use Rattle.cursor_acks.proofs.Found.{block_kept, found_at}
+use Rattle.cursor_acks.proofs.list.RangeList.place_of.Goals as goal
+
+pub place_of-offset-requires : goal.place_of-offset-requires
+place_of-offset-requires c =
+    rw c.block.ensures.ranges (block_kept c.args.self.now.blocks c.block_of-block.result c.block_of-block.ensures.within (rw c.block.ensures.joined at c.requires))
+
+pub returns : goal.returns
+returns c =
+    let bs = c.args.self.now.blocks in
+    let k = c.block_of-block.result in
+    let o = c.place_of-offset.result in
+    let kept : AreKept (joined bs) = rw c.block.ensures.joined at c.requires in
+    let place : IsPlace (get_or bs k []) c.args.index o = rw c.block.ensures.ranges at c.place_of-offset.ensures in
+    let found = found_at bs k o c.args.index kept c.block_of-block.ensures.within c.block_of-block.ensures.some c.block_of-block.ensures.before c.block_of-block.ensures.after place in
+    record { found = found.0; place = rw c.block.ensures.joined found.1 }

@@ -1,0 +1,8 @@
+//! Where a range stands.
+
+/// A block, and how many of its ranges stand before.
+#[derive(Clone, Copy, Debug, Drop, PartialEq, Eq)]
+pub(crate) struct Place {
+    pub(crate) block: usize,
+    pub(crate) offset: usize,
+}
