@@ -43,7 +43,10 @@ fn is_told(
 ) -> Result<bool, Memory>
     ensures { IfOk result (λ told. told ≡ tells_entry cluster (length scenario.now.setup.clusters) topic.now update.entry.sub.now update.entry.remote.now (Some snapshot.now)) }
 {
-    let Content::Marked(Marker::Snapshot { local, remote, .. }) = &snapshot.content else {
+    let Content::Marked(marker) = &snapshot.content else {
+        return Ok(false);
+    };
+    let Marker::Snapshot { local, remote, .. } = marker.get() else {
         return Ok(false);
     };
     if snapshot.ident.origin != cluster || !passes_local(topic, update.sub, local) {
@@ -69,7 +72,10 @@ fn may_update(
 ) -> Result<bool, Memory>
     ensures { IfOk result (λ may. may ≡ may_update scenario.now.setup topic.now cluster entry.now by.now entry.now.content) }
 {
-    let Content::Marked(Marker::Update { sub, remote }) = &entry.content else {
+    let Content::Marked(marker) = &entry.content else {
+        return Ok(true);
+    };
+    let Marker::Update { sub, remote } = marker.get() else {
         return Ok(true);
     };
     if entry.ident.origin != cluster {
@@ -182,7 +188,10 @@ impl AllMirrors {
         ensures same { self.new ≡ self.old }
         ensures may { IfOk result (λ may. may ≡ may_snapshot scenario.now.setup self.old at.topic at.cluster entry.now entry.now.content) }
     {
-        let Content::Marked(Marker::Snapshot { local, remote, .. }) = &entry.content else {
+        let Content::Marked(marker) = &entry.content else {
+            return Ok(true);
+        };
+        let Marker::Snapshot { local, remote, .. } = marker.get() else {
             return Ok(true);
         };
         if entry.ident.origin != at.cluster {

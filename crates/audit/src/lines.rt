@@ -18,7 +18,7 @@ use geo_base::Memory;
 use script_names::cut_at;
 use script_text::Scenario;
 use std::alloc::Global;
-use trace_lines::{Line, Names, Written, line_of};
+use trace_lines::{Line, Names, Written, begun_event, line_of};
 
 /// Whether a line may come where so many events have begun: a write stands behind an event.
 fn may_come(events: u64, line: &Line) -> bool
@@ -109,6 +109,25 @@ impl AllMirrors {
         }
     }
 
+    /// An event begins, where it has the next number.
+    fn begin_next(&mut self, number: u64) -> Result<(), AuditFault>
+        ensures accepted { (s : Setup) → OnOk result (item_refused s self.old (Some (Begins number)) ≡ None) }
+        ensures told { (s : Setup) → OnOk result (self.new ≡ told_if s self.old (Some (Begins number))) }
+        ensures rule { (s : Setup) (event rule : ℕ) → result ≡ Err (fault.Rule event rule) → item_refused s self.old (Some (Begins number)) ≡ Some rule }
+        ensures event { (event rule : ℕ) → result ≡ Err (fault.Rule event rule) → event ≡ self.old.events }
+    {
+        match self.event_refused(number) {
+            None => {
+                self.begin(number);
+                Ok(())
+            }
+            Some(rule) => Err(AuditFault::Rule {
+                event: self.events(),
+                rule,
+            }),
+        }
+    }
+
     /// Reads a line: where no rule refuses it, what it tells is done. A fault of a rule comes exactly where one does, with the last
     /// event and the lowest such rule.
     pub(crate) fn read(
@@ -125,6 +144,9 @@ impl AllMirrors {
         ensures rule { (event rule : ℕ) → result ≡ Err (fault.Rule event rule) → item_refused scenario.now.setup self.old (item_read names.now line.now) ≡ Some rule }
         ensures event { (event rule : ℕ) → result ≡ Err (fault.Rule event rule) → event ≡ self.old.events }
     {
+        if let Some(number) = begun_event(line) {
+            return self.begin_next(number);
+        }
         let event = self.events();
         let Some(line) = line_of(alloc, names, line)? else {
             return Err(AuditFault::Rule { event, rule: 1 });

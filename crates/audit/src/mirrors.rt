@@ -99,6 +99,13 @@ impl AllMirrors {
         self.events
     }
 
+    /// An event begins.
+    pub(crate) fn begin(&mut self, number: u64)
+        ensures { self.new ≡ record self.old { events = number } }
+    {
+        self.events = number;
+    }
+
     /// The topics.
     pub(crate) fn topics(&self) -> &[TopicMirror]
         ensures { result.now ≡ self.now.topics }
@@ -178,7 +185,7 @@ impl AllMirrors {
     {
         match line {
             Line::Begins(number) => {
-                self.events = number;
+                self.begin(number);
                 Ok(())
             }
             Line::Writes {

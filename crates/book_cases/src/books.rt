@@ -24,7 +24,7 @@ pub fn scenario(alloc: Global) -> Result<Arc<Scenario>, Fail> {
 pub type Books = Vec<NodeBook<ListEnd>>;
 
 /// Adds the book of the topic's broker at a cluster, over ends of so many places; want of memory where the scenario is another one.
-#[tactic(auto, using(crate::proofs::SmallTables::broker_peers, crate::proofs::SmallTables::topic_there, crate::proofs::SmallTables::cluster_there))]
+#[tactic(auto, using(crate::proofs::SmallTables::topic_there, crate::proofs::SmallTables::cluster_there))]
 pub fn add_broker(
     alloc: Global,
     scenario: &Arc<Scenario>,

@@ -15,7 +15,8 @@ use Rattle.frame_values.specs.Values.{carrying, simple_frame}
 use Rattle.frame_values.proofs.UsualValues.{entry_is, viewed_carries, viewed_simple}
 use Rattle.wire_ends.specs.declared.packet.WirePacket.{WirePacket}
 use Rattle.broker_plans.specs.declared.usual.Came.{Came}
-use Rattle.broker_plans.specs.Usual.{entry_viewed, send_viewed, source_viewed}
+use Rattle.broker_plans.specs.Usual.{send_viewed}
+use Rattle.frame_values.specs.Usual.{entry_viewed, source_viewed}
 use Rattle.broker.specs.declared.reading.Receipt.{Receipt}
 use Rattle.broker.specs.Input.{IsReceiptOf, IsSendOf}
 
@@ -25,7 +26,7 @@ send_said names bytes v m id seq n is message command =
     told (frame_viewed v) is
     (viewed_carries names v m (frame.Send id seq (source_viewed names m) (entry_viewed 0 m)) (source_viewed names m) (entry_viewed 0 m) message
     (ap (λ (c : CommandView). carrying (command_viewed c) (source_viewed names m) (entry_viewed 0 m)) (sym command))
-    (entry_is names m (source_viewed names m) (entry_viewed 0 m) refl refl refl refl refl refl refl refl refl refl refl))
+    (entry_is names m (source_viewed names m) (entry_viewed 0 m) refl refl))
 
 pub send_of : (w : WirePacket) (v : FrameView) (m : MessageView) (id seq n : ℕ) (c : Came) → IsFrameText w.frame (frame_viewed v) → v.message ≡ Some m → v.command ≡ view.Send id seq n
     → c ≡ record { session = w.session; id = id; seq = seq; message = m } → IsSendOf w c

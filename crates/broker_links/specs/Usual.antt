@@ -4,7 +4,7 @@ use Rattle.geo_base.specs.Broker.{Broker, Site, receiver_at}
 use Rattle.geo_base.specs.Receiver.{is_from, is_open}
 use Rattle.geo_base.specs.Sizes.{entry_size, most_entry_size}
 use Rattle.broker_plans.specs.declared.usual.Came.{Came}
-use Rattle.broker_plans.specs.Usual.{entry_viewed, source_viewed}
+use Rattle.frame_values.specs.Usual.{entry_viewed, source_viewed}
 use Rattle.pulsar_frames.specs.declared.view.MessageView.{MessageView}
 
 -- its message says that x stored it first, and is small enough

@@ -22,7 +22,8 @@ use Rattle.geo_base.specs.Sizes.{entry_size, most_entry_size}
 use Rattle.geo_base.specs.Storing.{receipt_position, storing}
 use Rattle.broker_plans.specs.declared.usual.Came.{Came}
 use Rattle.broker_plans.specs.Prepared.{AlsoSends, IsPrepared}
-use Rattle.broker_plans.specs.Usual.{entry_viewed, send_viewed, source_viewed}
+use Rattle.broker_plans.specs.Usual.{send_viewed}
+use Rattle.frame_values.specs.Usual.{entry_viewed, source_viewed}
 use Rattle.broker_plans.proofs.Keeping.{sends_more}
 use Rattle.broker_state.specs.Plan.{PlanBook}
 use Rattle.broker_serving.specs.Serving.{is_in, open_at, session_or}

@@ -3,7 +3,7 @@ use Rattle.std.specs.Prelude.{◌≡◌, ℕ, true}
 use Rattle.geo_base.specs.Broker.{Broker, Site, session_at}
 use Rattle.geo_base.specs.Producing.{name_with}
 use Rattle.broker_plans.specs.declared.usual.Came.{Came}
-use Rattle.broker_plans.specs.Usual.{entry_viewed, source_viewed}
+use Rattle.frame_values.specs.Usual.{entry_viewed, source_viewed}
 use Rattle.broker_serving.specs.Producing.{published}
 use Rattle.broker_serving.specs.Serving.{is_in, open_at}
 

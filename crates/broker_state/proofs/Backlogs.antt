@@ -6,6 +6,7 @@ use Rattle.std.proofs.lemmas.Grind.{common_steps}
 use Rattle.std.proofs.lemmas.List.{length-take-le, take_all}
 use Rattle.std.proofs.lemmas.List.Sums.{sum_by-cons}
 use Rattle.cursor_acks.specs.Ranges.{AreApart, AreRangesOf, covers, lies_in}
+use Rattle.cursor_acks.proofs.Covered.{apart_tail, uncovered}
 use Rattle.cursor_acks.specs.declared.range.IndexRange.{IndexRange}
 use Rattle.geo_base.specs.declared.entry.Entry.{Entry}
 use Rattle.geo_base.specs.Cursor.{backlog_from, has}
@@ -120,56 +121,34 @@ capped (e ∷ es) (suc k) =
     let next : min (suc k) (length (e ∷ es)) ≡ suc (min k (length es)) = omega arith in
     rw next (omega (arith, more e es (min k (length es)), more e es k, capped es k))
 
-or_none : (a : Bool) → (a || false) ≡ (false || a)
-or_none true = refl
-or_none false = refl
+or_swap : (a b : Bool) → (a || b) ≡ (b || a)
+or_swap true true = refl
+or_swap true false = refl
+or_swap false true = refl
+or_swap false false = refl
 
-or_assoc : (a b c : Bool) → (a || (b || c)) ≡ ((a || b) || c)
-or_assoc true b c = refl
-or_assoc false b c = refl
+-- a range covers nothing that one behind it covers
+apart_behind : (r : IndexRange) (rs : List IndexRange) (j : ℕ) → AreApart (r ∷ rs) → lies_in r j ≡ true → covers rs j ≡ false
+apart_behind r rs j h here =
+    let reached : j ≤ r.last = grind (arith, nat_tests, here) in
+    uncovered rs j (λ k d n a b. omega (arith, h.gaps 0 (suc k) d (omega arith) (omega (arith, n)), a, reached))
 
--- the ranges before a place, with the one there
-covers_suc : (rs : List IndexRange) (k : ℕ) (d : IndexRange) (j : ℕ) → k < length rs → covers (take (suc k) rs) j ≡ (covers (take k rs) j || lies_in (get_or rs k d) j)
-covers_suc [] k d j h = absurd (omega arith)
-covers_suc (r ∷ rs) zero d j h = or_none (lies_in r j)
-covers_suc (r ∷ rs) (suc k) d j h =
-    ap (λ (b : Bool). lies_in r j || b) (covers_suc rs k d j (omega arith)) ∙ or_assoc (lies_in r j) (covers (take k rs) j) (lies_in (get_or rs k d) j)
+-- how many messages stand in ranges
+abbrev pub messages_within : List Entry → List IndexRange → ℕ
+messages_within es [] = 0
+messages_within es (r ∷ rs) = messages_before es (r.last + 1) - messages_before es r.first + messages_within es rs
 
--- what ends before an index does not cover it
-not_covered : (rs : List IndexRange) (j : ℕ) → ((i : ℕ) (d : IndexRange) → i < length rs → (get_or rs i d).last < j) → covers rs j ≡ false
-not_covered [] j h = refl
-not_covered (r ∷ rs) j h =
-    let ended : r.last < j = h 0 r (omega arith) in
-    let apart : lies_in r j ≡ false = grind (arith, nat_tests) in
-    rw apart (not_covered rs j (λ i d n. h (suc i) d (omega arith)))
-
--- a range covers nothing that one before it covers
-apart_before : (rs : List IndexRange) (k : ℕ) (d : IndexRange) (j : ℕ) → AreApart rs → k < length rs → lies_in (get_or rs k d) j ≡ true → covers (take k rs) j ≡ false
-apart_before rs k d j apart h here =
-    not_covered (take k rs) j
-    (λ i e n.
-    let within : i < k = omega (arith, n, length-take-le k rs (omega arith)) in
-    let gap = apart.gaps i k e within h in
-    let same : get_or (take k rs) i e ≡ get_or rs i e = grind (arith, common_steps) in
-    let there : get_or rs k e ≡ get_or rs k d = grind (arith, common_steps) in
-    let reached : (get_or rs k d).first ≤ j = grind (arith, nat_tests) in
-    rw same (omega (arith, rw there at gap, reached)))
-
--- what is left once the range at a place was looked at, too
-pub range_left : (rs : List IndexRange) (es : List Entry) (k : ℕ) (d : IndexRange) → AreApart rs → k < length rs
-    → left_by (covers (take k rs)) 0 (flags es) ≡ left_by (covers (take (k + 1) rs)) 0 (flags es) + (messages_before es ((get_or rs k d).last + 1) - messages_before es (get_or rs k d).first)
-range_left rs es k d apart h =
-    let r : IndexRange = get_or rs k d in
-    let order : r.first ≤ r.last = apart.each k d h in
-    let next : k + 1 ≡ suc k = omega arith in
-    let split = left_split (covers (take k rs)) (covers (take (suc k) rs)) (lies_in r) 0 (flags es) (λ j. covers_suc rs k d j h) (λ j here. apart_before rs k d j apart h here) in
+all_but : (rs : List IndexRange) (es : List Entry) → AreApart rs → left_by (covers rs) 0 (flags es) + messages_within es rs ≡ messages_before es (length es)
+all_but [] es h = omega (arith, left_all 0 es)
+all_but (r ∷ rs) es h =
+    let order : r.first ≤ r.last = h.each 0 r (omega arith) in
+    let split = left_split (covers rs) (covers (r ∷ rs)) (lies_in r) 0 (flags es) (λ j. or_swap (lies_in r j) (covers rs j)) (λ j here. apart_behind r rs j h here) in
     let last : r.last + 1 - 0 ≡ r.last + 1 = omega arith in
     let first : r.first - 0 ≡ r.first = omega arith in
     let count = rw (last, first) at (left_between r.first r.last 0 es (omega (arith, order))) in
-    rw next (omega (arith, split, count))
+    omega (arith, split, count, all_but rs es (apart_tail r rs h))
 
--- what is left once all were looked at is the backlog
-pub backlog_is : (set : List ℕ) (rs : List IndexRange) (es : List Entry) (k : ℕ) → AreRangesOf set rs → length rs ≤ k → left_by (covers (take k rs)) 0 (flags es) ≡ backlog_from set 0 (flags es)
-backlog_is set rs es k ranges h =
-    let whole : take k rs ≡ rs = take_all k rs h in
-    ap (λ (xs : List IndexRange). left_by (covers xs) 0 (flags es)) whole ∙ left_same (covers rs) (has set) 0 (flags es) ranges.same ∙ sym (backlog_left set 0 (flags es))
+-- all messages are the backlog and those in the ranges
+pub backlog_beside : (set : List ℕ) (rs : List IndexRange) (es : List Entry) → AreRangesOf set rs → messages_before es (length es) ≡ backlog_from set 0 (flags es) + messages_within es rs
+backlog_beside set rs es ranges =
+    omega (arith, all_but rs es ranges.apart, left_same (covers rs) (has set) 0 (flags es) ranges.same, backlog_left set 0 (flags es))

@@ -4,7 +4,7 @@ use Rattle.std.specs.Prelude.{take}
 use Rattle.std.proofs.lemmas.Grind.{common_steps}
 use Rattle.std.proofs.lemmas.List.{map-set, get_or-map, length-map}
 use Rattle.geo_base.specs.Sender.{Sender, sender_restarted}
-use Rattle.broker_state.specs.Senders.{AllHaveRoom, RowBook, row_restarted, senders_of}
+use Rattle.broker_state.specs.Senders.{AllHaveRoom, RowBook, TableHolds, row_restarted, senders_of}
 
 pub senders_of_set : (rs : List RowBook) (y : ℕ) (r : RowBook) → senders_of (set rs y r) ≡ set (senders_of rs) y r.sender
 senders_of_set rs y r = map-set (λ (r : RowBook). r.sender) rs y r
@@ -24,6 +24,12 @@ restarted_room room rs h = record {
   each = λ k d n.
       let within : k < length rs = omega (arith, n, length-map rs row_restarted) in
       rw (get_or-map row_restarted rs k d d within) (h.each k d within);
+}
+
+pub restarted_holds : (room spare : ℕ) (rs : List RowBook) → TableHolds room spare rs → TableHolds room spare (map row_restarted rs)
+restarted_holds room spare rs h = record {
+  asked = h.asked;
+  all = restarted_room spare rs h.all;
 }
 
 pub left_whole : (n : ℕ) (xs ys : List RowBook) → length xs ≡ n → take n (xs ++ ys) ≡ xs

@@ -53,6 +53,11 @@ row_restarted r = record r { sender = sender_restarted r.sender }
 pub record AllHaveRoom (room : ℕ) (rs : List RowBook) : Type 0 where
   pub each : (k : ℕ) (d : RowBook) → k < length rs → room ≤ (slice_index_or rs k d).room
 
+-- what was asked for is there, and each sender has room for what is spare
+pub record TableHolds (room spare : ℕ) (rs : List RowBook) : Type 0 where
+  pub asked : room ≤ spare
+  pub all : AllHaveRoom spare rs
+
 pub record SenderBooks : Type 0 where
   pub senders : List Sender
   pub room : ℕ

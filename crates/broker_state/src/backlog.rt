@@ -15,7 +15,7 @@ impl BrokerState {
         ensures { result ≡ backlog self.now.broker sub.now.sub }
     {
         let mut left = self.store.messages_before(self.store.len());
-        for range in sub.cursor().ranges().as_slice() {
+        for range in sub.cursor().ranges().iter() {
             left -= messages_in(&self.store, range);
         }
         left
@@ -24,8 +24,8 @@ impl BrokerState {
 
 /// How many messages stand in a range of indexes.
 #[tactic(auto, using(crate::proofs::Backlogs::capped))]
-fn messages_in(store: &TopicLedger, range: &IndexRange) -> u64
-    ensures { result ≡ messages_before store.now.entries (range.now.last + 1) - messages_before store.now.entries range.now.first }
+fn messages_in(store: &TopicLedger, range: IndexRange) -> u64
+    ensures { result ≡ messages_before store.now.entries (range.last + 1) - messages_before store.now.entries range.first }
 {
     let len = store.len() as u64;
     let end = store.messages_before(range.last.saturating_add(1).min(len) as usize);

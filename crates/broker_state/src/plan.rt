@@ -1,5 +1,5 @@
 //! What an event will do at a broker.
-ghost use Rattle.std.specs.Prelude.{◌≡◌, ℕ, ◌<◌, ◌++◌, ◌∷◌, [], IfOk, OnErr, OnOk, Some, length, slice_get};
+ghost use Rattle.std.specs.Prelude.{◌≡◌, ℕ, ◌<◌, ◌==◌, ◌++◌, ◌∷◌, [], IfOk, OnErr, OnOk, Some, length, slice_get};
 ghost use Rattle.geo_base.specs.Broker.{Broker};
 ghost use Rattle.geo_base.specs.Plan.{done, halted};
 ghost use Rattle.broker_state.specs.Plan.{IsEmptyPlan, halted_book, plan_in, quiet_book};
@@ -50,9 +50,9 @@ impl Plan {
     {
         self.idle = true;
         self.sub = 0;
-        self.writes.clear();
-        self.changes.clear();
-        self.sent.clear();
+        empty(&mut self.writes);
+        empty(&mut self.changes);
+        empty(&mut self.sent);
     }
 
     /// An event that is enabled and does nothing yet, about the subscription at a place, if it is about one.
@@ -93,6 +93,13 @@ impl Plan {
         ensures { result ≡ self.now.idle }
     {
         self.idle
+    }
+
+    /// Whether it sends no packet.
+    pub fn sends_nothing(&self) -> bool
+        ensures { result ≡ (length self.now.sent == 0) }
+    {
+        self.sent.is_empty()
     }
 
     /// How many durable writes it does.
@@ -153,5 +160,15 @@ impl Plan {
         self.sent.clear();
         self.write(BookWrite::Ledger)?;
         self.change(BookChange::Forget)
+    }
+}
+
+/// Empties a queue. Most are empty: each event ends with it.
+#[tactic(auto, using(std::proofs::lemmas::List::nil_from_length))]
+fn empty<T: Drop>(queue: &mut VecDeque<T>)
+    ensures { queue.new.items ≡ [] }
+{
+    if !queue.is_empty() {
+        queue.clear();
     }
 }

@@ -12,7 +12,7 @@ use crate::site::Site;
 use crate::state::{BrokerState, closed_receivers, no_sessions};
 use broker_subs::SubTable;
 use durable_parts::{Durable, DurableSender, DurableSenders, recover};
-use geo_base::Memory;
+use geo_base::{Memory, cluster_number};
 use std::alloc::Global;
 
 impl BrokerState {
@@ -115,7 +115,7 @@ fn restored_senders(
 {
     let mut rows = Vec::new(alloc);
     for part in parts {
-        let Some(remote) = number_of(rows.len()) else {
+        let Some(remote) = cluster_number(rows.len()) else {
             return Err(Memory);
         };
         add(
@@ -124,17 +124,6 @@ fn restored_senders(
         )?;
     }
     Ok(rows)
-}
-
-/// The number of a cluster at a place; `None` exactly where that has no 32 bits.
-fn number_of(place: usize) -> Option<u32>
-    ensures number { IfSome result (λ n. n ≡ place) }
-    ensures none { IfNone result (2 ^ 32 ≤ place) }
-{
-    match u32::try_from(place) {
-        Ok(number) => Some(number),
-        Err(_) => None,
-    }
 }
 
 fn add<T: Drop>(items: &mut Vec<T>, item: T) -> Result<(), Memory>

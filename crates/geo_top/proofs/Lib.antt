@@ -1,5 +1,4 @@
 pub mod Limits
-pub mod FewClients
 pub mod Lines
 pub mod Shown
 pub mod Views

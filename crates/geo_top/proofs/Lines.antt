@@ -17,7 +17,7 @@ use Rattle.world_kept.proofs.Reaching.{ground}
 use Rattle.world_laws.proofs.Sizes.{node_lt}
 use Rattle.geo_top.specs.Shown.{shown_world}
 use Rattle.geo_top.specs.Summary.{big_line, stored_line, stored_lines, summary, summary_lines}
-use Rattle.geo_top.proofs.FewClients.{few_clients}
+use Rattle.world_laws.proofs.FewNodes.{few_clients}
 
 -- the items from one that was read on
 pub here : {X : Type 0} (xs : List X) (i : ℕ) (x : X) → i < length xs → x ≡ get_or xs i x → drop i xs ≡ x ∷ drop (i + 1) xs

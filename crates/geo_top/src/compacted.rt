@@ -1,8 +1,8 @@
 //! The compacted views of a world, line by line.
 //!
 //! Each part appends its lines to those before it. Where a part wants memory, it is left open what it appended, since the whole
-//! is made apart from where it goes.
-ghost use Rattle.std.specs.Prelude.{◌≡◌, ◌<◌, ◌++◌, [], length, slice_index_or, OnErr, OnOk};
+//! is given up then.
+ghost use Rattle.std.specs.Prelude.{◌≡◌, ◌<◌, ◌++◌, [], length, slice_index_or, IfOk, OnOk};
 ghost use Rattle.geo_base.specs.Report.{with_line_feeds};
 ghost use Rattle.geo_top.specs.Compacted.{compacted, views_at, views_of};
 ghost use Rattle.geo_top.specs.Shown.{shown_world};
@@ -15,22 +15,20 @@ use script_text::Scenario;
 use std::alloc::Global;
 use world::World;
 
-/// Appends the compacted view of each topic at each cluster of a world; nothing where memory is wanting. The horizon of a topic is
-/// the given one, or its length where that is less.
-pub fn append_compacted(
+/// The compacted view of each topic at each cluster of a world. The horizon of a topic is the given one, or its length where that is
+/// less. An `Err` is want of memory.
+pub fn compacted_views(
     alloc: Global,
-    out: &mut Blob,
     scenario: &Scenario,
     world: &World,
     horizon: u64,
-) -> Result<(), Memory>
+) -> Result<Blob, Memory>
     requires { IsAt scenario.now.setup world.now }
-    ensures ok { OnOk result (out.new ≡ out.old ++ compacted horizon scenario.now.setup (shown_world world.now)) }
-    ensures err { OnErr result (out.new ≡ out.old) }
+    ensures { IfOk result (λ bytes. bytes ≡ compacted horizon scenario.now.setup (shown_world world.now)) }
 {
     let mut lines = Blob::new(alloc);
     add_views(alloc, &mut lines, scenario, world, horizon)?;
-    out.append(lines.as_slice())
+    Ok(lines)
 }
 
 /// The views of all topics.

@@ -19,5 +19,5 @@ pub use top::alone::geo_alone;
 pub use top::answer::{Answer, refusal};
 pub use top::bytes::answer;
 pub use top::command::Word;
-pub use top::scripts::report;
 pub use top::status::Status;
+pub use world_report::report;

@@ -1,8 +1,8 @@
 //! The topics of a world whose closed ledgers move to tiers in memory, line by line.
 //!
 //! Each part appends its lines to those before it. Where a part wants memory, it is left open what it appended, since the whole
-//! is made apart from where it goes.
-ghost use Rattle.std.specs.Prelude.{◌≡◌, ◌<◌, ◌++◌, [], length, slice_index_or, OnErr, OnOk};
+//! is given up then.
+ghost use Rattle.std.specs.Prelude.{◌≡◌, ◌<◌, ◌++◌, [], length, slice_index_or, IfOk, OnOk};
 ghost use Rattle.geo_base.specs.Report.{with_line_feeds};
 ghost use Rattle.geo_top.specs.Shown.{shown_world};
 ghost use Rattle.geo_top.specs.Tiered.{AreTopicsTellable, tiered, tiers_at, tiers_of};
@@ -15,23 +15,21 @@ use script_text::Scenario;
 use std::alloc::Global;
 use world::World;
 
-/// Appends, of each topic at each cluster of a world, how many of its closed ledgers moved to a tier of its own (all but the last
-/// `keep`) and its entries, each read from where it stands then; nothing where memory is wanting.
-pub fn append_tiered(
+/// Of each topic at each cluster of a world, how many of its closed ledgers moved to a tier of its own (all but the last `keep`) and
+/// its entries, each read from where it stands then. An `Err` is want of memory.
+pub fn tiered_topics(
     alloc: Global,
-    out: &mut Blob,
     scenario: &Scenario,
     world: &World,
     keep: u64,
-) -> Result<(), Memory>
+) -> Result<Blob, Memory>
     requires at { IsAt scenario.now.setup world.now }
     requires tellable { AreTopicsTellable scenario.now.setup (shown_world world.now) }
-    ensures ok { OnOk result (out.new ≡ out.old ++ tiered keep scenario.now.setup (shown_world world.now)) }
-    ensures err { OnErr result (out.new ≡ out.old) }
+    ensures { IfOk result (λ bytes. bytes ≡ tiered keep scenario.now.setup (shown_world world.now)) }
 {
     let mut lines = Blob::new(alloc);
     add_topics(alloc, &mut lines, scenario, world, keep)?;
-    out.append(lines.as_slice())
+    Ok(lines)
 }
 
 /// All topics.

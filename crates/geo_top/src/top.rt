@@ -4,6 +4,7 @@ pub mod answer;
 pub mod auditing;
 pub mod bytes;
 pub mod command;
+mod given_back;
 pub mod scripts;
 pub mod states;
 pub mod status;

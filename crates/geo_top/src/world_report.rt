@@ -1,8 +1,8 @@
 //! The report of a world, line by line.
 //!
-//! Each part appends its lines to those before it. Where a part wants memory, those before stand: the whole is made apart from where
-//! it goes.
-ghost use Rattle.std.specs.Prelude.{◌≡◌, ◌<◌, ◌++◌, ◌∷◌, [], length, OnOk, OnErr};
+//! Each part appends its lines to those before it. Where a part wants memory, it is left open what it appended, since the whole is
+//! given up then.
+ghost use Rattle.std.specs.Prelude.{◌≡◌, ◌<◌, ◌++◌, ◌∷◌, [], length, IfOk, OnOk, OnErr};
 ghost use Rattle.geo_base.specs.Report.{client_lines, cluster_lines, head_line, report, topic_lines, with_line_feeds};
 ghost use Rattle.geo_top.specs.Shown.{shown_world};
 ghost use Rattle.world.specs.World.{IsAt};
@@ -14,22 +14,16 @@ use script_text::Scenario;
 use std::alloc::Global;
 use world::World;
 
-/// Appends the report of a world; nothing where memory is wanting.
+/// The report of a world. An `Err` is want of memory.
 #[tactic(auto, unfolding(geo_base::specs::Report::report_lines))]
-pub fn append_report(
-    alloc: Global,
-    out: &mut Blob,
-    scenario: &Scenario,
-    world: &World,
-) -> Result<(), Memory>
+pub fn report(alloc: Global, scenario: &Scenario, world: &World) -> Result<Blob, Memory>
     requires { IsAt scenario.now.setup world.now }
-    ensures ok { OnOk result (out.new ≡ out.old ++ report scenario.now.setup (shown_world world.now)) }
-    ensures err { OnErr result (out.new ≡ out.old) }
+    ensures { IfOk result (λ bytes. bytes ≡ report scenario.now.setup (shown_world world.now)) }
 {
     let mut lines = Blob::new(alloc);
     add_head(alloc, &mut lines, world)?;
     add_topics(alloc, &mut lines, scenario, world)?;
-    out.append(lines.as_slice())
+    Ok(lines)
 }
 
 /// The counts of a run; unchanged where memory is wanting.

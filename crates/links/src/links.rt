@@ -179,6 +179,9 @@ impl Links {
             return Ok(());
         };
         let link = link_to(from, first.to);
+        if sent.is_empty() {
+            return self.send(link, stamped(stamp, first));
+        }
         self.send(link, stamped(stamp, first))?;
         match self.deliver(from, stamp, sent) {
             Ok(()) => Ok(()),

@@ -284,7 +284,7 @@ pub fn merged(
 }
 
 /// How many nodes a scenario has.
-#[tactic(auto, using(merge_history::proofs::FewNodes::few_nodes, merge_history::proofs::FewNodes::few_brokers))]
+#[tactic(auto, using(merge_history::proofs::FewNodes::few_nodes, world_laws::proofs::FewNodes::few_brokers))]
 fn nodes_of(scenario: &Scenario) -> usize
     ensures { result ≡ node_count scenario.now.setup }
 {

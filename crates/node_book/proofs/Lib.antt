@@ -1,5 +1,4 @@
 pub mod Lists
-pub mod ManyClients
 pub mod Numbers
 pub mod Openings
 pub mod OwnEvents

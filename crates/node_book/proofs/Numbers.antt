@@ -1,7 +1,6 @@
 -- The number of a node has 32 bits.
 use Rattle.std.proofs.Common.{◌≡◌, ℕ, ◌+◌, ◌^◌, ◌<◌, ◌≤◌, true, length, sym, ap, subst, ◌∙◌, arith, nat_lt}
 use Rattle.std.proofs.lemmas.Bool.{ltb-true}
-use Rattle.std.proofs.lemmas.Nat.{mul-le}
 use Rattle.broker.specs.Node.{BrokerBook}
 use Rattle.geo_base.specs.Nodes.{broker_count, is_node, node_number}
 use Rattle.geo_base.specs.Scripted.{IsScripted}
@@ -11,12 +10,9 @@ use Rattle.node_book.specs.declared.state.NodeState.{NodeState as Kept}
 use Rattle.node_book.specs.declared.state.NodeState.TheVariants as kept
 use Rattle.node_book.specs.declared.state.NumberedClient.{NumberedClient}
 use Rattle.node_book.specs.Books.{node_in}
-use Rattle.node_book.proofs.ManyClients.{few_clients}
+use Rattle.world_laws.proofs.FewNodes.{few_brokers, few_clients}
 use Rattle.world_laws.proofs.Sizes.{node_lt}
 use Rattle.world_laws.proofs.Walk.{left, right}
-
-pub few_brokers : (s : Setup) → IsScripted s → broker_count s ≤ 128
-few_brokers s scripted = mul-le (length s.topics) (length s.clusters) 16 8 scripted.topics.1 scripted.clusters.1
 
 pub broker_fits : (s : Setup) (t x : ℕ) → IsScripted s → t < length s.topics → x < length s.clusters → node s t x < 2 ^ 32
 broker_fits s t x scripted lt lx =

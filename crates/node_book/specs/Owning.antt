@@ -31,7 +31,15 @@ IsAtBroker s t x (event.Go c) = ⊥
 IsAtBroker s t x (event.Get c) = ⊥
 IsAtBroker s t x (event.Reconnect c) = ⊥
 
--- and of a client
+-- an event of a link between brokers
+abbrev pub IsOfLink : Event → Type 0
+IsOfLink (event.Reset u y z) = ⊤
+IsOfLink (event.Read u y z) = ⊤
+IsOfLink (event.Take u y z f) = ⊤
+IsOfLink (event.Receipt u y z f) = ⊤
+IsOfLink e = ⊥
+
+-- an event of a client, with its number in range
 abbrev pub IsAtClient : ℕ → Event → Type 0
 IsAtClient c (event.Go d) = d ≡ c
 IsAtClient c (event.Get d) = d ≡ c

@@ -3,7 +3,7 @@ ghost use Rattle.std.specs.Prelude.{◌≡◌, ◌<◌, ◌↔◌, length, IsTru
 ghost use Rattle.geo_base.specs.Broker.{Broker as MachineBroker};
 ghost use Rattle.geo_base.specs.NodeState.{BrokerState, takes_from};
 ghost use Rattle.geo_base.specs.Setup.{sub_names};
-ghost use Rattle.node_book.specs.Owning.{IsAtBroker, IsAtClient, IsGet, IsGo, IsOfTopic};
+ghost use Rattle.node_book.specs.Owning.{IsAtBroker, IsAtClient, IsGet, IsGo, IsOfLink, IsOfTopic};
 
 use broker::Broker;
 use geo_base::{Event, Peer};
@@ -17,6 +17,33 @@ pub(crate) fn is_brokers(scenario: &Scenario, node: &Broker, event: &Event) -> b
         Event::Serve { cluster, client } | Event::Drop { cluster, client } => {
             cluster == node.cluster() && is_of_topic(scenario, client, node.topic())
         }
+        Event::Reset { .. } | Event::Read { .. } | Event::Take { .. } | Event::Receipt { .. } => {
+            is_of_link(scenario, node, event)
+        }
+        Event::Snap { topic, cluster } | Event::Restart { topic, cluster } => {
+            topic == node.topic() && cluster == node.cluster()
+        }
+        Event::Offer {
+            topic,
+            cluster,
+            sub,
+        }
+        | Event::Seek {
+            topic,
+            cluster,
+            sub,
+            ..
+        } => topic == node.topic() && cluster == node.cluster() && is_sub(scenario, topic, sub),
+        Event::Go { .. } | Event::Get { .. } | Event::Reconnect { .. } => false,
+    }
+}
+
+/// The same of an event of a link between brokers: it is of the one that sends, but a take, which is of the one that receives.
+fn is_of_link(scenario: &Scenario, node: &Broker, event: &Event) -> bool
+    requires { IsOfLink event.now }
+    ensures { IsTrue result ↔ IsAtBroker scenario.now.setup node.now.topic node.now.site.own event.now }
+{
+    match *event {
         Event::Reset {
             topic,
             source,
@@ -39,21 +66,7 @@ pub(crate) fn is_brokers(scenario: &Scenario, node: &Broker, event: &Event) -> b
             target,
             ..
         } => topic == node.topic() && target == node.cluster() && is_cluster(scenario, source),
-        Event::Snap { topic, cluster } | Event::Restart { topic, cluster } => {
-            topic == node.topic() && cluster == node.cluster()
-        }
-        Event::Offer {
-            topic,
-            cluster,
-            sub,
-        }
-        | Event::Seek {
-            topic,
-            cluster,
-            sub,
-            ..
-        } => topic == node.topic() && cluster == node.cluster() && is_sub(scenario, topic, sub),
-        Event::Go { .. } | Event::Get { .. } | Event::Reconnect { .. } => false,
+        _ => unreachable!(),
     }
 }
 

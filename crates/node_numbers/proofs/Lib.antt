@@ -1,2 +1,1 @@
-pub mod FewNodes
 pub mod Subs

@@ -58,7 +58,7 @@ impl NodeRings {
 
     /// The ends of the broker of a topic at a cluster: of the links to and from the topic's brokers at the other clusters, and then
     /// its clients. An `Err` is want of memory.
-    #[tactic(auto, using(node_numbers::proofs::FewNodes::broker_there))]
+    #[tactic(auto, using(world_laws::proofs::FewNodes::broker_there))]
     pub fn broker(
         &mut self,
         alloc: Global,
@@ -80,7 +80,7 @@ impl NodeRings {
     }
 
     /// Links a broker with those of its topic at the other clusters.
-    #[tactic(auto, using(crate::proofs::Links::no_brokers, crate::proofs::Links::brokers_done, node_numbers::proofs::FewNodes::broker_there))]
+    #[tactic(auto, using(crate::proofs::Links::no_brokers, crate::proofs::Links::brokers_done, world_laws::proofs::FewNodes::broker_there))]
     fn link_brokers(
         &mut self,
         alloc: Global,
@@ -181,7 +181,7 @@ impl NodeRings {
     }
 
     /// Links a broker with the next client, where that is of its topic.
-    #[tactic(auto, using(crate::proofs::Links::clients_next, crate::proofs::Links::clients_same, node_numbers::proofs::FewNodes::client_there))]
+    #[tactic(auto, using(crate::proofs::Links::clients_next, crate::proofs::Links::clients_same, world_laws::proofs::FewNodes::client_there))]
     fn link_client(
         &mut self,
         alloc: Global,
@@ -213,7 +213,7 @@ impl NodeRings {
     }
 
     /// The ends of a client: of the links to and from its topic's brokers. An `Err` is want of memory.
-    #[tactic(auto, using(crate::proofs::Links::no_sites, crate::proofs::Links::sites_done, node_numbers::proofs::FewNodes::broker_there, node_numbers::proofs::FewNodes::client_there))]
+    #[tactic(auto, using(crate::proofs::Links::no_sites, crate::proofs::Links::sites_done, world_laws::proofs::FewNodes::broker_there, world_laws::proofs::FewNodes::client_there))]
     pub fn client(
         &mut self,
         alloc: Global,

@@ -37,7 +37,7 @@ fn after(alloc: Global, len: u64, calls: &[Call]) -> Result<Cursor, Memory> {
 /// A cursor's ranges, its mark-delete, and the next open indexes from 0, 2 and 4.
 fn said(alloc: Global, cursor: &Cursor) -> Result<String, AllocError> {
     let mut text = String::new(alloc);
-    for range in cursor.ranges().as_slice() {
+    for range in cursor.ranges().iter() {
         let first = range.first;
         let last = range.last;
         write!(&mut text, "{first}-{last} ")?;
@@ -195,9 +195,9 @@ impl Flags {
     }
 
     /// Whether ranges are the runs of set flags, one after another.
-    fn are_runs(&self, ranges: &[IndexRange]) -> bool {
+    fn are_runs(&self, ranges: &RangeList) -> bool {
         let mut from = 0;
-        for range in ranges {
+        for range in ranges.iter() {
             if range.last >= LEN || range.first != self.next(from, true) {
                 return false;
             }
@@ -229,7 +229,7 @@ fn is_same_call(
             && cursor.is_acked(probe) == flags.is_acked(probe)
             && cursor.next_open(probe) == flags.next(probe, false)
             && cursor.mark_delete() == flags.next(0, false)
-            && flags.are_runs(cursor.ranges().as_slice()),
+            && flags.are_runs(cursor.ranges()),
     )
 }
 

@@ -2,8 +2,8 @@
 use cursor_acks::Cursor;
 use dispatcher::*;
 use geo_base::{
-    AckKind, Blob, Content, Entry, EntryStore, Ident, Memory, Metadata, ProducerName, Sequence,
-    SubKind, Targets,
+    AckKind, Blob, Content, Entry, EntryStore, Ident, Memory, Metadata, ProducerName, SubKind,
+    Targets,
 };
 use std::alloc::Global;
 use std::test::Fail;
@@ -157,12 +157,7 @@ fn entry(alloc: Global, index: u64) -> Result<Entry, Memory> {
             Content::Data
         },
         to: Targets::All,
-        meta: Metadata {
-            publish_time: 0,
-            key: None,
-            names: Sequence::new(alloc),
-            rest: Blob::new(alloc),
-        },
+        meta: Metadata::usual(0, None),
         payload: Blob::new(alloc),
     })
 }

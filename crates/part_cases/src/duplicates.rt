@@ -1,8 +1,6 @@
 //! The table of duplicates.
 use dedup_table::*;
-use geo_base::{
-    Blob, Content, Entry, EntryStore, Ident, Memory, Metadata, ProducerName, Sequence, Targets,
-};
+use geo_base::{Blob, Content, Entry, EntryStore, Ident, Memory, Metadata, ProducerName, Targets};
 use rand_core::utils::NextWord;
 use rand_pcg::Pcg32;
 use std::alloc::Global;
@@ -31,12 +29,7 @@ fn store<S: EntryStore>(
         },
         content: Content::Data,
         to: Targets::All,
-        meta: Metadata {
-            publish_time: 0,
-            key: None,
-            names: Sequence::new(alloc),
-            rest: Blob::new(alloc),
-        },
+        meta: Metadata::usual(0, None),
         payload: Blob::new(alloc),
     };
     store.reserve(1)?;

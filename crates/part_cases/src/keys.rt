@@ -2,8 +2,7 @@
 use cursor_acks::Cursor;
 use dispatcher::{Dispatcher, Offer};
 use geo_base::{
-    Blob, Content, Entry, EntryStore, Ident, Memory, Metadata, ProducerName, Sequence, SubKind,
-    Targets, Text,
+    Blob, Content, Entry, EntryStore, Ident, Memory, Metadata, ProducerName, SubKind, Targets, Text,
 };
 use key_shared::*;
 use std::alloc::Global;
@@ -87,12 +86,7 @@ fn message(alloc: Global, key: &Option<&'static str>, seq: u64) -> Result<Entry,
         },
         content: Content::Data,
         to: Targets::All,
-        meta: Metadata {
-            publish_time: 0,
-            key,
-            names: Sequence::new(alloc),
-            rest: Blob::new(alloc),
-        },
+        meta: Metadata::usual(0, key),
         payload: Blob::new(alloc),
     })
 }

@@ -1,7 +1,6 @@
 //! Stores of a topic.
 use geo_base::{
-    Blob, Content, Entry, EntryStore, Ident, Memory, Metadata, Position, ProducerName, Sequence,
-    Targets,
+    Blob, Content, Entry, EntryStore, Ident, Memory, Metadata, Position, ProducerName, Targets,
 };
 use rand_core::utils::NextWord;
 use rand_pcg::Pcg32;
@@ -76,12 +75,7 @@ fn entry(alloc: Global, content: Content) -> Result<Entry, Memory> {
         },
         content,
         to: Targets::All,
-        meta: Metadata {
-            publish_time: 0,
-            key: None,
-            names: Sequence::new(alloc),
-            rest: Blob::new(alloc),
-        },
+        meta: Metadata::usual(0, None),
         payload: Blob::new(alloc),
     })
 }

@@ -3,8 +3,8 @@ ghost use Rattle.std.specs.Prelude.{◌<◌};
 
 use cursor_acks::Cursor;
 use geo_base::{
-    Blob, Content, Entry, EntryStore, Ident, Marker, Memory, Metadata, Pending, Place,
-    ProducerName, SenderState, Sequence, Targets, Text,
+    Blob, BoxedMarker, Content, Entry, EntryStore, Ident, Marker, Memory, Metadata, Pending, Place,
+    ProducerName, SenderState, Targets, Text,
 };
 use rand_core::utils::NextWord;
 use rand_pcg::Pcg32;
@@ -185,10 +185,11 @@ fn content(alloc: Global, marker: bool) -> Result<Content, Memory> {
     if !marker {
         return Ok(Content::Data);
     }
-    Ok(Content::Marked(Marker::Request {
+    let marker = Marker::Request {
         id: Text::from_str(alloc, "a:0")?,
         source: Place::Known(REMOTE),
-    }))
+    };
+    Ok(Content::Marked(BoxedMarker::new(alloc, marker)?))
 }
 
 /// The topic of the table.
@@ -203,12 +204,7 @@ fn topic(alloc: Global) -> Result<ListStore, Memory> {
             },
             content: content(alloc, stored.marker)?,
             to: stored.to,
-            meta: Metadata {
-                publish_time: 0,
-                key: None,
-                names: Sequence::new(alloc),
-                rest: Blob::new(alloc),
-            },
+            meta: Metadata::usual(0, None),
             payload: Blob::new(alloc),
         };
         store.reserve(1)?;

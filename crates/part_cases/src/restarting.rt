@@ -3,8 +3,8 @@ use cursor_acks::Cursor;
 use dedup_table::{Stream, Verdict};
 use durable_parts::*;
 use geo_base::{
-    Blob, Content, Entry, EntryStore, Ident, Memory, Metadata, NameFault, ProducerName, Sequence,
-    SubKind, SubName, Targets,
+    Blob, Content, Entry, EntryStore, Ident, Memory, Metadata, NameFault, ProducerName, SubKind,
+    SubName, Targets,
 };
 use std::alloc::Global;
 use std::test::Fail;
@@ -121,12 +121,7 @@ fn entry(alloc: Global, ident: Ident) -> Entry {
         ident,
         content: Content::Unread(0),
         to: Targets::All,
-        meta: Metadata {
-            publish_time: 0,
-            key: None,
-            names: Sequence::new(alloc),
-            rest: Blob::new(alloc),
-        },
+        meta: Metadata::usual(0, None),
         payload: Blob::new(alloc),
     }
 }
@@ -186,7 +181,7 @@ fn write(alloc: Global, told: &Told) -> Result<Write, Fail> {
 
 /// The ranges of a cursor, each behind a space.
 fn add_ranges(text: &mut String, cursor: &Cursor) -> Result<(), Memory> {
-    for range in cursor.ranges().as_slice() {
+    for range in cursor.ranges().iter() {
         let first = range.first;
         let last = range.last;
         write!(text, " {first}-{last}")?;

@@ -3,8 +3,8 @@ ghost use Rattle.std.specs.Prelude.{◌≡◌, length, IfOk};
 
 use broker_subs::*;
 use geo_base::{
-    Blob, Consumer, Content, Entry, EntryStore, Ident, Memory, Metadata, ProducerName, Sequence,
-    SubKind, SubName, Targets,
+    Blob, Consumer, Content, Entry, EntryStore, Ident, Memory, Metadata, ProducerName, SubKind,
+    SubName, Targets,
 };
 use std::alloc::Global;
 use std::test::Fail;
@@ -19,12 +19,7 @@ fn message(alloc: Global, seq: u64) -> Result<Entry, Memory> {
         },
         content: Content::Data,
         to: Targets::All,
-        meta: Metadata {
-            publish_time: 0,
-            key: None,
-            names: Sequence::new(alloc),
-            rest: Blob::new(alloc),
-        },
+        meta: Metadata::usual(0, None),
         payload: Blob::new(alloc),
     })
 }

@@ -100,12 +100,7 @@ fn entry(alloc: Global, stored: &Stored, seq: u64) -> Result<Entry, Memory> {
         },
         content,
         to,
-        meta: Metadata {
-            publish_time: 0,
-            key: None,
-            names: Sequence::new(alloc),
-            rest: Blob::new(alloc),
-        },
+        meta: Metadata::usual(0, None),
         payload: Blob::new(alloc),
     })
 }
@@ -135,7 +130,7 @@ fn said(alloc: Global, row: &Row) -> Result<String, Memory> {
     if apply(&mut cursor, &store, row.index, row.from).is_err() {
         text.push_str("past ")?;
     }
-    for range in cursor.ranges().as_slice() {
+    for range in cursor.ranges().iter() {
         let first = range.first;
         let last = range.last;
         write!(&mut text, "{first}-{last} ")?;

@@ -23,6 +23,7 @@ const CLUSTERS: &str = "geo 1\nledger 70000\ncluster a\ncluster b\n";
 /// What a command answers to a text.
 fn answered(alloc: Global, word: &str, input: &[u8]) -> Result<Answer, Fail> {
     let words = vec![in alloc; Word::from_str(alloc, word)?]?;
+    let input = Blob::from_slice(alloc, input)?;
     Ok(answer(alloc, words.as_slice(), input)?)
 }
 

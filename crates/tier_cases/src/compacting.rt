@@ -25,7 +25,7 @@ fn stays(topic: &TopicLedger, horizon: usize, index: usize) -> bool {
     if !matches!(entry.content, Content::Data) {
         return false;
     }
-    let Some(key) = &entry.meta.key else {
+    let Some(key) = entry.meta.key() else {
         return true;
     };
     index >= horizon
@@ -46,7 +46,7 @@ fn comes_again(topic: &TopicLedger, key: &str, index: usize, horizon: usize) -> 
 /// Whether a message has a key.
 fn has_key(topic: &TopicLedger, index: usize, key: &str) -> bool {
     match topic.get(index) {
-        Some(entry) => match (&entry.content, &entry.meta.key) {
+        Some(entry) => match (&entry.content, entry.meta.key()) {
             (Content::Data, Some(other)) => other.as_str() == key,
             _ => false,
         },

@@ -3,7 +3,8 @@ ghost use Rattle.std.specs.Prelude.{ℕ, List, IfOk};
 ghost use Rattle.ledger_texts.specs.Readable.{IsTellable};
 
 use geo_base::{
-    Blob, Content, Entry, Ident, Marker, Memory, Metadata, ProducerName, Sequence, Targets, Text,
+    Blob, BoxedMarker, Content, Entry, Ident, Marker, Memory, Metadata, ProducerName, Sequence,
+    Targets, Text,
 };
 use std::alloc::Global;
 
@@ -24,12 +25,7 @@ pub fn message(alloc: Global, seq: u64, key: Option<&str>, payload: &[u8]) -> Re
         },
         content: Content::Data,
         to: Targets::All,
-        meta: Metadata {
-            publish_time: 0,
-            key,
-            names: Sequence::new(alloc),
-            rest: Blob::new(alloc),
-        },
+        meta: Metadata::usual(0, key),
         payload: Blob::from_slice(alloc, payload)?,
     })
 }
@@ -39,23 +35,19 @@ pub fn message(alloc: Global, seq: u64, key: Option<&str>, payload: &[u8]) -> Re
 pub fn update(alloc: Global, seq: u64) -> Result<Entry, Memory>
     ensures { IfOk result (λ e. (names : List (List ℕ)) → IsTellable names 0 e) }
 {
+    let marker = Marker::Update {
+        sub: Text::from_str(alloc, "s")?,
+        remote: Sequence::new(alloc),
+    };
     Ok(Entry {
         ident: Ident {
             origin: 0,
             producer: ProducerName::any(alloc, "pulsar.marker")?,
             seq,
         },
-        content: Content::Marked(Marker::Update {
-            sub: Text::from_str(alloc, "s")?,
-            remote: Sequence::new(alloc),
-        }),
+        content: Content::Marked(BoxedMarker::new(alloc, marker)?),
         to: Targets::All,
-        meta: Metadata {
-            publish_time: 0,
-            key: None,
-            names: Sequence::new(alloc),
-            rest: Blob::new(alloc),
-        },
+        meta: Metadata::usual(0, None),
         payload: Blob::new(alloc),
     })
 }

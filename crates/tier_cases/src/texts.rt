@@ -89,7 +89,7 @@ fn are_same(some: &[Entry], others: &[Entry]) -> bool {
 
 /// Whether two entries have the same sequence id, key and payload.
 pub fn is_same(entry: &Entry, other: &Entry) -> bool {
-    let keys = match (&entry.meta.key, &other.meta.key) {
+    let keys = match (entry.meta.key(), other.meta.key()) {
         (None, None) => true,
         (Some(key), Some(other)) => key.as_str() == other.as_str(),
         _ => false,

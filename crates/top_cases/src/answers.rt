@@ -1,6 +1,7 @@
 //! What the program answers.
 ghost use Rattle.std.specs.Prelude.{◌<◌};
 
+use geo_base::Blob;
 use geo_io::{MemSink, MemSource};
 use geo_top::{Status, Word, answer, geo_alone};
 use std::alloc::Global;
@@ -77,7 +78,11 @@ fn bad_scripts_are_refused_at_their_first_bad_line(rt: HostRuntime) -> Result<()
 #[test]
 fn bytes_are_answered(rt: HostRuntime) -> Result<(), Fail> {
     let words = vec![in rt.alloc(); Word::from_str(rt.alloc(), "run")?]?;
-    let declared = answer(rt.alloc(), words.as_slice(), DECLARATIONS)?;
+    let declared = answer(
+        rt.alloc(),
+        words.as_slice(),
+        Blob::from_slice(rt.alloc(), DECLARATIONS)?,
+    )?;
     assert_eq!(rt; declared.status, Status::Ok);
     assert_eq!(rt;
         declared.bytes.as_slice(),
@@ -86,7 +91,11 @@ topic t at a\nsender b session 0 closed mark 0\ntopic t at b\nsender a session 0
 client p at a lines 0/2 receipts 0 duplicates 0 errors 0\n"
             .as_slice()
     );
-    let refused = answer(rt.alloc(), words.as_slice(), b"geo 1\ncluster a")?;
+    let refused = answer(
+        rt.alloc(),
+        words.as_slice(),
+        Blob::from_slice(rt.alloc(), b"geo 1\ncluster a")?,
+    )?;
     assert_eq!(rt; refused.status, Status::BadScript { line: 2, rule: 1 });
     assert_eq!(rt;
         refused.bytes.as_slice(),
@@ -121,7 +130,11 @@ compacted t at b horizon 0\n",
         let mut words = Vec::new(rt.alloc());
         words.push(Word::from_str(rt.alloc(), "compact")?)?;
         words.push(Word::from_str(rt.alloc(), horizon)?)?;
-        let shown = answer(rt.alloc(), words.as_slice(), KEYS)?;
+        let shown = answer(
+            rt.alloc(),
+            words.as_slice(),
+            Blob::from_slice(rt.alloc(), KEYS)?,
+        )?;
         assert_eq!(rt; shown.status, Status::Ok);
         assert_eq!(rt; shown.bytes.as_slice(), lines);
     }
@@ -149,7 +162,11 @@ entry 1:1 a p 3 * data - d\nentry 2:0 a p 4 * data - e\ntiered t at b offloaded 
         let mut words = Vec::new(rt.alloc());
         words.push(Word::from_str(rt.alloc(), "tiered")?)?;
         words.push(Word::from_str(rt.alloc(), keep)?)?;
-        let shown = answer(rt.alloc(), words.as_slice(), LEDGERS)?;
+        let shown = answer(
+            rt.alloc(),
+            words.as_slice(),
+            Blob::from_slice(rt.alloc(), LEDGERS)?,
+        )?;
         assert_eq!(rt; shown.status, Status::Ok);
         let mut lines = head.to_vec(rt.alloc())?;
         lines.extend_from_slice(entries)?;

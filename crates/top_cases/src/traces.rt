@@ -1,5 +1,6 @@
 //! What the program tells of a run, line by line.
 
+use geo_base::Blob;
 use geo_top::{Status, Word, answer};
 use std::alloc::Global;
 use std::test::Fail;
@@ -7,7 +8,7 @@ use std::test::Fail;
 /// What `trace` writes for a script, which it accepts.
 fn traced(alloc: Global, script: &[u8]) -> Result<Vec<u8>, Fail> {
     let words = vec![in alloc; Word::from_str(alloc, "trace")?]?;
-    let shown = answer(alloc, words.as_slice(), script)?;
+    let shown = answer(alloc, words.as_slice(), Blob::from_slice(alloc, script)?)?;
     match shown.status {
         Status::Ok => Ok(shown.bytes.as_slice().to_vec(alloc)?),
         _ => Ok(Vec::new(alloc)),
@@ -109,7 +110,7 @@ fn traces_are_audited(rt: HostRuntime) -> Result<(), Fail> {
     ];
     for (input, number, line) in cases {
         let words = vec![in alloc; Word::from_str(alloc, "audit")?]?;
-        let judged = answer(alloc, words.as_slice(), input)?;
+        let judged = answer(alloc, words.as_slice(), Blob::from_slice(alloc, input)?)?;
         assert_eq!(rt; judged.status.number(), number);
         assert_eq!(rt; judged.bytes.as_slice(), line);
     }

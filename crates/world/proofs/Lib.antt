@@ -9,7 +9,6 @@ pub mod After
 pub mod Acting
 pub mod Waiting
 pub mod Prepared
-pub mod ManyClients
 pub mod ManySteps
 pub mod NewWorlds
 pub mod Stopping

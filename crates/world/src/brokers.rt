@@ -9,7 +9,7 @@ ghost use Rattle.world.specs.World.{AreNodes, IsAt, IsWithin, SameWorld, kept_of
 ghost use Rattle.script_text.specs.Scenario.{IsEvent};
 ghost use Rattle.broker.specs.Events.{IsOfNode, NumbersRise};
 ghost use Rattle.broker.specs.Node.{IsReady};
-ghost use Rattle.links.specs.Queues.{bytes_of};
+ghost use Rattle.links.specs.Queues.{bytes_of, taken_from};
 ghost use Rattle.world_kept.specs.Events.{IsBrokers};
 ghost use Rattle.world_kept.specs.Kept.{stamp_at};
 ghost use Rattle.world_kept.specs.Standing.{Stands, limit_of};
@@ -21,7 +21,7 @@ use crate::world::{World, node_number};
 use broker_state::Plan;
 use geo_base::limits::{EVENTS, SENT_BYTES};
 use geo_base::{Event, Memory, Stamp, WireOut};
-use links::{LinkName, frame_bytes};
+use links::{LinkName, Links, frame_bytes};
 use script_text::Scenario;
 use std::alloc::Global;
 use std::boxed::Box;
@@ -211,6 +211,12 @@ impl World {
         ensures err { OnErr result (self.new ≡ self.old) }
         ensures empty { OnOk result (IsEmptyPlan plan.new) }
     {
+        if plan.sends_nothing() {
+            self.one_more()?;
+            let stamp = self.stamp_at(number, place.takes);
+            self.commit_at(place, number, plan, stamp);
+            return Ok(());
+        }
         let mut sent = plan.take_sent(alloc);
         let bytes = self.bytes_after(&sent)?;
         let stamp = self.stamp_at(number, place.takes);
@@ -233,7 +239,7 @@ impl World {
         ensures rest { IsCommitted place number stamp self.old self.new }
         ensures empty { IsEmptyPlan plan.new }
     {
-        let _taken = self.links.take(place.takes);
+        take_from(&mut self.links, place.takes);
         self.nodes[number].commit(plan);
         self.broker_clocks[number] = stamp;
         self.counts.events += 1;
@@ -263,6 +269,18 @@ impl World {
         requires fits { stamp_at self.now.broker_clocks number self.now.links takes < 2 ^ 64 }
         ensures { result ≡ stamp_at self.now.broker_clocks number self.now.links takes }
     {
+        if takes.is_none() {
+            return 1 + self.broker_clocks[number];
+        }
         1 + self.broker_clocks[number].max(self.links.stamp(takes))
+    }
+}
+
+/// Takes the packet that an event takes. Most take none, for which no link is asked.
+fn take_from(links: &mut Links, takes: Option<LinkName>)
+    ensures { links.new ≡ taken_from takes links.old }
+{
+    if takes.is_some() {
+        let _taken = links.take(takes);
     }
 }

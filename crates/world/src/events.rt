@@ -18,6 +18,8 @@ impl World {
     /// Does an event of the script; it is idle where it is not enabled. An `Err` changes nothing of the world: a limit of the run
     /// that the event would pass, or want of memory.
     #[tactic(auto, using(crate::proofs::After::err_same))]
+    // Inlined with `World::step`.
+    #[inline(always)]
     pub fn event(
         &mut self,
         alloc: Global,

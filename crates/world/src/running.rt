@@ -37,6 +37,8 @@ impl World {
 
     /// Does a step of a script: an event, a stop of a broker in the midst of one, a stop of everything, or settling, of which a
     /// limit may leave a part.
+    // Inlined, the step of a list is read into its parts at once, and is no value in memory (1.6 % of a long script's instructions).
+    #[inline(always)]
     pub fn step(&mut self, alloc: Global, scenario: &Scenario, step: &Step) -> Result<(), RunFault>
         requires at { IsAt scenario.now.setup self.old }
         requires step { IsStep scenario.now.setup step.now }

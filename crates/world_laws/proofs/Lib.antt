@@ -48,6 +48,7 @@ pub mod Rising
 pub mod OwnNumbers
 pub mod MarkerRuns
 -- Nodes, their peers, and the merge of what each of them records.
+pub mod FewNodes
 pub mod LinkTables
 pub mod TwoLists
 pub mod NodeEvents

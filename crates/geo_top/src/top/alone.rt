@@ -11,8 +11,8 @@ use crate::top::answer::{Answer, refusal};
 use crate::top::bytes::answer;
 use crate::top::command::{Command, Word};
 use crate::top::status::Status;
-use geo_base::Memory;
 use geo_base::limits::INPUT_BYTES;
+use geo_base::{Blob, Memory};
 use geo_io::{ReadFault, Sink, Source, read_all, write_all};
 use std::alloc::Global;
 
@@ -66,12 +66,12 @@ fn answer_from<S: Source>(alloc: Global, words: &[Word], source: &mut S) -> Resu
     if Command::has_input(words) {
         let read_fault = refusal(alloc, Status::ReadFault)?;
         match read_all(alloc, source, INPUT_BYTES) {
-            Ok(bytes) => answer(alloc, words, bytes.as_slice()),
+            Ok(bytes) => answer(alloc, words, bytes),
             Err(ReadFault::Failed) => Ok(read_fault),
             Err(ReadFault::TooLong) => refusal(alloc, Status::TooLarge(1)),
             Err(ReadFault::Memory) => Err(Memory),
         }
     } else {
-        answer(alloc, words, &[])
+        answer(alloc, words, Blob::new(alloc))
     }
 }

@@ -13,8 +13,8 @@ use crate::top::command::{Command, Reading, Word};
 use crate::top::scripts::{answer_to_number, answer_to_script};
 use crate::top::states::{answer_to_file, answer_to_saving};
 use crate::top::status::Status;
-use geo_base::Memory;
 use geo_base::limits::INPUT_BYTES;
+use geo_base::{Blob, Memory};
 use std::alloc::Global;
 
 /// The whole program but for the words of `live`, over the bytes of its input: how it ends, and the bytes that it writes. For `run` the
@@ -25,13 +25,14 @@ use std::alloc::Global;
 /// `audit` the input is what a script declares and a trace behind it, and the output how many events the trace tells; for `big NUMBER`
 /// it is the summary of the run that the number generates. Else, and where it refuses, it is one line.
 ///
-/// The first of these refusals wins: words that are no command; more than 67,108,864 bytes; an item of the state that breaks a rule, or
-/// its version; a line of the script or the schedule that breaks a rule; a line of the trace that does; more than 2,000,000 events and
-/// idle events, or more than 1 GiB of frames. `Memory` comes where a growth of memory is refused.
+/// It takes the input, and gives the memory of a script back before the run. The first of these refusals wins: words that are no
+/// command; more than 67,108,864 bytes; an item of the state that breaks a rule, or its version; a line of the script or the schedule
+/// that breaks a rule; a line of the trace that does; more than 2,000,000 events and idle events, or more than 1 GiB of frames. `Memory`
+/// comes where a growth of memory is refused.
 #[tactic(auto, using(crate::proofs::Answered::answered_free, crate::proofs::Answered::founded_made))]
-pub fn answer(alloc: Global, words: &[Word], input: &[u8]) -> Result<Answer, Memory>
+pub fn answer(alloc: Global, words: &[Word], input: Blob) -> Result<Answer, Memory>
     // All that is promised of it, of which neither source nor sink fails.
-    ensures answered { IfOk result (λ a. IsAnswered (command_of words.now) input.now a.bytes no_faults a.status) }
+    ensures answered { IfOk result (λ a. IsAnswered (command_of words.now) input a.bytes no_faults a.status) }
     ensures made { IfOk result (λ a. IsMade a.status) }
 {
     answer_to_command(alloc, Command::read(words), input)
@@ -39,8 +40,8 @@ pub fn answer(alloc: Global, words: &[Word], input: &[u8]) -> Result<Answer, Mem
 
 /// The answer to a command, or to words that are none.
 #[tactic(auto, using(crate::proofs::Answered::founded_usage, crate::proofs::Answered::founded_big))]
-fn answer_to_command(alloc: Global, asked: Option<Command>, input: &[u8]) -> Result<Answer, Memory>
-    ensures { IfOk result (IsFounded asked input.now) }
+fn answer_to_command(alloc: Global, asked: Option<Command>, input: Blob) -> Result<Answer, Memory>
+    ensures { IfOk result (IsFounded asked input) }
 {
     match asked {
         Some(Command::Reads(reading)) => answer_to_input(alloc, reading, input),
@@ -51,8 +52,8 @@ fn answer_to_command(alloc: Global, asked: Option<Command>, input: &[u8]) -> Res
 
 /// The answer to an input.
 #[tactic(auto, using(crate::proofs::Answered::founded_large, crate::proofs::Answered::founded_bytes))]
-fn answer_to_input(alloc: Global, reading: Reading, input: &[u8]) -> Result<Answer, Memory>
-    ensures { IfOk result (IsFounded (Some (command.Reads reading)) input.now) }
+fn answer_to_input(alloc: Global, reading: Reading, input: Blob) -> Result<Answer, Memory>
+    ensures { IfOk result (IsFounded (Some (command.Reads reading)) input) }
 {
     if input.len() > INPUT_BYTES {
         return refusal(alloc, Status::TooLarge(1));
@@ -61,15 +62,15 @@ fn answer_to_input(alloc: Global, reading: Reading, input: &[u8]) -> Result<Answ
 }
 
 /// The answer to the bytes of an input that is not too long.
-fn answer_to_bytes(alloc: Global, reading: Reading, bytes: &[u8]) -> Result<Answer, Memory>
-    requires { length bytes.now ≤ INPUT_BYTES }
-    ensures answer { IfOk result (IsAnswerToBytes reading bytes.now) }
-    ensures known { OnOk result (IsKnown reading bytes.now) }
+fn answer_to_bytes(alloc: Global, reading: Reading, bytes: Blob) -> Result<Answer, Memory>
+    requires { length bytes ≤ INPUT_BYTES }
+    ensures answer { IfOk result (IsAnswerToBytes reading bytes) }
+    ensures known { OnOk result (IsKnown reading bytes) }
 {
     match reading {
         Reading::Script(shown) => answer_to_script(alloc, shown, bytes),
         Reading::Save => answer_to_saving(alloc, bytes),
-        Reading::Resume => answer_to_file(alloc, bytes),
-        Reading::Audit => answer_to_audit(alloc, bytes),
+        Reading::Resume => answer_to_file(alloc, bytes.as_slice()),
+        Reading::Audit => answer_to_audit(alloc, bytes.as_slice()),
     }
 }

@@ -1,24 +1,22 @@
 //! The answers of the commands that show something of a script's run, and of the one that sums up a generated run.
 ghost use Rattle.std.specs.Prelude.{◌≡◌, ◌≤◌, ℕ, Err, IfOk, None, OnOk, Some, length};
-ghost use Rattle.geo_base.specs.Report.{report};
 ghost use Rattle.geo_top.specs.Finished.{IsFinished};
 ghost use Rattle.geo_top.specs.Founded.{IsAccepted};
 ghost use Rattle.geo_top.specs.Outputs.{answer_to, answer_to_big, answer_to_run, compacted_of, output_of, passed_limit, report_of, summary_of, tiered_of};
-ghost use Rattle.geo_top.specs.Shown.{shown_world};
-ghost use Rattle.world.specs.World.{IsAt};
 ghost use Rattle.schedule_gen.specs.Generated.{generated_run};
 ghost use Rattle.script_text.specs.Rules.{script_of};
 ghost use Rattle.script_text.specs.Scenario.{IsScenario};
 
-use crate::compacted::append_compacted;
+use crate::compacted::compacted_views;
 use crate::run::run_script;
 use crate::summary::append_summary;
-use crate::tiered::append_tiered;
+use crate::tiered::tiered_topics;
 use crate::top::answer::{Answer, refusal};
 use crate::top::command::Shown;
+use crate::top::given_back::give_back;
 use crate::top::status::Status;
 use crate::traced::trace_script;
-use crate::world_report::append_report;
+use crate::world_report::report;
 use geo_base::limits::INPUT_BYTES;
 use geo_base::{Blob, Memory};
 use schedule_gen::generate;
@@ -27,12 +25,14 @@ use std::alloc::Global;
 use world::{RunFault, World};
 
 /// The answer to the bytes of a script, of whose run something is shown.
-pub fn answer_to_script(alloc: Global, shown: Shown, bytes: &[u8]) -> Result<Answer, Memory>
-    requires { length bytes.now ≤ INPUT_BYTES }
-    ensures answer { IfOk result (λ a. a ≡ answer_to shown (script_of bytes.now)) }
-    ensures known { OnOk result (IsAccepted (script_of bytes.now)) }
+pub fn answer_to_script(alloc: Global, shown: Shown, bytes: Blob) -> Result<Answer, Memory>
+    requires { length bytes ≤ INPUT_BYTES }
+    ensures answer { IfOk result (λ a. a ≡ answer_to shown (script_of bytes)) }
+    ensures known { OnOk result (IsAccepted (script_of bytes)) }
 {
-    match read_script(alloc, bytes) {
+    let read = read_script(alloc, bytes.as_slice());
+    give_back(bytes);
+    match read {
         Ok(scenario) => answer_to_scenario(alloc, shown, &scenario),
         Err(ScriptFault::Rule { line, rule }) => refusal(alloc, Status::BadScript { line, rule }),
         Err(ScriptFault::Memory) => Err(Memory),
@@ -81,16 +81,6 @@ fn reported(alloc: Global, scenario: &Scenario) -> Result<Blob, RunFault>
     Ok(report(alloc, scenario, &world)?)
 }
 
-/// The report of a world. An `Err` is want of memory.
-pub fn report(alloc: Global, scenario: &Scenario, world: &World) -> Result<Blob, Memory>
-    requires { IsAt scenario.now.setup world.now }
-    ensures { IfOk result (λ bytes. bytes ≡ report scenario.now.setup (shown_world world.now)) }
-{
-    let mut bytes = Blob::new(alloc);
-    append_report(alloc, &mut bytes, scenario, world)?;
-    Ok(bytes)
-}
-
 /// The compacted views of the world at the end of a script's run.
 fn compacted(alloc: Global, scenario: &Scenario, horizon: u64) -> Result<Blob, RunFault>
     ensures done { IfOk result (λ bytes. bytes ≡ compacted_of horizon scenario.now) }
@@ -98,9 +88,7 @@ fn compacted(alloc: Global, scenario: &Scenario, horizon: u64) -> Result<Blob, R
     ensures large { (limit : ℕ) → result ≡ Err (RunFault.TooLarge limit) → passed_limit scenario.now ≡ Some limit }
 {
     let world = run_script(alloc, scenario)?;
-    let mut bytes = Blob::new(alloc);
-    append_compacted(alloc, &mut bytes, scenario, &world, horizon)?;
-    Ok(bytes)
+    Ok(compacted_views(alloc, scenario, &world, horizon)?)
 }
 
 /// The topics of the world at the end of a script's run, whose closed ledgers move to tiers.
@@ -111,9 +99,7 @@ fn tiered(alloc: Global, scenario: &Scenario, keep: u64) -> Result<Blob, RunFaul
     ensures large { (limit : ℕ) → result ≡ Err (RunFault.TooLarge limit) → passed_limit scenario.now ≡ Some limit }
 {
     let world = run_script(alloc, scenario)?;
-    let mut bytes = Blob::new(alloc);
-    append_tiered(alloc, &mut bytes, scenario, &world, keep)?;
-    Ok(bytes)
+    Ok(tiered_topics(alloc, scenario, &world, keep)?)
 }
 
 /// The summary of the run that a number generates, or the limit that the run passes.

@@ -10,22 +10,25 @@ ghost use Rattle.state_file.specs.State.{state_of};
 
 use crate::run::{resume, save_script};
 use crate::top::answer::{Answer, refusal};
-use crate::top::scripts::report;
+use crate::top::given_back::give_back;
 use crate::top::status::Status;
-use geo_base::Memory;
+use crate::world_report::report;
 use geo_base::limits::INPUT_BYTES;
+use geo_base::{Blob, Memory};
 use script_text::{Scenario, ScriptFault, StepList, read_schedule, read_script};
 use state_file::{Saved, StateFault, load};
 use std::alloc::Global;
 use world::RunFault;
 
 /// The state file of the script that an input is.
-pub fn answer_to_saving(alloc: Global, bytes: &[u8]) -> Result<Answer, Memory>
-    requires { length bytes.now ≤ INPUT_BYTES }
-    ensures answer { IfOk result (λ a. a ≡ answer_to_save (script_of bytes.now)) }
-    ensures known { OnOk result (IsAccepted (script_of bytes.now)) }
+pub fn answer_to_saving(alloc: Global, bytes: Blob) -> Result<Answer, Memory>
+    requires { length bytes ≤ INPUT_BYTES }
+    ensures answer { IfOk result (λ a. a ≡ answer_to_save (script_of bytes)) }
+    ensures known { OnOk result (IsAccepted (script_of bytes)) }
 {
-    match read_script(alloc, bytes) {
+    let read = read_script(alloc, bytes.as_slice());
+    give_back(bytes);
+    match read {
         Ok(scenario) => saved_answer(alloc, scenario),
         Err(ScriptFault::Rule { line, rule }) => refusal(alloc, Status::BadScript { line, rule }),
         Err(ScriptFault::Memory) => Err(Memory),

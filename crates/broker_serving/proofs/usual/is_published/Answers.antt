@@ -2,7 +2,7 @@ use Rattle.std.proofs.Common.{ℕ, List, ◌∙◌, ap, subst}
 use Rattle.std.specs.Prelude.{◌≡◌, true, Option}
 use Rattle.geo_base.specs.declared.session.AttachedProducer.{AttachedProducer}
 use Rattle.geo_base.specs.Producing.{name_with}
-use Rattle.broker_plans.specs.Usual.{entry_viewed, source_viewed}
+use Rattle.frame_values.specs.Usual.{entry_viewed, source_viewed}
 use Rattle.broker_serving.specs.Producing.{published}
 use Rattle.broker_serving.proofs.usual.is_published.Goals as goal
 

@@ -1,5 +1,5 @@
 use Rattle.std.proofs.Common.{◌≡◌, length, ap, arith}
-use Rattle.world.proofs.ManyClients.{few_clients}
+use Rattle.world_laws.proofs.FewNodes.{few_clients}
 use Rattle.world.proofs.opening.new_clients.Goals as goal
 
 -- a client's number has 32 bits

@@ -11,13 +11,17 @@ use Rattle.audit.proofs.mirrors.AllMirrors.read.Goals as goal
 pub refused-requires-clause-numbers : goal.refused-requires-clause-numbers
 refused-requires-clause-numbers c =
     let s : Setup = c.args.scenario.now.setup in
-    let read : item_read (names_of s) c.args.line.now ≡ Some (item_said c.in-Some.line) =
-    ap (λ (d : DeclaredNames). item_read d c.args.line.now) (sym c.requires.names) ∙ (sym c.in_ok-line.ensures ∙ ap (option_map item_said) c.in-Some.is) in
-    item_numbers s c.args.line.now (item_said c.in-Some.line) read
+    let read : item_read (names_of s) c.args.line.now ≡ Some (item_said c.in-Some-2.line) =
+    ap (λ (d : DeclaredNames). item_read d c.args.line.now) (sym c.requires.names) ∙ (sym c.in_ok-line.ensures ∙ ap (option_map item_said) c.in-Some-2.is) in
+    item_numbers s c.args.line.now (item_said c.in-Some-2.line) read
 
 pub tell-requires-clause-numbers : goal.tell-requires-clause-numbers
 tell-requires-clause-numbers c =
     let s : Setup = c.args.scenario.now.setup in
-    let read : item_read (names_of s) c.args.line.now ≡ Some (item_said c.in-Some.line) =
-    ap (λ (d : DeclaredNames). item_read d c.args.line.now) (sym c.requires.names) ∙ (sym c.in_ok-line.ensures ∙ ap (option_map item_said) c.in-Some.is) in
-    item_numbers s c.args.line.now (item_said c.in-Some.line) read
+    let read : item_read (names_of s) c.args.line.now ≡ Some (item_said c.in-Some-2.line) =
+    ap (λ (d : DeclaredNames). item_read d c.args.line.now) (sym c.requires.names) ∙ (sym c.in_ok-line.ensures ∙ ap (option_map item_said) c.in-Some-2.is) in
+    item_numbers s c.args.line.now (item_said c.in-Some-2.line) read
+
+pub returns-in-Some-clause-told : goal.returns-in-Some-clause-told
+returns-in-Some-clause-told c =
+    rw (c.in-Some.ensures c.args.names.now) (c.begin_next.ensures.told c.args.scenario.now.setup)

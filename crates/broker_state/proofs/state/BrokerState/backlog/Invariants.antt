@@ -1,9 +1,8 @@
-use Rattle.std.proofs.Common.{◌≡◌}
-use Rattle.std.specs.Prelude.{take}
-use Rattle.cursor_acks.specs.Ranges.{covers}
-use Rattle.broker_state.proofs.Backlogs.{flags, left_by}
+use Rattle.std.proofs.Common.{◌≡◌, ◌+◌}
+use Rattle.geo_base.specs.Broker.{backlog}
+use Rattle.broker_state.proofs.Backlogs.{messages_within}
 use Rattle.broker_state.proofs.state.BrokerState.backlog.Given as goal
 
--- all messages but those in the ranges that were looked at
+-- the backlog, and the messages in the ranges that are left
 abbrev pub invariant-loop-range : goal.invariant-loop-range
-invariant-loop-range l = l.left ≡ left_by (covers (take l.range-index l.range-items)) 0 (flags l.self.broker.entries)
+invariant-loop-range l = l.left ≡ backlog l.self.broker l.sub.sub + messages_within l.self.broker.entries l.range-iterator

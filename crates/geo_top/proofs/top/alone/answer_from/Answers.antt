@@ -13,7 +13,7 @@ pub returns-in-Ok-clause-ready : goal.returns-in-Ok-clause-ready
 returns-in-Ok-clause-ready g c =
     whole_ready (command_of c.args.words.now) (g.S.Source.given c.args.source.now c.read_all.new.source) (g.S.Source.left c.args.source.now) (g.S.Source.faults c.args.source.now)
     (g.S.Source.faults c.read_all.new.source) c.in-Ok.bytes c.answer.result c.in-Ok.ensures.given c.in-Ok.ensures.whole
-    (rw c.as_slice.ensures at c.answer.ensures.answered) c.answer.ensures.made
+    c.answer.ensures.answered c.answer.ensures.made
 
 -- words that have an input are not those that have none
 pub returns-in-Ok-clause-unread : goal.returns-in-Ok-clause-unread
@@ -46,4 +46,4 @@ pub returns-else-has_input-clause-ready : goal.returns-else-has_input-clause-rea
 returns-else-has_input-clause-ready g c =
     none_ready (command_of c.args.words.now) (g.S.Source.given c.args.source.now c.args.source.now) (g.S.Source.left c.args.source.now) (g.S.Source.faults c.args.source.now)
     c.answer-else-has_input.result (input_none (command_of c.args.words.now) (sym c.has_input.ensures ∙ c.if-has_input.false)) (g.met.S.Source.given_none c.args.source.now)
-    c.answer-else-has_input.ensures.answered c.answer-else-has_input.ensures.made
+    (rw c.new.ensures at c.answer-else-has_input.ensures.answered) c.answer-else-has_input.ensures.made

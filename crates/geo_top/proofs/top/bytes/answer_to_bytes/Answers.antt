@@ -1,0 +1,4 @@
+use Rattle.geo_top.proofs.top.bytes.answer_to_bytes.Goals as goal
+
+pub returns-in-Resume-clause-answer : goal.returns-in-Resume-clause-answer
+returns-in-Resume-clause-answer c = rw c.in-Resume.is (rw c.as_slice.ensures at c.answer_to_file.ensures)
