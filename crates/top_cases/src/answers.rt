@@ -1,9 +1,9 @@
 //! What the program answers.
 ghost use Rattle.std.specs.Prelude.{◌<◌};
 
-use geo_base::Blob;
+use crate::asked::{answered, ended};
 use geo_io::{MemSink, MemSource};
-use geo_top::{Status, Word, answer, geo_alone};
+use geo_top::Status;
 use std::alloc::Global;
 use std::test::Fail;
 
@@ -11,9 +11,8 @@ use std::test::Fail;
 fn run(alloc: Global, script: &[u8], most: usize, sink: &mut MemSink) -> Result<Status, Fail>
     requires { 0 < most }
 {
-    let words = vec![in alloc; Word::from_str(alloc, "run")?]?;
     let mut source = MemSource::new(alloc, script, most, &[])?;
-    Ok(geo_alone(alloc, words.as_slice(), &mut source, sink))
+    ended(alloc, &["run"], &mut source, sink)
 }
 
 /// A sink that takes all.
@@ -77,12 +76,7 @@ fn bad_scripts_are_refused_at_their_first_bad_line(rt: HostRuntime) -> Result<()
 /// The call over bytes answers the report of a script that declares alone, and the line of one that breaks a rule.
 #[test]
 fn bytes_are_answered(rt: HostRuntime) -> Result<(), Fail> {
-    let words = vec![in rt.alloc(); Word::from_str(rt.alloc(), "run")?]?;
-    let declared = answer(
-        rt.alloc(),
-        words.as_slice(),
-        Blob::from_slice(rt.alloc(), DECLARATIONS)?,
-    )?;
+    let declared = answered(rt.alloc(), &["run"], DECLARATIONS)?;
     assert_eq!(rt; declared.status, Status::Ok);
     assert_eq!(rt;
         declared.bytes.as_slice(),
@@ -91,11 +85,7 @@ topic t at a\nsender b session 0 closed mark 0\ntopic t at b\nsender a session 0
 client p at a lines 0/2 receipts 0 duplicates 0 errors 0\n"
             .as_slice()
     );
-    let refused = answer(
-        rt.alloc(),
-        words.as_slice(),
-        Blob::from_slice(rt.alloc(), b"geo 1\ncluster a")?,
-    )?;
+    let refused = answered(rt.alloc(), &["run"], b"geo 1\ncluster a")?;
     assert_eq!(rt; refused.status, Status::BadScript { line: 2, rule: 1 });
     assert_eq!(rt;
         refused.bytes.as_slice(),
@@ -127,14 +117,7 @@ compacted t at b horizon 0\n",
         ),
     ];
     for (horizon, lines) in views {
-        let mut words = Vec::new(rt.alloc());
-        words.push(Word::from_str(rt.alloc(), "compact")?)?;
-        words.push(Word::from_str(rt.alloc(), horizon)?)?;
-        let shown = answer(
-            rt.alloc(),
-            words.as_slice(),
-            Blob::from_slice(rt.alloc(), KEYS)?,
-        )?;
+        let shown = answered(rt.alloc(), &["compact", horizon], KEYS)?;
         assert_eq!(rt; shown.status, Status::Ok);
         assert_eq!(rt; shown.bytes.as_slice(), lines);
     }
@@ -159,29 +142,13 @@ entry 1:1 a p 3 * data - d\nentry 2:0 a p 4 * data - e\ntiered t at b offloaded 
         ("1000000", b"tiered t at a offloaded 0\n"),
     ];
     for (keep, head) in heads {
-        let mut words = Vec::new(rt.alloc());
-        words.push(Word::from_str(rt.alloc(), "tiered")?)?;
-        words.push(Word::from_str(rt.alloc(), keep)?)?;
-        let shown = answer(
-            rt.alloc(),
-            words.as_slice(),
-            Blob::from_slice(rt.alloc(), LEDGERS)?,
-        )?;
+        let shown = answered(rt.alloc(), &["tiered", keep], LEDGERS)?;
         assert_eq!(rt; shown.status, Status::Ok);
         let mut lines = head.to_vec(rt.alloc())?;
         lines.extend_from_slice(entries)?;
         assert_eq!(rt; shown.bytes.as_slice(), lines.as_slice());
     }
     Ok(())
-}
-
-/// The words of a command line.
-fn words_of(alloc: Global, line: &[&str]) -> Result<Vec<Word>, Fail> {
-    let mut words = Vec::new(alloc);
-    for word in line {
-        words.push(Word::from_str(alloc, word)?)?;
-    }
-    Ok(words)
 }
 
 /// Nothing is read for them: the source would fail.
@@ -222,10 +189,9 @@ fn words_that_are_no_command(rt: HostRuntime) -> Result<(), Fail> {
         &["Trace"],
     ];
     for line in lines {
-        let words = words_of(rt.alloc(), line)?;
         let mut source = MemSource::new(rt.alloc(), ONE_MESSAGE, 7, &[1])?;
         let mut sink = open_sink(rt.alloc())?;
-        let status = geo_alone(rt.alloc(), words.as_slice(), &mut source, &mut sink);
+        let status = ended(rt.alloc(), line, &mut source, &mut sink)?;
         assert_eq!(rt; status, Status::Usage);
         assert_eq!(rt;
             sink.bytes(),
@@ -252,11 +218,10 @@ fn each_call_of_a_sink_or_a_source_fails_in_turn(rt: HostRuntime) -> Result<(), 
     assert_eq!(rt; run(rt.alloc(), b"geo", 7, &mut sink)?, Status::WriteFault);
     assert_eq!(rt; sink.bytes(), b"bad script".as_slice());
 
-    let words = vec![in rt.alloc(); Word::from_str(rt.alloc(), "run")?]?;
     for call in 1..6 {
         let mut source = MemSource::new(rt.alloc(), ONE_MESSAGE, 80, &[call])?;
         let mut sink = open_sink(rt.alloc())?;
-        let status = geo_alone(rt.alloc(), words.as_slice(), &mut source, &mut sink);
+        let status = ended(rt.alloc(), &["run"], &mut source, &mut sink)?;
         assert_eq!(rt; status, Status::ReadFault);
         assert_eq!(rt; status.number(), 4);
         assert_eq!(rt; sink.bytes(), b"read fault\n".as_slice());
@@ -338,10 +303,9 @@ client p at a lines 0/2 receipts 0 duplicates 0 errors 0\n"
 #[test]
 fn a_generated_run_is_summed_up(rt: HostRuntime) -> Result<(), Fail> {
     let alloc = rt.alloc();
-    let words = vec![in alloc; Word::from_str(alloc, "big")?, Word::from_str(alloc, "7")?]?;
     let mut source = MemSource::new(alloc, b"", 7, &[1])?;
     let mut sink = open_sink(alloc)?;
-    let status = geo_alone(alloc, words.as_slice(), &mut source, &mut sink);
+    let status = ended(alloc, &["big", "7"], &mut source, &mut sink)?;
     assert_eq!(rt; status, Status::Ok);
     let lines: &[u8] = b"big 7 clusters 3 messages 2000\n\
 stored a 2000\nstored b 2000\nstored c 2000\nquiet\nevents ";

@@ -1,6 +1,7 @@
 //! What the program answers to state files.
+use crate::asked::ended;
 use geo_io::{MemSink, MemSource};
-use geo_top::{Status, Word, geo_alone};
+use geo_top::Status;
 use std::alloc::Global;
 use std::test::Fail;
 
@@ -18,9 +19,8 @@ reset t a b\ntake t a b good\nreceipt t a b good\nread t a b\ntake t a b good\n"
 
 /// What a command does with an input.
 fn answer(alloc: Global, word: &str, input: &[u8], sink: &mut MemSink) -> Result<Status, Fail> {
-    let words = vec![in alloc; Word::from_str(alloc, word)?]?;
     let mut source = MemSource::new(alloc, input, AT_ONCE, &[])?;
-    Ok(geo_alone(alloc, words.as_slice(), &mut source, sink))
+    ended(alloc, &[word], &mut source, sink)
 }
 
 fn open_sink(alloc: Global) -> Result<MemSink, Fail> {

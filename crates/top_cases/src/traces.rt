@@ -1,14 +1,13 @@
 //! What the program tells of a run, line by line.
 
-use geo_base::Blob;
-use geo_top::{Status, Word, answer};
+use crate::asked::answered;
+use geo_top::Status;
 use std::alloc::Global;
 use std::test::Fail;
 
 /// What `trace` writes for a script, which it accepts.
 fn traced(alloc: Global, script: &[u8]) -> Result<Vec<u8>, Fail> {
-    let words = vec![in alloc; Word::from_str(alloc, "trace")?]?;
-    let shown = answer(alloc, words.as_slice(), Blob::from_slice(alloc, script)?)?;
+    let shown = answered(alloc, &["trace"], script)?;
     match shown.status {
         Status::Ok => Ok(shown.bytes.as_slice().to_vec(alloc)?),
         _ => Ok(Vec::new(alloc)),
@@ -109,8 +108,7 @@ fn traces_are_audited(rt: HostRuntime) -> Result<(), Fail> {
         (b"trace\n", 3, b"bad script line 1 rule 2\n"),
     ];
     for (input, number, line) in cases {
-        let words = vec![in alloc; Word::from_str(alloc, "audit")?]?;
-        let judged = answer(alloc, words.as_slice(), Blob::from_slice(alloc, input)?)?;
+        let judged = answered(alloc, &["audit"], input)?;
         assert_eq!(rt; judged.status.number(), number);
         assert_eq!(rt; judged.bytes.as_slice(), line);
     }
