@@ -5,6 +5,7 @@ use crate::asked::{answered, ended};
 use geo_io::{MemSink, MemSource};
 use geo_top::Status;
 use std::alloc::Global;
+use std::process::Abort;
 use std::test::Fail;
 
 /// What `run` does with a script and a sink, read so many bytes at a time.
@@ -151,7 +152,20 @@ entry 1:1 a p 3 * data - d\nentry 2:0 a p 4 * data - e\ntiered t at b offloaded 
     Ok(())
 }
 
-/// Nothing is read for them: the source would fail.
+/// What the program prints for words that are no command.
+const USAGE: &[u8] =
+    b"usage: geo run, live WORKERS TURNS, big NUMBER, save, resume, audit, compact HORIZON, tiered KEEP, trace\n";
+
+/// Nothing is read for words that are no command: the source would fail.
+fn are_no_command(rt: &impl Abort, alloc: Global, line: &[&str]) -> Result<(), Fail> {
+    let mut source = MemSource::new(alloc, ONE_MESSAGE, 7, &[1])?;
+    let mut sink = open_sink(alloc)?;
+    let status = ended(alloc, line, &mut source, &mut sink)?;
+    assert_eq!(rt; status, Status::Usage);
+    assert_eq!(rt; sink.bytes(), USAGE);
+    Ok(())
+}
+
 #[test]
 fn words_that_are_no_command(rt: HostRuntime) -> Result<(), Fail> {
     let lines: [&[&str]; 32] = [
@@ -189,42 +203,53 @@ fn words_that_are_no_command(rt: HostRuntime) -> Result<(), Fail> {
         &["Trace"],
     ];
     for line in lines {
-        let mut source = MemSource::new(rt.alloc(), ONE_MESSAGE, 7, &[1])?;
-        let mut sink = open_sink(rt.alloc())?;
-        let status = ended(rt.alloc(), line, &mut source, &mut sink)?;
-        assert_eq!(rt; status, Status::Usage);
-        assert_eq!(rt;
-            sink.bytes(),
-            b"usage: geo run, live WORKERS TURNS, big NUMBER, save, resume, audit, compact HORIZON, tiered KEEP, trace\n".as_slice()
-        );
+        are_no_command(&rt, rt.alloc(), line)?;
     }
     Ok(())
 }
 
-/// A sink that takes ten bytes in a call and fails at one of the first five: what went out before is a part of the report, or of a
-/// refusal's line. And a source that gives 80 bytes in a call and fails at one of the first five: the script comes in four calls, and
-/// the fifth sees its end.
+/// What goes out of the report of that script before a fault.
+const REPORT: &[u8] = b"events 15 idle 0 rounds 0\ntopic t at a\nen";
+
+/// A sink that takes ten bytes in a call and fails behind so many.
+fn a_write_fails(rt: &impl Abort, alloc: Global, before: u64) -> Result<(), Fail> {
+    let mut sink = MemSink::new(alloc, 10, &[before.saturating_add(1)])?;
+    let status = run(alloc, ONE_MESSAGE, 7, &mut sink)?;
+    assert_eq!(rt; status, Status::WriteFault);
+    assert_eq!(rt; status.number(), 5);
+    assert_eq!(rt; sink.bytes().len() as u64, before.saturating_mul(10));
+    assert!(rt; REPORT.starts_with(sink.bytes()));
+    Ok(())
+}
+
+/// It fails at one of the first five calls: what went out before is a part of the report, or of a refusal's line.
 #[test]
-fn each_call_of_a_sink_or_a_source_fails_in_turn(rt: HostRuntime) -> Result<(), Fail> {
-    let report: &[u8] = b"events 15 idle 0 rounds 0\ntopic t at a\nen";
-    for call in 1..6 {
-        let mut sink = MemSink::new(rt.alloc(), 10, &[call])?;
-        let status = run(rt.alloc(), ONE_MESSAGE, 7, &mut sink)?;
-        assert_eq!(rt; status, Status::WriteFault);
-        assert_eq!(rt; status.number(), 5);
-        assert_eq!(rt; sink.bytes(), &report[..10 * (call as usize - 1)]);
+fn each_call_of_a_sink_fails_in_turn(rt: HostRuntime) -> Result<(), Fail> {
+    for before in 0..5 {
+        a_write_fails(&rt, rt.alloc(), before)?;
     }
     let mut sink = MemSink::new(rt.alloc(), 10, &[2])?;
     assert_eq!(rt; run(rt.alloc(), b"geo", 7, &mut sink)?, Status::WriteFault);
     assert_eq!(rt; sink.bytes(), b"bad script".as_slice());
+    Ok(())
+}
 
+/// A source that gives 80 bytes in a call and fails at a call.
+fn a_read_fails(rt: &impl Abort, alloc: Global, call: u64) -> Result<(), Fail> {
+    let mut source = MemSource::new(alloc, ONE_MESSAGE, 80, &[call])?;
+    let mut sink = open_sink(alloc)?;
+    let status = ended(alloc, &["run"], &mut source, &mut sink)?;
+    assert_eq!(rt; status, Status::ReadFault);
+    assert_eq!(rt; status.number(), 4);
+    assert_eq!(rt; sink.bytes(), b"read fault\n".as_slice());
+    Ok(())
+}
+
+/// It fails at one of the first five calls: the script comes in four, and the fifth sees its end.
+#[test]
+fn each_call_of_a_source_fails_in_turn(rt: HostRuntime) -> Result<(), Fail> {
     for call in 1..6 {
-        let mut source = MemSource::new(rt.alloc(), ONE_MESSAGE, 80, &[call])?;
-        let mut sink = open_sink(rt.alloc())?;
-        let status = ended(rt.alloc(), &["run"], &mut source, &mut sink)?;
-        assert_eq!(rt; status, Status::ReadFault);
-        assert_eq!(rt; status.number(), 4);
-        assert_eq!(rt; sink.bytes(), b"read fault\n".as_slice());
+        a_read_fails(&rt, rt.alloc(), call)?;
     }
     Ok(())
 }
@@ -273,15 +298,25 @@ fn inputs_and_runs_that_are_too_large(rt: HostRuntime) -> Result<(), Fail> {
         ),
     ]?;
     for (limit, input) in inputs {
-        let mut sink = open_sink(alloc)?;
-        let status = run(alloc, input.as_slice(), AT_ONCE, &mut sink)?;
-        assert_eq!(rt; status, Status::TooLarge(limit));
-        assert_eq!(rt; status.number(), 6);
-        let line = format!(in alloc; "too large {limit}\n")?;
-        assert_eq!(rt; sink.bytes(), line.as_bytes());
+        is_too_large(&rt, alloc, limit, input.as_slice())?;
     }
+    Ok(())
+}
 
-    // The most events are done.
+/// An input passes a limit.
+fn is_too_large(rt: &impl Abort, alloc: Global, limit: u64, input: &[u8]) -> Result<(), Fail> {
+    let mut sink = open_sink(alloc)?;
+    let status = run(alloc, input, AT_ONCE, &mut sink)?;
+    assert_eq!(rt; status, Status::TooLarge(limit));
+    assert_eq!(rt; status.number(), 6);
+    let line = format!(in alloc; "too large {limit}\n")?;
+    assert_eq!(rt; sink.bytes(), line.as_bytes());
+    Ok(())
+}
+
+#[test]
+fn the_most_events_are_done(rt: HostRuntime) -> Result<(), Fail> {
+    let alloc = rt.alloc();
     let most = with_lines(alloc, DECLARATIONS, b"get p\n", 2_000_000)?;
     let mut sink = open_sink(alloc)?;
     assert_eq!(rt;
