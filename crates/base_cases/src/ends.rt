@@ -10,36 +10,47 @@ use geo_io::{
 use std::alloc::Global;
 use std::test::Fail;
 
+const TEN: &[u8] = b"0123456789";
+
 /// Ten bytes by three in a call: the calls of a sink end after 3, 6, 9 and 10 bytes, and a source
 /// needs a fifth call to see its end.
 #[test]
 fn each_call_fails_in_turn(rt: HostRuntime) -> Result<(), Fail> {
-    let bytes = b"0123456789";
     for (call, out) in [(1, 0), (2, 3), (3, 6), (4, 9)] {
-        let mut source = MemSource::new(rt.alloc(), bytes, 3, &[call])?;
-        let fault = read_all(rt.alloc(), &mut source, 10).err();
-        assert_eq!(rt; fault, Some(ReadFault::Failed), "call {call}");
-
-        let mut sink = MemSink::new(rt.alloc(), 3, &[call])?;
-        let written = write_all(&mut sink, bytes);
-        assert_eq!(rt; written, Err(WriteFault { out }), "call {call}");
-        assert_eq!(rt; sink.bytes().len(), out as usize, "call {call}");
+        assert!(rt; is_read_fault(rt.alloc(), call)?, "call {call}");
+        assert!(rt; is_write_fault(rt.alloc(), call, out)?, "call {call}");
     }
-    let mut source = MemSource::new(rt.alloc(), bytes, 3, &[5])?;
-    let fault = read_all(rt.alloc(), &mut source, 10).err();
-    assert_eq!(rt; fault, Some(ReadFault::Failed), "at the end");
+    assert!(rt; is_read_fault(rt.alloc(), 5)?, "at the end");
+    Ok(())
+}
+
+/// Whether a source that fails at a call is told.
+fn is_read_fault(alloc: Global, call: u64) -> Result<bool, Fail> {
+    let mut source = MemSource::new(alloc, TEN, 3, &[call])?;
+    let fault = read_all(alloc, &mut source, 10).err();
+    Ok(fault == Some(ReadFault::Failed))
+}
+
+/// Whether a sink that fails at a call is told, with how many bytes went out, and has them.
+fn is_write_fault(alloc: Global, call: u64, out: u64) -> Result<bool, Fail> {
+    let mut sink = MemSink::new(alloc, 3, &[call])?;
+    let written = write_all(&mut sink, TEN);
+    Ok(written == Err(WriteFault { out }) && sink.bytes().len() == out as usize)
+}
+
+#[test]
+fn a_source_in_memory_gives_all(rt: HostRuntime) -> Result<(), Fail> {
+    let mut source = MemSource::new(rt.alloc(), TEN, 3, &[6])?;
+    let bytes = read_all(rt.alloc(), &mut source, usize::MAX)?;
+    assert!(rt; bytes.as_slice() == TEN);
     Ok(())
 }
 
 #[test]
-fn ends_in_memory_move_all(rt: HostRuntime) -> Result<(), Fail> {
-    let mut source = MemSource::new(rt.alloc(), b"0123456789", 3, &[6])?;
-    let bytes = read_all(rt.alloc(), &mut source, usize::MAX)?;
-    assert!(rt; bytes.as_slice() == b"0123456789".as_slice());
-
+fn a_sink_in_memory_takes_all(rt: HostRuntime) -> Result<(), Fail> {
     let mut sink = MemSink::new(rt.alloc(), 3, &[5])?;
-    write_all(&mut sink, bytes.as_slice())?;
-    assert!(rt; sink.bytes() == b"0123456789".as_slice());
+    write_all(&mut sink, TEN)?;
+    assert!(rt; sink.bytes() == TEN);
     Ok(())
 }
 
@@ -71,13 +82,18 @@ fn too_long_is_above_the_limit(rt: HostRuntime) -> Result<(), Fail> {
     Ok(())
 }
 
-/// An input of several chunks, and an output that overflows its buffer.
+/// An input of several chunks.
 #[test]
-fn steady_ends_never_fail(rt: HostRuntime) -> Result<(), Fail> {
+fn a_steady_source_never_fails(rt: HostRuntime) -> Result<(), Fail> {
     let input = vec![in rt.alloc(); 7u8; 40_000]?;
     let bytes = read_all(rt.alloc(), &mut SteadySource::new(&input), 40_000)?;
     assert!(rt; bytes.as_slice() == input.as_slice());
+    Ok(())
+}
 
+/// An output that overflows its buffer.
+#[test]
+fn a_steady_sink_never_fails(rt: HostRuntime) -> Result<(), Fail> {
     let mut buffer = [0u8; 5];
     let mut sink = SteadySink::new(&mut buffer);
     write_all(&mut sink, b"abc")?;

@@ -136,6 +136,16 @@ fn bytes_say_their_fields(rt: HostRuntime) -> Result<(), Fail> {
     Ok(())
 }
 
+/// The fields that are read, written one after another.
+fn written(alloc: Global, bytes: &[u8]) -> Result<Blob, Fail> {
+    let fields = read_fields(alloc, bytes)?;
+    let mut out = Blob::new(alloc);
+    for field in fields.as_slice() {
+        write_field(&mut out, field)?;
+    }
+    Ok(out)
+}
+
 #[test]
 fn fields_are_written_shortest(rt: HostRuntime) -> Result<(), Fail> {
     let alloc = rt.alloc();
@@ -143,21 +153,20 @@ fn fields_are_written_shortest(rt: HostRuntime) -> Result<(), Fail> {
         0x88, 0x80, 0x00, 0x96, 0x81, 0x80, 0x00, 0x12, 0x82, 0x00, 0x41, 0x42, 0x0d, 1, 2, 3, 4,
         0x19, 1, 2, 3, 4, 5, 6, 7, 8,
     ];
-    let fields = read_fields(alloc, &bytes)?;
-    let mut out = Blob::new(alloc);
-    for field in fields.as_slice() {
-        write_field(&mut out, field)?;
-    }
+    let out = written(alloc, &bytes)?;
     let shortest = [
         0x08, 0x96, 0x01, 0x12, 0x02, 0x41, 0x42, 0x0d, 1, 2, 3, 4, 0x19, 1, 2, 3, 4, 5, 6, 7, 8,
     ];
     assert_eq!(rt; out.as_slice(), shortest.as_slice());
-    let copy = Blob::from_slice(alloc, out.as_slice())?;
-    assert_eq!(rt; copy.len(), out.len());
-    let mut list = FieldList::new(alloc);
+    Ok(())
+}
+
+#[test]
+fn fields_are_listed(rt: HostRuntime) -> Result<(), Fail> {
+    let mut list = FieldList::new(rt.alloc());
     list.push(Field {
         number: 1,
-        value: Value::Bytes(Blob::from_vec(copy.into_vec())),
+        value: Value::Bytes(Blob::from_slice(rt.alloc(), b"AB")?),
     })?;
     assert_eq!(rt; list.len(), 1);
     Ok(())

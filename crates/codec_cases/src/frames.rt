@@ -59,6 +59,15 @@ fn write_send(alloc: Global, payload: Blob) -> Result<Blob, FrameFault> {
     write_frame(alloc, &frame)
 }
 
+/// A PING, written.
+fn write_ping(alloc: Global) -> Result<Blob, FrameFault> {
+    let ping = Frame {
+        command: Command::Ping,
+        body: None,
+    };
+    write_frame(alloc, &ping)
+}
+
 /// How many bytes that SEND takes with a payload of so many, or its fault.
 fn size_of_send(alloc: Global, payload: usize) -> Result<String, AllocError> {
     let payload = Blob::from_vec(vec![in alloc; 0u8; payload]?);
@@ -196,33 +205,57 @@ const TABLE: [(&[u8], &str); 21] = [
     ),
 ];
 
+/// What comes of a stream in one piece.
+fn of_whole(alloc: Global, stream: &[u8]) -> Result<String, AllocError> {
+    let mut reader = FrameReader::new(alloc);
+    let answer = reader.feed(stream);
+    outcome(alloc, &mut reader, answer)
+}
+
+/// What comes of a stream byte by byte.
+fn of_bytes(alloc: Global, stream: &[u8]) -> Result<String, AllocError> {
+    let mut reader = FrameReader::new(alloc);
+    let mut last = reader.feed(&[]);
+    for byte in stream {
+        last = reader.feed(&[*byte]);
+    }
+    outcome(alloc, &mut reader, last)
+}
+
 #[test]
 fn streams_are_judged_in_order_however_they_are_cut(rt: HostRuntime) -> Result<(), Fail> {
     let alloc = rt.alloc();
     for (stream, expected) in TABLE {
-        let mut whole = FrameReader::new(alloc);
-        let answer = whole.feed(stream);
-        assert_eq!(rt; outcome(alloc, &mut whole, answer)?.as_str(), expected);
-        let mut by_byte = FrameReader::new(alloc);
-        let mut last = by_byte.feed(&[]);
-        for byte in stream {
-            last = by_byte.feed(&[*byte]);
-        }
-        assert_eq!(rt; outcome(alloc, &mut by_byte, last)?.as_str(), expected);
+        assert_eq!(rt; of_whole(alloc, stream)?.as_str(), expected);
+        assert_eq!(rt; of_bytes(alloc, stream)?.as_str(), expected);
     }
     Ok(())
+}
+
+/// Whether a reader has one more frame, which carries no message.
+fn has_command(reader: &mut FrameReader) -> bool {
+    match reader.next() {
+        Some(frame) => !carries_message(&frame.command),
+        None => false,
+    }
+}
+
+/// Whether a reader takes bytes one by one, and has no frame before the last of them.
+fn is_fed(reader: &mut FrameReader, bytes: &[u8]) -> bool {
+    for byte in bytes {
+        if has_command(reader) || reader.feed(&[*byte]).is_err() {
+            return false;
+        }
+    }
+    true
 }
 
 #[test]
 fn a_frame_comes_with_its_last_byte(rt: HostRuntime) -> Result<(), Fail> {
     let mut reader = FrameReader::new(rt.alloc());
-    for byte in &PING {
-        assert!(rt; reader.next().is_none());
-        assert_eq!(rt; reader.feed(&[*byte]), Ok(()));
-    }
-    let frame = reader.next().ok_or("no frame")?;
-    assert!(rt; !carries_message(&frame.command));
-    assert!(rt; reader.next().is_none());
+    let is_fed = is_fed(&mut reader, &PING);
+    let is_read = has_command(&mut reader);
+    assert!(rt; is_fed && is_read && !has_command(&mut reader));
     Ok(())
 }
 
@@ -265,11 +298,7 @@ fn frames_are_written_byte_for_byte(rt: HostRuntime) -> Result<(), Fail> {
     let alloc = rt.alloc();
     let written = write_send(alloc, Blob::from_slice(alloc, b"hi")?)?;
     assert_eq!(rt; written.as_slice(), SEND.as_slice());
-    let ping = Frame {
-        command: Command::Ping,
-        body: None,
-    };
-    assert_eq!(rt; write_frame(alloc, &ping)?.as_slice(), PING.as_slice());
+    assert_eq!(rt; write_ping(alloc)?.as_slice(), PING.as_slice());
     Ok(())
 }
 
@@ -325,6 +354,12 @@ fn frames_of_the_usual_form_are_seen_where_they_stand(rt: HostRuntime) -> Result
     Ok(())
 }
 
+/// The command of a frame that is read, written again.
+fn command_of(alloc: Global, text: &[u8]) -> Result<Blob, Fail> {
+    let frame = read_frame(alloc, text)?.ok_or("no frame")?;
+    Ok(frame.command.write(alloc)?)
+}
+
 #[test]
 fn acks_are_read_in_either_form_and_written_in_one(rt: HostRuntime) -> Result<(), Fail> {
     let alloc = rt.alloc();
@@ -344,10 +379,8 @@ fn acks_are_read_in_either_form_and_written_in_one(rt: HostRuntime) -> Result<()
         message_id: &positions,
     };
     assert_eq!(rt; write_usual_ack(alloc, ack)?.as_slice(), ACK.as_slice());
-    for text in [ACK, TURNED_ACK] {
-        let frame = read_frame(alloc, &text)?.ok_or("no frame")?;
-        assert_eq!(rt; frame.command.write(alloc)?.as_slice(), &ACK[8..]);
-    }
+    assert_eq!(rt; command_of(alloc, &ACK)?.as_slice(), &ACK[8..]);
+    assert_eq!(rt; command_of(alloc, &TURNED_ACK)?.as_slice(), &ACK[8..]);
     Ok(())
 }
 

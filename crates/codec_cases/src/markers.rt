@@ -1,5 +1,5 @@
 //! Markers.
-use geo_base::{Position, Text};
+use geo_base::{Memory, Position, Text};
 use marker_codec::*;
 use std::alloc::{AllocError, Global};
 use std::test::Fail;
@@ -130,9 +130,8 @@ fn markers_are_judged_in_order(rt: HostRuntime) -> Result<(), Fail> {
     Ok(())
 }
 
-#[test]
-fn fields_keep_their_places(rt: HostRuntime) -> Result<(), Fail> {
-    let alloc = rt.alloc();
+/// The snapshot i at 1:2, b at 3:4.
+fn snapshot(alloc: Global) -> Result<Marker, Memory> {
     let mut clusters = ClusterMessageIds::new(alloc);
     clusters.push(ClusterMessageId {
         cluster: Text::from_str(alloc, "b")?,
@@ -141,20 +140,26 @@ fn fields_keep_their_places(rt: HostRuntime) -> Result<(), Fail> {
             entry: 4,
         },
     })?;
-    let marker = Marker::Snapshot {
+    Ok(Marker::Snapshot {
         snapshot_id: Text::from_str(alloc, "i")?,
         local_message_id: Position {
             ledger: 1,
             entry: 2,
         },
         clusters,
-    };
-    assert_eq!(rt; marker.kind(), MarkerKind::Snapshot);
-    assert_eq!(rt; marker.kind().number(), 12);
+    })
+}
+
+#[test]
+fn fields_keep_their_places(rt: HostRuntime) -> Result<(), Fail> {
+    let marker = snapshot(rt.alloc())?;
+    let kind = marker.kind();
+    let written = marker.write(rt.alloc())?;
+    assert!(rt; kind == MarkerKind::Snapshot && kind.number() == 12);
     let wanted = [
         0x0a, 0x01, 0x69, 0x12, 0x04, 0x08, 0x01, 0x10, 0x02, 0x1a, 0x09, 0x0a, 0x01, 0x62, 0x12,
         0x04, 0x08, 0x03, 0x10, 0x04,
     ];
-    assert_eq!(rt; marker.write(alloc)?.as_slice(), wanted.as_slice());
+    assert_eq!(rt; written.as_slice(), wanted.as_slice());
     Ok(())
 }

@@ -1,5 +1,5 @@
 //! The metadata of messages.
-use geo_base::{ClusterName, Sequence, Text};
+use geo_base::{Blob, ClusterName, Memory, Sequence, Text};
 use message_meta::*;
 use pb_fields::FieldList;
 use std::alloc::{AllocError, Global};
@@ -94,11 +94,9 @@ fn bytes_say_their_metadata(rt: HostRuntime) -> Result<(), Fail> {
     Ok(())
 }
 
-#[test]
-fn an_origin_replaces_the_old_one(rt: HostRuntime) -> Result<(), Fail> {
-    let alloc = rt.alloc();
-    let cluster = ClusterName::read(alloc, "west")?;
-    let meta = Meta {
+/// What p published at east.
+fn from_east(alloc: Global) -> Result<Meta, Memory> {
+    Ok(Meta {
         producer: Text::from_str(alloc, "p")?,
         seq: 1,
         publish_time: 2,
@@ -107,8 +105,18 @@ fn an_origin_replaces_the_old_one(rt: HostRuntime) -> Result<(), Fail> {
         replicate_to: Sequence::new(alloc),
         marker: None,
         rest: FieldList::new(alloc),
-    };
-    let out = meta.with_origin(alloc, &cluster)?.write(alloc)?;
+    })
+}
+
+/// The same with another origin, written.
+fn written_from(alloc: Global, origin: &ClusterName) -> Result<Blob, Memory> {
+    from_east(alloc)?.with_origin(alloc, origin)?.write(alloc)
+}
+
+#[test]
+fn an_origin_replaces_the_old_one(rt: HostRuntime) -> Result<(), Fail> {
+    let west = ClusterName::read(rt.alloc(), "west")?;
+    let out = written_from(rt.alloc(), &west)?;
     let wanted = [
         0x0a, 0x01, 0x70, 0x10, 0x01, 0x18, 0x02, 0x2a, 0x04, 0x77, 0x65, 0x73, 0x74,
     ];

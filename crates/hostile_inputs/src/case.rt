@@ -1,4 +1,6 @@
 //! What is told of a broker that takes a packet.
+ghost use Rattle.std.specs.Prelude.{◌≡◌};
+ghost use Rattle.hostile_inputs.specs.Setting.{setting};
 
 use crate::hostile::{kept, node, stop, take};
 use anyhow::Result;
@@ -96,17 +98,32 @@ fn write_hex<W: fmt::Write>(f: &mut fmt::Formatter<W>, bytes: &[u8]) -> fmt::Res
 /// What a broker does with a packet of a session.
 pub fn tell(alloc: Global, session: u64, frame: &[u8]) -> Result<Told> {
     let mut node = node(alloc)?;
-    let _opened = take(alloc, &mut node, OPEN, OPENING)?;
-    let answers = take(alloc, &mut node, session, frame)?;
-    let stored = first_of(&node);
-    let then = take(alloc, &mut node, OPEN, HONEST)?.len();
-    stop(alloc, &mut node, OPEN, LATER)?;
+    told_by(alloc, &mut node, session, frame)
+}
+
+/// What this broker does with it, once the session is open.
+fn told_by(alloc: Global, node: &mut Broker, session: u64, frame: &[u8]) -> Result<Told>
+    requires { node.old.site ≡ setting }
+{
+    let _opened = take(alloc, node, OPEN, OPENING)?;
+    let answers = take(alloc, node, session, frame)?;
+    let stored = first_of(node);
+    let (then, kept) = then_and_kept(alloc, node)?;
     Ok(Told::Done {
         answers,
         stored,
         then,
-        kept: kept(alloc, &node)?,
+        kept,
     })
+}
+
+/// How many packets answer an honest SEND, and how many entries are left after a stop.
+fn then_and_kept(alloc: Global, node: &mut Broker) -> Result<(usize, usize)>
+    requires { node.old.site ≡ setting }
+{
+    let then = take(alloc, node, OPEN, HONEST)?.len();
+    stop(alloc, node, OPEN, LATER)?;
+    Ok((then, kept(alloc, node)?))
 }
 
 /// What a topic's first entry is.

@@ -5,8 +5,9 @@ ghost use Rattle.wire_ends.specs.Looks.{Looked};
 
 use crate::frames::{PING, is_packet, packet};
 use geo_base::Memory;
-use link_rings::{RING_PLACES, RingEnd, ring};
+use link_rings::{RING_PLACES, RingEnd, RingTake, ring};
 use std::alloc::Global;
+use std::process::Abort;
 use std::test::Fail;
 use wire_ends::{End, ListEnd, PART_BYTES, PieceEnd, WirePacket};
 
@@ -46,60 +47,97 @@ fn copied(alloc: Global, packet: &WirePacket) -> Result<WirePacket, Memory>
     })
 }
 
+/// Whether it is that packet which passes from one end to another; `None` where none passes.
+fn passes<E: End, F: End>(alloc: Global, from: &mut E, to: &mut F) -> Result<Option<bool>, Memory> {
+    match pass_on(alloc, from, to)? {
+        None => Ok(None),
+        packet => Ok(Some(is_packet(packet, 4, &PING))),
+    }
+}
+
+/// Ends of every kind, in the order in which a packet passes them.
+#[derive(Drop)]
+struct Ends {
+    list: ListEnd,
+    pieces: PieceEnd,
+    sends: RingEnd,
+    takes: RingEnd,
+    last: ListEnd,
+}
+
+/// Brings a packet on the first of the ends, and passes it on from each to the next.
+fn pass_all(rt: &impl Abort, alloc: Global, ends: &mut Ends) -> Result<(), Memory> {
+    ends.list.put(packet(alloc, 4, &PING)?)?;
+    let passed = passes(alloc, &mut ends.list, &mut ends.pieces)?;
+    assert_eq!(rt; passed, Some(true), "out of the list");
+    let passed = passes(alloc, &mut ends.pieces, &mut ends.sends)?;
+    assert_eq!(rt; passed, Some(true), "out of the pieces");
+    let passed = passes(alloc, &mut ends.takes, &mut ends.last)?;
+    assert_eq!(rt; passed, Some(true), "out of the ring");
+    assert!(rt; is_packet(ends.last.give(), 4, &PING), "and given");
+    let passed = passes(alloc, &mut ends.takes, &mut ends.last)?;
+    assert_eq!(rt; passed, None, "no second one");
+    Ok(())
+}
+
 #[test]
 fn a_packet_passes_every_kind_of_end(rt: HostRuntime) -> Result<(), Fail> {
     let alloc = rt.alloc();
-    let mut list = ListEnd::new(alloc, 1)?;
-    let mut pieces = PieceEnd::new(alloc, PART_BYTES)?;
     let (sends, takes) = ring(alloc, RING_PLACES, 5)?;
-    let (mut sends, mut takes) = (RingEnd::Send(sends), RingEnd::Take(takes));
-    let mut last = ListEnd::new(alloc, 1)?;
-    list.put(packet(alloc, 4, &PING)?)?;
-    assert!(rt;
-        is_packet(pass_on(alloc, &mut list, &mut pieces)?, 4, &PING),
-        "out of the list"
-    );
-    assert!(rt;
-        is_packet(pass_on(alloc, &mut pieces, &mut sends)?, 4, &PING),
-        "out of the pieces"
-    );
-    assert!(rt;
-        is_packet(pass_on(alloc, &mut takes, &mut last)?, 4, &PING),
-        "out of the ring"
-    );
-    assert!(rt; is_packet(last.give(), 4, &PING), "and given");
-    assert!(rt;
-        pass_on(alloc, &mut takes, &mut last)?.is_none(),
-        "no second one"
-    );
-    Ok(())
+    let mut ends = Ends {
+        sends: RingEnd::Send(sends),
+        takes: RingEnd::Take(takes),
+        list: ListEnd::new(alloc, 1)?,
+        pieces: PieceEnd::new(alloc, PART_BYTES)?,
+        last: ListEnd::new(alloc, 1)?,
+    };
+    Ok(pass_all(&rt, alloc, &mut ends)?)
+}
+
+/// A packet that takes four places.
+fn in_parts(alloc: Global) -> Result<PieceEnd, Memory> {
+    let mut pieces = PieceEnd::new(alloc, 5)?;
+    let parcel = pieces.pack(packet(alloc, 4, &PING)?)?;
+    pieces.send(parcel);
+    Ok(pieces)
+}
+
+/// Whether it passes to a ring of so many places, and comes out of it; `None` where it does not pass.
+fn passes_ring(alloc: Global, places: usize) -> Result<Option<bool>, Memory> {
+    let mut pieces = in_parts(alloc)?;
+    let (mut sends, mut takes) = ring(alloc, places, 5)?;
+    let passed = passes(alloc, &mut pieces, &mut sends)?;
+    let comes_out = comes_out(&mut takes)?;
+    Ok(passed.map(|is_same| is_same && comes_out))
+}
+
+/// Whether it comes out of a ring.
+fn comes_out(takes: &mut RingTake) -> Result<bool, Memory> {
+    takes.gather()?;
+    let is_shown = takes.peek().is_some();
+    Ok(is_shown && is_packet(takes.take(), 4, &PING))
 }
 
 #[test]
 fn without_places_nothing_passes(rt: HostRuntime) -> Result<(), Fail> {
     let alloc = rt.alloc();
-    let mut pieces = PieceEnd::new(alloc, 5)?;
-    let parcel = pieces.pack(packet(alloc, 4, &PING)?)?;
-    pieces.send(parcel);
     let mut full = ListEnd::new(alloc, 0)?;
-    assert!(rt;
-        pass_on(alloc, &mut pieces, &mut full)?.is_none(),
-        "a list without places"
-    );
-    let (mut small, _takes) = ring(alloc, 3, 5)?;
-    assert!(rt;
-        pass_on(alloc, &mut pieces, &mut small)?.is_none(),
-        "a ring of three places"
-    );
-    let (mut ample, mut takes) = ring(alloc, 4, 5)?;
-    assert!(rt;
-        is_packet(pass_on(alloc, &mut pieces, &mut ample)?, 4, &PING),
-        "a ring of four"
-    );
-    assert_eq!(rt; ample.free(), 0);
+    let passed = passes(alloc, &mut in_parts(alloc)?, &mut full)?;
+    assert_eq!(rt; passed, None, "a list without places");
+    assert_eq!(rt; passes_ring(alloc, 3)?, None, "a ring of three places");
+    assert_eq!(rt; passes_ring(alloc, 4)?, Some(true), "a ring of four");
+    Ok(())
+}
+
+/// A ring's places are free again once what stood there was gathered.
+#[test]
+fn places_are_free_again(rt: HostRuntime) -> Result<(), Fail> {
+    let (mut sends, mut takes) = ring(rt.alloc(), 4, 5)?;
+    let parcel = sends.pack(packet(rt.alloc(), 4, &PING)?)?;
+    assert!(rt; sends.free() >= parcel.places());
+    sends.send(parcel);
+    let full = sends.free();
     takes.gather()?;
-    assert_eq!(rt; ample.free(), 4);
-    assert!(rt; takes.peek().is_some(), "shown");
-    assert!(rt; is_packet(takes.take(), 4, &PING), "and taken");
+    assert_eq!(rt; (full, sends.free()), (0, 4));
     Ok(())
 }

@@ -1,6 +1,8 @@
 //! Lists of pieces, and the packets that an end over them shows, by the rule: a head begins a packet; parts are joined to it until
 //! its bytes came, and bytes beyond them are cut off; a head of no byte is a packet at once; a part that no packet waits for is
 //! dropped; a head that comes too early leaves the packet before it without bytes; a last one that is not finished is not given.
+ghost use Rattle.std.specs.Prelude.{◌<◌};
+
 use crate::frames::{PING, SEND, is_packet, packet};
 use geo_base::{Blob, Memory, Stamp};
 use std::alloc::Global;
@@ -164,15 +166,27 @@ fn a_parcel_takes_a_place_for_each_piece(rt: HostRuntime) -> Result<(), Fail> {
         (13, 2),
         (PART_BYTES, 2),
     ] {
-        let mut end = PieceEnd::new(alloc, most)?;
-        let parcel = end.pack(packet(alloc, 4, &PING)?)?;
-        assert_eq!(rt; parcel.places(), places);
-        assert!(rt; end.free() >= places, "room for parts of {most}");
-        end.send(parcel);
-        end.gather()?;
-        assert!(rt; is_packet(end.take(), 4, &PING), "parts of {most}");
-        let empty = end.pack(packet(alloc, 5, &[])?)?;
-        assert_eq!(rt; empty.places(), 1);
+        assert_eq!(rt; places_of(alloc, most, &PING)?, places);
+        assert_eq!(rt; places_of(alloc, most, &[])?, 1);
     }
     Ok(())
+}
+
+/// The places of a packet on an end whose parts have at most so many bytes; 0 where it does not come out of the end as it was.
+fn places_of(alloc: Global, most: usize, frame: &[u8]) -> Result<usize, Memory>
+    requires { 0 < most }
+{
+    let mut end = PieceEnd::new(alloc, most)?;
+    let parcel = end.pack(packet(alloc, 4, frame)?)?;
+    let places = parcel.places();
+    if end.free() < places {
+        return Ok(0);
+    }
+    end.send(parcel);
+    end.gather()?;
+    Ok(if is_packet(end.take(), 4, frame) {
+        places
+    } else {
+        0
+    })
 }

@@ -58,9 +58,16 @@ fn actors_are_numbered_by_link_cluster_subscription_and_client(
             client: 0,
         },
     ];
-    assert_eq!(rt; roles.len(), wanted.len());
-    for (role, want) in roles.iter().zip(&wanted) {
-        assert!(rt; *role == *want);
-    }
+    let are_wanted = are_same(roles.as_slice(), &wanted);
+    assert!(rt; are_wanted);
     Ok(())
+}
+
+fn are_same(roles: &[Role], wanted: &[Role]) -> bool {
+    for (role, want) in roles.iter().zip(wanted) {
+        if *role != *want {
+            return false;
+        }
+    }
+    roles.len() == wanted.len()
 }

@@ -29,42 +29,54 @@ fn first_book(
     NodeBook::broker(alloc, shared, 0, 0, ends)
 }
 
-#[test]
-fn a_senders_first_turn_begins_a_session(rt: HostRuntime) -> Result<(), Fail> {
-    let alloc = rt.alloc();
+/// What an actor's first turn on that book was.
+#[derive(Clone, Copy)]
+struct Turn {
+    /// Whether it did something.
+    did: bool,
+    /// How many events the book has then.
+    events: usize,
+    /// The first of them.
+    first: Option<Event>,
+}
+
+fn first_turn(alloc: Global, actor: u32, role: Role) -> Result<Turn, Fail> {
     let scenario = Arc::new(alloc, read_script(alloc, SCRIPT)?)?;
     let mut book = first_book(alloc, &scenario)?;
+    let mut actor = Actor::new(&scenario, actor, role);
+    let did = actor.turn(alloc, &mut book)?;
+    Ok(Turn {
+        did,
+        events: book.history().len(),
+        first: book.history().first().map(|done| done.event),
+    })
+}
+
+#[test]
+fn a_senders_first_turn_begins_a_session(rt: HostRuntime) -> Result<(), Fail> {
     let role = Role::Sender(Link {
         topic: 0,
         source: 0,
         target: 1,
     });
-    let mut sender = Actor::new(&scenario, 0, role);
-    assert!(rt; sender.turn(alloc, &mut book)?);
-    assert_eq!(rt; book.history().len(), 1);
     let reset = Event::Reset {
         topic: 0,
         source: 0,
         target: 1,
     };
-    for done in book.history() {
-        assert!(rt; done.event == reset);
-    }
+    let turn = first_turn(rt.alloc(), 0, role)?;
+    assert!(rt; turn.did && turn.events == 1 && turn.first == Some(reset));
     Ok(())
 }
 
 #[test]
 fn a_receiver_finds_nothing_on_an_empty_link(rt: HostRuntime) -> Result<(), Fail> {
-    let alloc = rt.alloc();
-    let scenario = Arc::new(alloc, read_script(alloc, SCRIPT)?)?;
-    let mut book = first_book(alloc, &scenario)?;
     let role = Role::Receiver(Link {
         topic: 0,
         source: 1,
         target: 0,
     });
-    let mut receiver = Actor::new(&scenario, 3, role);
-    assert!(rt; !receiver.turn(alloc, &mut book)?);
-    assert_eq!(rt; book.history().len(), 0);
+    let turn = first_turn(rt.alloc(), 3, role)?;
+    assert!(rt; !turn.did && turn.events == 0);
     Ok(())
 }

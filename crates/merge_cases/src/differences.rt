@@ -1,8 +1,9 @@
 //! Packets that were taken and are not those that were sent.
-use crate::run::{Configs, Histories, Place, ROWS, Row, SCRIPT, Taken, Wrong, merged};
-use geo_base::Step;
+use crate::run::{Configs, Place, ROWS, Row, SCRIPT, Taken, Wrong, merge_of};
+use geo_base::{Memory, Step};
 use merge_history::{Difference, Merged};
-use script_text::read_script;
+use script_text::{Scenario, read_script};
+use std::alloc::Global;
 use std::sync::Arc;
 use std::test::Fail;
 use wire_ends::WirePacket;
@@ -36,23 +37,42 @@ const CASES: [(&[(usize, Wrong)], usize); 21] = [
 fn the_first_difference_is_told(rt: HostRuntime) -> Result<(), Fail> {
     let alloc = rt.alloc();
     let scenario = Arc::new(alloc, read_script(alloc, SCRIPT)?)?;
-    let whole = Histories::of(alloc, &[])?;
     let configs = Configs::of(&scenario)?;
-    let books = whole.books(alloc, &configs, [0, 1, 2])?;
-    let merge = merged(alloc, &scenario, books.as_slice())?;
-    assert!(rt;
-        merge.differs.is_none() && has_all(&merge),
-        "nothing differs"
-    );
-    for (wrong, first) in CASES {
-        let histories = Histories::of(alloc, wrong)?;
-        let books = histories.books(alloc, &configs, [0, 1, 2])?;
-        let merge = merged(alloc, &scenario, books.as_slice())?;
-        assert!(rt; first < ROWS.len());
-        let told = is_told(&merge, &ROWS[first], wrong);
-        assert!(rt; told && has_all(&merge), "{first}");
-    }
+    let differs_nowhere = differs_nowhere(alloc, &scenario, &configs)?;
+    let other = first_other(alloc, &scenario, &configs)?;
+    assert!(rt; differs_nowhere, "nothing differs");
+    assert_eq!(rt; other, None);
     Ok(())
+}
+
+/// Whether nothing differs where no row is wrong.
+fn differs_nowhere(
+    alloc: Global,
+    scenario: &Arc<Scenario>,
+    configs: &Configs,
+) -> Result<bool, Memory> {
+    let merge = merge_of(alloc, scenario, configs, [0, 1, 2], &[])?;
+    Ok(merge.differs.is_none() && has_all(&merge))
+}
+
+/// The number of the first case that is told otherwise.
+fn first_other(
+    alloc: Global,
+    scenario: &Arc<Scenario>,
+    configs: &Configs,
+) -> Result<Option<usize>, Memory> {
+    for (number, (wrong, first)) in CASES.iter().enumerate() {
+        let merge = merge_of(alloc, scenario, configs, [0, 1, 2], wrong)?;
+        if !is_case(&merge, wrong, *first) {
+            return Ok(Some(number));
+        }
+    }
+    Ok(None)
+}
+
+/// Whether the row of a case is the first that differs, and the steps are those of all rows.
+fn is_case(merge: &Merged, wrong: &[(usize, Wrong)], first: usize) -> bool {
+    first < ROWS.len() && is_told(merge, &ROWS[first], wrong) && has_all(merge)
 }
 
 /// Whether the steps are those of all rows, in their order.

@@ -270,12 +270,21 @@ fn packet(
     })
 }
 
-/// The merge of books; want of memory where they are not as many as the scenario has nodes.
-pub fn merged(
+/// The merge of what the rows say, where some are wrong, in books with these configurations and numbers.
+pub fn merge_of(
     alloc: Global,
     scenario: &Arc<Scenario>,
-    books: &[Book<'_>],
+    configs: &Configs,
+    numbers: [u32; 3],
+    wrong: &[(usize, Wrong)],
 ) -> Result<Merged, Memory> {
+    let histories = Histories::of(alloc, wrong)?;
+    let books = histories.books(alloc, configs, numbers)?;
+    merged(alloc, scenario, books.as_slice())
+}
+
+/// The merge of books; want of memory where they are not as many as the scenario has nodes.
+fn merged(alloc: Global, scenario: &Arc<Scenario>, books: &[Book<'_>]) -> Result<Merged, Memory> {
     if books.len() == nodes_of(scenario) {
         merge_books(alloc, scenario, books)
     } else {

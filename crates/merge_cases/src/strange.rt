@@ -1,5 +1,5 @@
 //! Books that are not those of their places.
-use crate::run::{Configs, Histories, SCRIPT, merged};
+use crate::run::{Configs, SCRIPT, merge_of};
 use geo_base::Memory;
 use merge_history::{Difference, Merged};
 use script_text::{Scenario, read_script};
@@ -12,7 +12,9 @@ const OTHER: &[u8] = b"geo 1\ncluster a\ncluster b\ntopic t\nclient q t a\n";
 
 /// The books' numbers by place, which of them keeps the other script, the first strange place with the number of the book there,
 /// and how many steps are left.
-const CASES: [([u32; 3], u32, u32, u32, usize); 5] = [
+type Case = ([u32; 3], u32, u32, u32, usize);
+
+const CASES: [Case; 5] = [
     ([0, 1, 2], 0, 0, 0, 4),
     ([0, 1, 2], 1, 1, 1, 6),
     ([0, 1, 2], 2, 2, 2, 6),
@@ -25,19 +27,37 @@ fn the_first_strange_book_is_told(rt: HostRuntime) -> Result<(), Fail> {
     let alloc = rt.alloc();
     let scenario = Arc::new(alloc, read_script(alloc, SCRIPT)?)?;
     let other = Arc::new(alloc, read_script(alloc, OTHER)?)?;
-    for (numbers, keeps_other, first, number, steps) in CASES {
-        let configs = configs_of(&scenario, &other, keeps_other)?;
-        let whole = Histories::of(alloc, &[])?;
-        let books = whole.books(alloc, &configs, numbers)?;
-        let merge = merged(alloc, &scenario, books.as_slice())?;
-        assert_eq!(rt; merge.steps.len(), steps, "{first}");
-        let kept = if keeps_other < 3 { &other } else { &scenario };
-        assert!(rt;
-            is_told(alloc, &merge, first, number, kept, &scenario)?,
-            "{first}"
-        );
-    }
+    let wrong = first_other(alloc, &scenario, &other)?;
+    assert_eq!(rt; wrong, None);
     Ok(())
+}
+
+/// The number of the first case that is told otherwise.
+fn first_other(
+    alloc: Global,
+    scenario: &Arc<Scenario>,
+    other: &Arc<Scenario>,
+) -> Result<Option<usize>, Memory> {
+    for (number, case) in CASES.iter().enumerate() {
+        if !is_case(alloc, scenario, other, case)? {
+            return Ok(Some(number));
+        }
+    }
+    Ok(None)
+}
+
+/// Whether the first strange book of a case is told, and so many steps are left.
+fn is_case(
+    alloc: Global,
+    scenario: &Arc<Scenario>,
+    other: &Arc<Scenario>,
+    case: &Case,
+) -> Result<bool, Memory> {
+    let (numbers, keeps_other, first, number, steps) = *case;
+    let configs = configs_of(scenario, other, keeps_other)?;
+    let merge = merge_of(alloc, scenario, &configs, numbers, &[])?;
+    let kept = if keeps_other < 3 { other } else { scenario };
+    Ok(merge.steps.len() == steps && is_told(alloc, &merge, first, number, kept, scenario)?)
 }
 
 /// The first scenario at all nodes but one.

@@ -126,19 +126,21 @@ fn calls_leave_their_ranges(rt: HostRuntime) -> Result<(), Fail> {
     Ok(())
 }
 
+/// What a cursor that has all of five entries answers to an acknowledgement of index 5, and what it then says.
+fn past_the_end(alloc: Global) -> Result<(Result<(), PastEnd>, String), Memory> {
+    let mut cursor = Cursor::all(alloc, 5)?;
+    cursor.reserve(1)?;
+    let answer = cursor.ack_one(5, 5);
+    Ok((answer, said(alloc, &cursor)?))
+}
+
 #[test]
 fn latest_and_past_the_end(rt: HostRuntime) -> Result<(), Fail> {
-    let most = Cursor::all(rt.alloc(), u64::MAX)?;
-    assert_eq!(rt; most.next_open(7), u64::MAX);
-    let mut cursor = Cursor::all(rt.alloc(), 5)?;
-    cursor.reserve(1)?;
-    assert!(rt; cursor.spare() >= 1);
-    let past = Err(PastEnd { index: 5, len: 5 });
-    assert_eq!(rt; cursor.ack_one(5, 5), past);
-    assert_eq!(rt;
-        said(rt.alloc(), &cursor)?.as_str(),
-        "0-4 mark 5 open 5 5 5"
-    );
+    let most = Cursor::all(rt.alloc(), u64::MAX)?.next_open(7);
+    assert_eq!(rt; most, u64::MAX);
+    let (answer, said) = past_the_end(rt.alloc())?;
+    assert_eq!(rt; answer, Err(PastEnd { index: 5, len: 5 }));
+    assert_eq!(rt; said.as_str(), "0-4 mark 5 open 5 5 5");
     Ok(())
 }
 

@@ -182,6 +182,15 @@ struct Served {
 }
 
 impl Served {
+    fn new(alloc: Global) -> Result<Served, Memory> {
+        let store = topic(alloc)?;
+        Ok(Served {
+            dispatcher: Dispatcher::new(alloc, PlainPick),
+            cursor: Cursor::none(alloc),
+            store,
+        })
+    }
+
     /// What an offer answers; `next_offer` answers the same before it.
     fn offer(&mut self, alloc: Global) -> Result<String, Memory> {
         let mut text = String::new(alloc);
@@ -271,23 +280,24 @@ impl Served {
         }
         Ok(text)
     }
+
+    /// The words that calls answer, with a space between two.
+    fn words(&mut self, alloc: Global, calls: &[Call]) -> Result<String, Memory> {
+        let mut text = String::new(alloc);
+        for call in calls {
+            if !text.is_empty() {
+                text.push_str(" ")?;
+            }
+            text.push_str(self.word(alloc, call)?.as_str())?;
+        }
+        Ok(text)
+    }
 }
 
-/// The words that calls answer, with a space between two.
+/// The words that calls on a new dispatcher answer.
 fn said(alloc: Global, calls: &[Call]) -> Result<String, Memory> {
-    let mut text = String::new(alloc);
-    let mut served = Served {
-        dispatcher: Dispatcher::new(alloc, PlainPick),
-        cursor: Cursor::none(alloc),
-        store: topic(alloc)?,
-    };
-    for call in calls {
-        if !text.is_empty() {
-            text.push_str(" ")?;
-        }
-        text.push_str(served.word(alloc, call)?.as_str())?;
-    }
-    Ok(text)
+    let mut served = Served::new(alloc)?;
+    served.words(alloc, calls)
 }
 
 #[test]

@@ -92,25 +92,58 @@ const TABLE: [Row; 7] = [
     },
 ];
 
-#[test]
-fn checks_are_by_origin_and_producer(rt: HostRuntime) -> Result<(), Fail> {
-    let alloc = rt.alloc();
+/// What a table says of a row's message.
+fn said(alloc: Global, table: &DedupTable, row: &Row) -> Result<Verdict, Memory> {
+    let checked = stream(alloc, row.origin, row.producer)?;
+    Ok(table.check(&checked, row.seq))
+}
+
+/// A table that has 3 of producer p at cluster 0.
+fn noted(alloc: Global) -> Result<DedupTable, Memory> {
     let mut table = DedupTable::new(alloc);
-    let p = stream(alloc, 0, "p")?;
-    assert!(rt; table.check(&p, 3) == Verdict::New);
     table.reserve(1)?;
-    table.note(p, 3);
+    table.note(stream(alloc, 0, "p")?, 3);
+    Ok(table)
+}
+
+/// The table of a topic with 1, 2, 3 of p and 0 of q.
+fn rebuilt(alloc: Global) -> Result<DedupTable, Memory> {
     let mut topic = TopicLedger::new(alloc, 2)?;
     for seq in 1..4 {
         store(alloc, &mut topic, stream(alloc, 0, "p")?, seq)?;
     }
     store(alloc, &mut topic, stream(alloc, 0, "q")?, 0)?;
-    let rebuilt = DedupTable::rebuild(alloc, &topic)?;
+    DedupTable::rebuild(alloc, &topic)
+}
+
+/// Whether a table says of each row what it is to say.
+fn is_as_told(alloc: Global, table: &DedupTable) -> Result<bool, Memory> {
     for row in TABLE.iter() {
-        let checked = stream(alloc, row.origin, row.producer)?;
-        assert!(rt; table.check(&checked, row.seq) == row.says);
-        assert!(rt; rebuilt.check(&checked, row.seq) == row.says);
+        if said(alloc, table, row)? != row.says {
+            return Ok(false);
+        }
     }
+    Ok(true)
+}
+
+#[test]
+fn checks_are_by_origin_and_producer(rt: HostRuntime) -> Result<(), Fail> {
+    let alloc = rt.alloc();
+    let table = noted(alloc)?;
+    let is_noted = is_as_told(alloc, &table);
+    drop(table);
+    assert!(rt; is_noted?);
+    let table = rebuilt(alloc)?;
+    let is_rebuilt = is_as_told(alloc, &table);
+    drop(table);
+    assert!(rt; is_rebuilt?);
+    Ok(())
+}
+
+#[test]
+fn a_new_table_has_nothing(rt: HostRuntime) -> Result<(), Fail> {
+    let says = said(rt.alloc(), &DedupTable::new(rt.alloc()), &TABLE[0])?;
+    assert!(rt; says == Verdict::New);
     Ok(())
 }
 
@@ -129,33 +162,71 @@ fn accepts<S: EntryStore>(topic: &S, stream: &Stream, seq: u64) -> bool {
     true
 }
 
+/// A random stream, one of six.
+fn random_stream(alloc: Global, random: &mut Pcg32) -> Result<Stream, Memory> {
+    let producer = if random.next_word() % 2 == 0 {
+        "p"
+    } else {
+        "q"
+    };
+    stream(alloc, random.next_word() % 3, producer)
+}
+
+/// A topic and its table.
+#[derive(Drop)]
+struct Tables {
+    table: DedupTable,
+    topic: TopicLedger,
+}
+
+impl Tables {
+    fn new(alloc: Global) -> Result<Tables, Memory> {
+        Ok(Tables {
+            table: DedupTable::new(alloc),
+            topic: TopicLedger::new(alloc, 3)?,
+        })
+    }
+
+    /// Whether the table, one rebuilt and a search of the topic agree on a message.
+    fn agree(&self, alloc: Global, message: &Stream, seq: u64) -> Result<bool, Memory> {
+        let verdict = self.table.check(message, seq);
+        let is_new = accepts(&self.topic, message, seq);
+        let again = DedupTable::rebuild(alloc, &self.topic)?.check(message, seq);
+        Ok((verdict == Verdict::New) == is_new && again == verdict)
+    }
+
+    /// Notes and stores a message that is new.
+    fn take(&mut self, alloc: Global, message: Stream, seq: u64) -> Result<(), Memory> {
+        if let Verdict::New = self.table.check(&message, seq) {
+            let copy = stream(alloc, message.origin, message.producer.as_str())?;
+            self.table.reserve(1)?;
+            self.table.note(message, seq);
+            store(alloc, &mut self.topic, copy, seq)?;
+        }
+        Ok(())
+    }
+
+    /// Whether they agree on each of 40 random messages.
+    fn agree_on_all(&mut self, alloc: Global, random: Pcg32) -> Result<bool, Memory> {
+        let mut random = random;
+        for _ in 0..40 {
+            let message = random_stream(alloc, &mut random)?;
+            let seq = (random.next_word() % 12) as u64;
+            if !self.agree(alloc, &message, seq)? {
+                return Ok(false);
+            }
+            self.take(alloc, message, seq)?;
+        }
+        Ok(true)
+    }
+}
+
 /// Whether a table, one rebuilt and a search of the topic agree on each of 40 random messages.
 fn are_same_checks(alloc: Global, seed: u64) -> Result<bool, Memory> {
-    let mut random = Pcg32::new(seed, 7);
-    let mut table = DedupTable::new(alloc);
-    let mut topic = TopicLedger::new(alloc, 3)?;
-    for _ in 0..40 {
-        let origin = random.next_word() % 3;
-        let producer = if random.next_word() % 2 == 0 {
-            "p"
-        } else {
-            "q"
-        };
-        let seq = (random.next_word() % 12) as u64;
-        let message = stream(alloc, origin, producer)?;
-        let is_new = accepts(&topic, &message, seq);
-        let verdict = table.check(&message, seq);
-        let rebuilt = DedupTable::rebuild(alloc, &topic)?;
-        if (verdict == Verdict::New) != is_new || rebuilt.check(&message, seq) != verdict {
-            return Ok(false);
-        }
-        if let Verdict::New = verdict {
-            table.reserve(1)?;
-            table.note(message, seq);
-            store(alloc, &mut topic, stream(alloc, origin, producer)?, seq)?;
-        }
-    }
-    Ok(true)
+    let mut tables = Tables::new(alloc)?;
+    let agree = tables.agree_on_all(alloc, Pcg32::new(seed, 7));
+    drop(tables);
+    agree
 }
 
 #[test]

@@ -128,6 +128,28 @@ fn with_consumers(
     Ok(dispatcher)
 }
 
+/// Offers the next message, and adds to a text who is given it.
+fn add_given(
+    text: &mut String,
+    dispatcher: &mut Dispatcher<KeyPick>,
+    store: &ListStore,
+    cursor: &Cursor,
+    keys: &[Option<&'static str>],
+) -> Result<(), Memory> {
+    let due = dispatcher.least_due(store, cursor).unwrap_or(u64::MAX);
+    let key = key_at(keys, due as usize);
+    dispatcher.reserve(1)?;
+    match dispatcher.offer(store, cursor, key) {
+        Offer::Data(_index, client, _id) => {
+            let number = key_number(key);
+            write!(text, "{client}:{number} ")?
+        }
+        Offer::Marker(index) => write!(text, "marker {index} ")?,
+        Offer::Idle => text.push_str("idle ")?,
+    }
+    Ok(())
+}
+
 /// Who is given what, with one offer more than there are messages.
 fn given(alloc: Global, row: &Row) -> Result<String, Memory> {
     let mut text = String::new(alloc);
@@ -135,17 +157,7 @@ fn given(alloc: Global, row: &Row) -> Result<String, Memory> {
     let cursor = Cursor::none(alloc);
     let mut dispatcher = with_consumers(alloc, row.kind, row.clients)?;
     for _offer in 0..=row.keys.len() {
-        let due = dispatcher.least_due(&store, &cursor).unwrap_or(u64::MAX);
-        let key = key_at(row.keys, due as usize);
-        dispatcher.reserve(1)?;
-        match dispatcher.offer(&store, &cursor, key) {
-            Offer::Data(_index, client, _id) => {
-                let number = key_number(key);
-                write!(&mut text, "{client}:{number} ")?
-            }
-            Offer::Marker(index) => write!(&mut text, "marker {index} ")?,
-            Offer::Idle => text.push_str("idle ")?,
-        }
+        add_given(&mut text, &mut dispatcher, &store, &cursor, row.keys)?;
     }
     Ok(text)
 }

@@ -1,4 +1,6 @@
 //! Stores of a topic.
+ghost use Rattle.std.specs.Prelude.{◌<◌};
+
 use geo_base::{
     Blob, Content, Entry, EntryStore, Ident, Memory, Metadata, Position, ProducerName, Targets,
 };
@@ -110,20 +112,25 @@ fn said<S: EntryStore>(alloc: Global, store: &mut S, steps: &[Step]) -> Result<S
             Err(_) => return Err(AllocError),
         }
     }
+    add_ends(&mut text, store)?;
+    Ok(text)
+}
+
+fn add_ends<S: EntryStore>(text: &mut String, store: &S) -> Result<(), AllocError> {
     let Position { ledger, entry } = store.next();
-    write!(&mut text, "next {ledger}:{entry} last ")?;
+    write!(text, "next {ledger}:{entry} last ")?;
     match store.last() {
-        Some(Position { ledger, entry }) => write!(&mut text, "{ledger}:{entry} ")?,
-        None => write!(&mut text, "none ")?,
+        Some(Position { ledger, entry }) => write!(text, "{ledger}:{entry} ")?,
+        None => write!(text, "none ")?,
     }
     match store.index_of(Position {
         ledger: 1,
         entry: 1,
     }) {
-        Some(index) => write!(&mut text, "1:1 {index}")?,
-        None => write!(&mut text, "1:1 none")?,
+        Some(index) => write!(text, "1:1 {index}")?,
+        None => write!(text, "1:1 none")?,
     }
-    Ok(text)
+    Ok(())
 }
 
 /// The store of what another one is made of.
@@ -132,19 +139,40 @@ fn taken_apart(alloc: Global, per_ledger: u64, ledger: TopicLedger) -> Result<To
     TopicLedger::from_parts(alloc, per_ledger, lengths.as_slice(), entries)
 }
 
+/// What a plain store says behind steps.
+fn plain_said(alloc: Global, per_ledger: u64, steps: &[Step]) -> Result<String, Memory>
+    requires { 0 < per_ledger }
+{
+    let mut plain = ListStore::new(alloc, per_ledger)?;
+    Ok(said(alloc, &mut plain, steps)?)
+}
+
+/// What a ledger says behind steps, where the store of what a copy of it is made of is like it; `differs` where it is not.
+fn ledger_said(alloc: Global, per_ledger: u64, steps: &[Step]) -> Result<String, Memory>
+    requires { 0 < per_ledger }
+{
+    let mut ledger = TopicLedger::new(alloc, per_ledger)?;
+    let mut text = said(alloc, &mut ledger, steps)?;
+    let again = taken_apart(alloc, per_ledger, ledger.copy(alloc)?)?;
+    if again.next() != ledger.next()
+        || again.last() != ledger.last()
+        || again.len() != ledger.len()
+        || again.ledgers() != ledger.ledgers()
+    {
+        text.push_str(" differs")?;
+    }
+    Ok(text)
+}
+
 #[test]
 fn steps_give_their_positions(rt: HostRuntime) -> Result<(), Fail> {
     let alloc = rt.alloc();
     for row in TABLE.iter() {
         assert!(rt; row.per_ledger > 0);
-        let mut plain = ListStore::new(alloc, row.per_ledger)?;
-        assert_eq!(rt; said(alloc, &mut plain, row.steps)?.as_str(), row.said);
-        let mut ledger = TopicLedger::new(alloc, row.per_ledger)?;
-        assert_eq!(rt; said(alloc, &mut ledger, row.steps)?.as_str(), row.said);
-        assert!(rt; ledger.copy(alloc)?.next() == ledger.next());
-        let again = taken_apart(alloc, row.per_ledger, ledger.copy(alloc)?)?;
-        assert!(rt; again.next() == ledger.next() && again.last() == ledger.last());
-        assert!(rt; again.len() == ledger.len() && again.ledgers() == ledger.ledgers());
+        let plain = plain_said(alloc, row.per_ledger, row.steps)?;
+        assert_eq!(rt; plain.as_str(), row.said);
+        let ledger = ledger_said(alloc, row.per_ledger, row.steps)?;
+        assert_eq!(rt; ledger.as_str(), row.said);
     }
     Ok(())
 }
@@ -170,6 +198,37 @@ fn are_alike(plain: &ListStore, ledger: &TopicLedger, index: usize, at: Position
         && plain.index_of(at) == ledger.index_of(at)
 }
 
+/// A random step, every second a message.
+fn random_step(random: &mut Pcg32) -> Step {
+    match random.next_word() % 4 {
+        0 => Step::Open,
+        1 => Step::Marker,
+        _ => Step::Message,
+    }
+}
+
+/// One random step on both, and whether they answer alike then.
+fn is_same_step(
+    alloc: Global,
+    random: &mut Pcg32,
+    plain: &mut ListStore,
+    ledger: &mut TopicLedger,
+) -> Result<bool, Memory> {
+    let step = random_step(random);
+    let alike = done(alloc, plain, step)? == done(alloc, ledger, step)?;
+    let index = (random.next_word() % 30) as usize;
+    let at = Position {
+        ledger: (random.next_word() % 20) as u64,
+        entry: (random.next_word() % 4) as u64,
+    };
+    let end = index.min(ledger.len());
+    Ok(
+        alike
+            && are_alike(plain, ledger, index, at)
+            && ledger.messages_before(end) == counted(ledger, end),
+    )
+}
+
 /// Whether a plain store and a ledger answer alike after each of 40 random steps.
 fn are_same_steps(alloc: Global, seed: u64) -> Result<bool, Memory> {
     let mut random = Pcg32::new(seed, 7);
@@ -177,23 +236,7 @@ fn are_same_steps(alloc: Global, seed: u64) -> Result<bool, Memory> {
     let mut plain = ListStore::new(alloc, per_ledger)?;
     let mut ledger = TopicLedger::new(alloc, per_ledger)?;
     for _ in 0..40 {
-        let step = match random.next_word() % 4 {
-            0 => Step::Open,
-            1 => Step::Marker,
-            _ => Step::Message,
-        };
-        let index = (random.next_word() % 30) as usize;
-        let at = Position {
-            ledger: (random.next_word() % 20) as u64,
-            entry: (random.next_word() % 4) as u64,
-        };
-        if done(alloc, &mut plain, step)? != done(alloc, &mut ledger, step)?
-            || !are_alike(&plain, &ledger, index, at)
-        {
-            return Ok(false);
-        }
-        let end = index.min(ledger.len());
-        if ledger.messages_before(end) != counted(&ledger, end) {
+        if !is_same_step(alloc, &mut random, &mut plain, &mut ledger)? {
             return Ok(false);
         }
     }

@@ -300,8 +300,8 @@ impl Sending {
 
 /// What a new sender answers to calls, with a space between two words.
 fn said(alloc: Global, calls: &[Call]) -> Result<String, Memory> {
-    let mut text = String::new(alloc);
     let mut sending = Sending::new(alloc)?;
+    let mut text = String::new(alloc);
     for call in calls {
         if !text.is_empty() {
             text.push_str(" ")?;
@@ -412,7 +412,6 @@ fn random_call(random: &mut Pcg32, session: u64) -> Call {
 
 /// Whether a sender and a plain one answer the same to 60 random calls.
 fn are_same_answers(alloc: Global, seed: u64) -> Result<bool, Memory> {
-    let mut random = Pcg32::new(seed, 7);
     let mut sending = Sending::new(alloc)?;
     let mut plain = Plain {
         session: 0,
@@ -422,6 +421,11 @@ fn are_same_answers(alloc: Global, seed: u64) -> Result<bool, Memory> {
         pending: Vec::new(alloc),
         acked: [false; 7],
     };
+    answer_alike(&mut sending, &mut plain, Pcg32::new(seed, 7))
+}
+
+fn answer_alike(sending: &mut Sending, plain: &mut Plain, random: Pcg32) -> Result<bool, Memory> {
+    let mut random = random;
     for _ in 0..60 {
         let call = random_call(&mut random, plain.session);
         if sending.answer(call)? != plain.answer(call)?

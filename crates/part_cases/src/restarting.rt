@@ -215,50 +215,73 @@ fn add_durable(text: &mut String, durable: &Durable) -> Result<(), Memory> {
 }
 
 /// What a start has of producer p of cluster 0, and the number of the next marker.
-fn add_recovered(alloc: Global, text: &mut String, durable: &Durable) -> Result<(), Memory> {
-    let recovered = recover(alloc, durable)?;
+fn recovered(alloc: Global, durable: &Durable) -> Result<(Verdict, u64), Memory> {
     let p = Stream::of(alloc, &ident(alloc, 0, "p", 0)?)?;
-    match recovered.dedup.check(&p, 0) {
+    let recovered = recover(alloc, durable)?;
+    Ok((recovered.dedup.check(&p, 0), recovered.next_marker))
+}
+
+fn add_recovered(alloc: Global, text: &mut String, durable: &Durable) -> Result<(), Memory> {
+    let (verdict, marker) = recovered(alloc, durable)?;
+    match verdict {
         Verdict::New => text.push_str("; p new")?,
         Verdict::Seen(highest) => write!(text, "; p {highest}")?,
     }
-    let marker = recovered.next_marker;
     write!(text, ", marker {marker}")?;
     Ok(())
 }
 
-/// A copy of what is durable, part by part.
-fn copied(alloc: Global, durable: Durable) -> Result<Durable, Memory> {
-    let mut subs = DurableSubs::new(alloc);
-    for sub in durable.subs.into_vec() {
-        if subs.named(&sub.name).is_none() {
-            subs.add(sub.copy(alloc)?)?;
+fn copied_subs(alloc: Global, subs: DurableSubs) -> Result<DurableSubs, Memory> {
+    let mut copied = DurableSubs::new(alloc);
+    for sub in subs.into_vec() {
+        if copied.named(&sub.name).is_none() {
+            copied.add(sub.copy(alloc)?)?;
         }
     }
-    let mut senders = Vec::new(alloc);
-    for sender in durable.senders.into_vec() {
-        senders.reserve(1)?;
-        senders.push_reserved(sender.copy(alloc)?);
+    Ok(copied)
+}
+
+fn copied_senders(alloc: Global, senders: DurableSenders) -> Result<DurableSenders, Memory> {
+    let mut copied = Vec::new(alloc);
+    for sender in senders.into_vec() {
+        copied.reserve(1)?;
+        copied.push_reserved(sender.copy(alloc)?);
     }
+    Ok(DurableSenders::from_vec(copied))
+}
+
+/// A copy of what is durable, part by part.
+fn copied(alloc: Global, durable: Durable) -> Result<Durable, Memory> {
     Ok(Durable {
         own: durable.own,
+        subs: copied_subs(alloc, durable.subs)?,
+        senders: copied_senders(alloc, durable.senders)?,
         store: durable.store,
-        subs,
-        senders: DurableSenders::from_vec(senders),
     })
+}
+
+/// Does some writes, one after another.
+fn write_all(alloc: Global, durable: &mut Durable, writes: &[Told]) -> Result<(), Fail> {
+    for told in writes {
+        apply_write(alloc, durable, write(alloc, told)?)?;
+    }
+    Ok(())
+}
+
+/// The words that say what is durable.
+fn words(alloc: Global, durable: &Durable) -> Result<String, Memory> {
+    let mut text = String::new(alloc);
+    add_durable(&mut text, durable)?;
+    add_recovered(alloc, &mut text, durable)?;
+    Ok(text)
 }
 
 /// What some writes leave.
 fn said(alloc: Global, writes: &[Told]) -> Result<String, Fail> {
     let mut durable = Durable::new(alloc, 1, 3, 2)?;
-    for told in writes {
-        apply_write(alloc, &mut durable, write(alloc, told)?)?;
-    }
+    write_all(alloc, &mut durable, writes)?;
     let durable = copied(alloc, durable)?;
-    let mut text = String::new(alloc);
-    add_durable(&mut text, &durable)?;
-    add_recovered(alloc, &mut text, &durable)?;
-    Ok(text)
+    Ok(words(alloc, &durable)?)
 }
 
 #[test]

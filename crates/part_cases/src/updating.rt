@@ -115,28 +115,51 @@ fn topic(alloc: Global, stored: &[Stored]) -> Result<ListStore, Memory> {
     Ok(store)
 }
 
-/// The places that an update needs, whether it names an index past the end, and the cursor's ranges and mark-delete then.
-fn said(alloc: Global, row: &Row) -> Result<String, Memory> {
-    let mut text = String::new(alloc);
-    let store = topic(alloc, row.topic)?;
+/// A cursor that has some indexes of a topic of so many entries.
+fn acked(alloc: Global, indexes: &[u64], len: u64) -> Result<Cursor, Memory> {
     let mut cursor = Cursor::none(alloc);
-    for index in row.acked {
+    for index in indexes {
         cursor.reserve(1)?;
-        let _acked = cursor.ack_one(*index, store.len() as u64);
+        let _acked = cursor.ack_one(*index, len);
     }
-    let places = runs(&cursor, &store, row.index, row.from);
+    Ok(cursor)
+}
+
+/// Updates a cursor, and adds to a text how many places that needs, and whether it names an index past the end.
+fn add_update(
+    text: &mut String,
+    cursor: &mut Cursor,
+    store: &ListStore,
+    row: &Row,
+) -> Result<(), Memory> {
+    let places = runs(cursor, store, row.index, row.from);
     cursor.reserve(places)?;
-    write!(&mut text, "{places}: ")?;
-    if apply(&mut cursor, &store, row.index, row.from).is_err() {
+    write!(text, "{places}: ")?;
+    if apply(cursor, store, row.index, row.from).is_err() {
         text.push_str("past ")?;
     }
+    Ok(())
+}
+
+/// Adds a cursor's ranges and its mark-delete.
+fn add_cursor(text: &mut String, cursor: &Cursor) -> Result<(), Memory> {
     for range in cursor.ranges().iter() {
         let first = range.first;
         let last = range.last;
-        write!(&mut text, "{first}-{last} ")?;
+        write!(text, "{first}-{last} ")?;
     }
     let mark = cursor.mark_delete();
-    write!(&mut text, "mark {mark}")?;
+    write!(text, "mark {mark}")?;
+    Ok(())
+}
+
+/// What an update does, and what the cursor has then.
+fn said(alloc: Global, row: &Row) -> Result<String, Memory> {
+    let mut text = String::new(alloc);
+    let store = topic(alloc, row.topic)?;
+    let mut cursor = acked(alloc, row.acked, store.len() as u64)?;
+    add_update(&mut text, &mut cursor, &store, row)?;
+    add_cursor(&mut text, &cursor)?;
     Ok(text)
 }
 

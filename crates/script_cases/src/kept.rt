@@ -1,7 +1,8 @@
 //! What is kept of an accepted script.
 use crate::STORY;
 use geo_base::{Event, Line, Step, SubKind, Targets};
-use script_text::{Chance, read_script};
+use script_text::{Chance, Scenario, read_script};
+use std::process::Abort;
 use std::test::Fail;
 
 /// Clients of one topic that name subscriptions, the second client first.
@@ -13,6 +14,13 @@ do q sub y exclusive latest local\ndo p sub z exclusive latest local\noffer t b 
 #[test]
 fn subscriptions_are_numbered_by_clients(rt: HostRuntime) -> Result<(), Fail> {
     let scenario = read_script(rt.alloc(), THREE_NAMES)?;
+    have_names(&rt, &scenario);
+    have_one_offer(&rt, &scenario);
+    Ok(())
+}
+
+/// The subscriptions of each topic by their numbers, and no further ones.
+fn have_names(rt: &impl Abort, scenario: &Scenario) {
     let names = [
         (0, 0, "y"),
         (0, 1, "z"),
@@ -28,6 +36,10 @@ fn subscriptions_are_numbered_by_clients(rt: HostRuntime) -> Result<(), Fail> {
         };
         assert_eq!(rt; name, expected);
     }
+}
+
+/// The one step, an offer of the last of them.
+fn have_one_offer(rt: &impl Abort, scenario: &Scenario) {
     let offer = Event::Offer {
         topic: 0,
         cluster: 1,
@@ -36,12 +48,17 @@ fn subscriptions_are_numbered_by_clients(rt: HostRuntime) -> Result<(), Fail> {
     assert_eq!(rt; scenario.steps().len(), 1);
     assert!(rt; scenario.steps().at(0) == Step::Plain(offer));
     assert_eq!(rt; scenario.first_event(), Some(12));
-    Ok(())
 }
 
 #[test]
 fn declarations_are_kept(rt: HostRuntime) -> Result<(), Fail> {
     let scenario = read_script(rt.alloc(), STORY)?;
+    have_declarations(&rt, &scenario);
+    have_nodes(&rt, &scenario);
+    Ok(())
+}
+
+fn have_declarations(rt: &impl Abort, scenario: &Scenario) {
     assert_eq!(rt; scenario.per_ledger(), 7);
     let chance = Chance {
         number: 4_294_967_295,
@@ -51,6 +68,9 @@ fn declarations_are_kept(rt: HostRuntime) -> Result<(), Fail> {
     };
     assert_eq!(rt; scenario.chance(), Some(chance));
     assert_eq!(rt; scenario.first_event(), Some(25));
+}
+
+fn have_nodes(rt: &impl Abort, scenario: &Scenario) {
     let clusters = scenario.clusters();
     assert_eq!(rt; clusters.len(), 3);
     assert_eq!(rt; clusters[2].as_str(), "c");
@@ -59,7 +79,6 @@ fn declarations_are_kept(rt: HostRuntime) -> Result<(), Fail> {
     assert_eq!(rt; clients.len(), 2);
     assert_eq!(rt; clients[1].name().as_str(), "q");
     assert_eq!(rt; (clients[1].topic(), clients[1].cluster()), (0, 2));
-    Ok(())
 }
 
 #[test]
@@ -67,11 +86,17 @@ fn lines_of_a_client_are_kept(rt: HostRuntime) -> Result<(), Fail> {
     let scenario = read_script(rt.alloc(), STORY)?;
     let clients = scenario.clients();
     assert_eq!(rt; clients.len(), 2);
+    are_of_the_producer(&rt, clients[0].lines());
+    are_of_the_consumer(&rt, clients[1].lines());
+    Ok(())
+}
+
+fn are_of_the_producer(rt: &impl Abort, lines: &[Line]) {
     let [
         Line::Produce,
         Line::Pub { seq, to, key, text },
         Line::CloseProducer,
-    ] = clients[0].lines()
+    ] = lines
     else {
         panic!(rt; "other lines of p");
     };
@@ -81,6 +106,9 @@ fn lines_of_a_client_are_kept(rt: HostRuntime) -> Result<(), Fail> {
         panic!(rt; "no key");
     };
     assert_eq!(rt; key.as_str(), "k_1");
+}
+
+fn are_of_the_consumer(rt: &impl Abort, lines: &[Line]) {
     let [
         Line::Sub {
             sub,
@@ -96,7 +124,7 @@ fn lines_of_a_client_are_kept(rt: HostRuntime) -> Result<(), Fail> {
         Line::Unsub,
         Line::Close,
         Line::Ping,
-    ] = clients[1].lines()
+    ] = lines
     else {
         panic!(rt; "other lines of q");
     };
@@ -105,5 +133,4 @@ fn lines_of_a_client_are_kept(rt: HostRuntime) -> Result<(), Fail> {
     assert_eq!(rt; acked.producer.as_str(), "p");
     assert_eq!(rt; (up_to.origin, up_to.seq), (0, 0));
     assert_eq!(rt; up_to.producer.as_str(), "q");
-    Ok(())
 }

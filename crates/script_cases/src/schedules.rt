@@ -52,10 +52,24 @@ fn schedules_are_read_and_written_the_same(rt: HostRuntime) -> Result<(), Fail> 
     assert_eq!(rt; steps.len(), 19);
     let text = write_schedule(rt.alloc(), &scenario, &steps)?;
     assert_eq!(rt; text.as_slice(), SCHEDULE);
+    Ok(())
+}
+
+/// The first of the schedules that is answered otherwise than its row says.
+fn first_other(alloc: Global, scenario: &Scenario) -> Result<Option<&'static str>, AllocError> {
     for (schedule, line, rule) in CASES {
-        assert!(rt; schedule.len() < 1_000);
-        let answered = answer(rt.alloc(), &scenario, schedule.as_bytes())?;
-        assert_eq!(rt; answered, (line, rule), "{schedule}");
+        if schedule.len() >= 1_000
+            || answer(alloc, scenario, schedule.as_bytes())? != (line, rule)
+        {
+            return Ok(Some(schedule));
+        }
     }
+    Ok(None)
+}
+
+#[test]
+fn schedules_are_judged(rt: HostRuntime) -> Result<(), Fail> {
+    let scenario = read_script(rt.alloc(), STORY)?;
+    assert_eq!(rt; first_other(rt.alloc(), &scenario)?, None);
     Ok(())
 }

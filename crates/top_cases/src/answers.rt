@@ -1,11 +1,10 @@
 //! What the program answers.
 ghost use Rattle.std.specs.Prelude.{◌<◌};
 
-use crate::asked::{answered, ended};
+use crate::asked::{ended, is_answered};
 use geo_io::{MemSink, MemSource};
 use geo_top::Status;
 use std::alloc::Global;
-use std::process::Abort;
 use std::test::Fail;
 
 /// What `run` does with a script and a sink, read so many bytes at a time.
@@ -66,32 +65,28 @@ fn bad_scripts_are_refused_at_their_first_bad_line(rt: HostRuntime) -> Result<()
         ),
     ];
     for (script, line) in scripts {
-        let mut sink = open_sink(rt.alloc())?;
-        let status = run(rt.alloc(), script, 7, &mut sink)?;
-        assert_eq!(rt; status.number(), 3);
-        assert_eq!(rt; sink.bytes(), line);
+        assert!(rt; is_bad_script(rt.alloc(), script, line)?);
     }
     Ok(())
+}
+
+/// Whether a script is refused by status 3 and a line.
+fn is_bad_script(alloc: Global, script: &[u8], line: &[u8]) -> Result<bool, Fail> {
+    let mut sink = open_sink(alloc)?;
+    let status = run(alloc, script, 7, &mut sink)?;
+    Ok(status.number() == 3 && sink.bytes() == line)
 }
 
 /// The call over bytes answers the report of a script that declares alone, and the line of one that breaks a rule.
 #[test]
 fn bytes_are_answered(rt: HostRuntime) -> Result<(), Fail> {
-    let declared = answered(rt.alloc(), &["run"], DECLARATIONS)?;
-    assert_eq!(rt; declared.status, Status::Ok);
-    assert_eq!(rt;
-        declared.bytes.as_slice(),
-        b"events 0 idle 0 rounds 0\n\
+    let report = b"events 0 idle 0 rounds 0\n\
 topic t at a\nsender b session 0 closed mark 0\ntopic t at b\nsender a session 0 closed mark 0\n\
-client p at a lines 0/2 receipts 0 duplicates 0 errors 0\n"
-            .as_slice()
-    );
-    let refused = answered(rt.alloc(), &["run"], b"geo 1\ncluster a")?;
-    assert_eq!(rt; refused.status, Status::BadScript { line: 2, rule: 1 });
-    assert_eq!(rt;
-        refused.bytes.as_slice(),
-        b"bad script line 2 rule 1\n".as_slice()
-    );
+client p at a lines 0/2 receipts 0 duplicates 0 errors 0\n";
+    assert!(rt; is_answered(rt.alloc(), &["run"], DECLARATIONS, Status::Ok, report)?);
+    let refused = Status::BadScript { line: 2, rule: 1 };
+    let line = b"bad script line 2 rule 1\n";
+    assert!(rt; is_answered(rt.alloc(), &["run"], b"geo 1\ncluster a", refused, line)?);
     Ok(())
 }
 
@@ -118,9 +113,10 @@ compacted t at b horizon 0\n",
         ),
     ];
     for (horizon, lines) in views {
-        let shown = answered(rt.alloc(), &["compact", horizon], KEYS)?;
-        assert_eq!(rt; shown.status, Status::Ok);
-        assert_eq!(rt; shown.bytes.as_slice(), lines);
+        assert!(rt;
+            is_answered(rt.alloc(), &["compact", horizon], KEYS, Status::Ok, lines)?,
+            "horizon {horizon}"
+        );
     }
     Ok(())
 }
@@ -143,27 +139,34 @@ entry 1:1 a p 3 * data - d\nentry 2:0 a p 4 * data - e\ntiered t at b offloaded 
         ("1000000", b"tiered t at a offloaded 0\n"),
     ];
     for (keep, head) in heads {
-        let shown = answered(rt.alloc(), &["tiered", keep], LEDGERS)?;
-        assert_eq!(rt; shown.status, Status::Ok);
-        let mut lines = head.to_vec(rt.alloc())?;
-        lines.extend_from_slice(entries)?;
-        assert_eq!(rt; shown.bytes.as_slice(), lines.as_slice());
+        assert!(rt; are_tiered(rt.alloc(), keep, head, entries)?, "keep {keep}");
     }
     Ok(())
+}
+
+/// Whether `tiered` shows a head and entries of that script.
+fn are_tiered(alloc: Global, keep: &str, head: &[u8], entries: &[u8]) -> Result<bool, Fail> {
+    let mut lines = head.to_vec(alloc)?;
+    lines.extend_from_slice(entries)?;
+    is_answered(
+        alloc,
+        &["tiered", keep],
+        LEDGERS,
+        Status::Ok,
+        lines.as_slice(),
+    )
 }
 
 /// What the program prints for words that are no command.
 const USAGE: &[u8] =
     b"usage: geo run, live WORKERS TURNS, big NUMBER, save, resume, audit, compact HORIZON, tiered KEEP, trace\n";
 
-/// Nothing is read for words that are no command: the source would fail.
-fn are_no_command(rt: &impl Abort, alloc: Global, line: &[&str]) -> Result<(), Fail> {
+/// Whether words are no command. Nothing is read for them: the source would fail.
+fn are_no_command(alloc: Global, line: &[&str]) -> Result<bool, Fail> {
     let mut source = MemSource::new(alloc, ONE_MESSAGE, 7, &[1])?;
     let mut sink = open_sink(alloc)?;
     let status = ended(alloc, line, &mut source, &mut sink)?;
-    assert_eq!(rt; status, Status::Usage);
-    assert_eq!(rt; sink.bytes(), USAGE);
-    Ok(())
+    Ok(status == Status::Usage && sink.bytes() == USAGE)
 }
 
 #[test]
@@ -203,7 +206,7 @@ fn words_that_are_no_command(rt: HostRuntime) -> Result<(), Fail> {
         &["Trace"],
     ];
     for line in lines {
-        are_no_command(&rt, rt.alloc(), line)?;
+        assert!(rt; are_no_command(rt.alloc(), line)?);
     }
     Ok(())
 }
@@ -211,22 +214,23 @@ fn words_that_are_no_command(rt: HostRuntime) -> Result<(), Fail> {
 /// What goes out of the report of that script before a fault.
 const REPORT: &[u8] = b"events 15 idle 0 rounds 0\ntopic t at a\nen";
 
-/// A sink that takes ten bytes in a call and fails behind so many.
-fn a_write_fails(rt: &impl Abort, alloc: Global, before: u64) -> Result<(), Fail> {
+/// Whether a sink that takes ten bytes in a call and fails behind so many calls is told, and has the beginning of the report.
+fn is_write_fault(alloc: Global, before: u64) -> Result<bool, Fail> {
     let mut sink = MemSink::new(alloc, 10, &[before.saturating_add(1)])?;
     let status = run(alloc, ONE_MESSAGE, 7, &mut sink)?;
-    assert_eq!(rt; status, Status::WriteFault);
-    assert_eq!(rt; status.number(), 5);
-    assert_eq!(rt; sink.bytes().len() as u64, before.saturating_mul(10));
-    assert!(rt; REPORT.starts_with(sink.bytes()));
-    Ok(())
+    Ok(
+        status == Status::WriteFault
+            && status.number() == 5
+            && sink.bytes().len() as u64 == before.saturating_mul(10)
+            && REPORT.starts_with(sink.bytes()),
+    )
 }
 
 /// It fails at one of the first five calls: what went out before is a part of the report, or of a refusal's line.
 #[test]
 fn each_call_of_a_sink_fails_in_turn(rt: HostRuntime) -> Result<(), Fail> {
     for before in 0..5 {
-        a_write_fails(&rt, rt.alloc(), before)?;
+        assert!(rt; is_write_fault(rt.alloc(), before)?, "behind {before}");
     }
     let mut sink = MemSink::new(rt.alloc(), 10, &[2])?;
     assert_eq!(rt; run(rt.alloc(), b"geo", 7, &mut sink)?, Status::WriteFault);
@@ -234,22 +238,23 @@ fn each_call_of_a_sink_fails_in_turn(rt: HostRuntime) -> Result<(), Fail> {
     Ok(())
 }
 
-/// A source that gives 80 bytes in a call and fails at a call.
-fn a_read_fails(rt: &impl Abort, alloc: Global, call: u64) -> Result<(), Fail> {
+/// Whether a source that gives 80 bytes in a call and fails at a call is told.
+fn is_read_fault(alloc: Global, call: u64) -> Result<bool, Fail> {
     let mut source = MemSource::new(alloc, ONE_MESSAGE, 80, &[call])?;
     let mut sink = open_sink(alloc)?;
     let status = ended(alloc, &["run"], &mut source, &mut sink)?;
-    assert_eq!(rt; status, Status::ReadFault);
-    assert_eq!(rt; status.number(), 4);
-    assert_eq!(rt; sink.bytes(), b"read fault\n".as_slice());
-    Ok(())
+    Ok(
+        status == Status::ReadFault
+            && status.number() == 4
+            && sink.bytes() == b"read fault\n".as_slice(),
+    )
 }
 
 /// It fails at one of the first five calls: the script comes in four, and the fifth sees its end.
 #[test]
 fn each_call_of_a_source_fails_in_turn(rt: HostRuntime) -> Result<(), Fail> {
     for call in 1..6 {
-        a_read_fails(&rt, rt.alloc(), call)?;
+        assert!(rt; is_read_fault(rt.alloc(), call)?, "at call {call}");
     }
     Ok(())
 }
@@ -284,34 +289,28 @@ fn unanswered(alloc: Global) -> Result<Vec<u8>, Fail> {
 #[test]
 fn inputs_and_runs_that_are_too_large(rt: HostRuntime) -> Result<(), Fail> {
     let alloc = rt.alloc();
-    let inputs = vec![in alloc;
-        (1, vec![in alloc; b'\n'; 67_108_865]?),
-        (2, with_lines(alloc, DECLARATIONS, b"get p\n", 2_000_001)?),
-        (
-            3,
-            with_lines(
-                alloc,
-                unanswered(alloc)?.as_slice(),
-                b"reconnect p\n",
-                5_000
-            )?
-        ),
-    ]?;
-    for (limit, input) in inputs {
-        is_too_large(&rt, alloc, limit, input.as_slice())?;
-    }
+    let longer = vec![in alloc; b'\n'; 67_108_865]?;
+    assert!(rt; is_too_large(alloc, 1, longer.as_slice())?);
+    drop(longer);
+    let idle = with_lines(alloc, DECLARATIONS, b"get p\n", 2_000_001)?;
+    assert!(rt; is_too_large(alloc, 2, idle.as_slice())?);
+    drop(idle);
+    let frames = with_lines(
+        alloc,
+        unanswered(alloc)?.as_slice(),
+        b"reconnect p\n",
+        5_000,
+    )?;
+    assert!(rt; is_too_large(alloc, 3, frames.as_slice())?);
     Ok(())
 }
 
-/// An input passes a limit.
-fn is_too_large(rt: &impl Abort, alloc: Global, limit: u64, input: &[u8]) -> Result<(), Fail> {
+/// Whether an input passes a limit.
+fn is_too_large(alloc: Global, limit: u64, input: &[u8]) -> Result<bool, Fail> {
+    let line = format!(in alloc; "too large {limit}\n")?;
     let mut sink = open_sink(alloc)?;
     let status = run(alloc, input, AT_ONCE, &mut sink)?;
-    assert_eq!(rt; status, Status::TooLarge(limit));
-    assert_eq!(rt; status.number(), 6);
-    let line = format!(in alloc; "too large {limit}\n")?;
-    assert_eq!(rt; sink.bytes(), line.as_bytes());
-    Ok(())
+    Ok(status == Status::TooLarge(limit) && status.number() == 6 && sink.bytes() == line.as_bytes())
 }
 
 #[test]
@@ -341,9 +340,8 @@ fn a_generated_run_is_summed_up(rt: HostRuntime) -> Result<(), Fail> {
     let mut source = MemSource::new(alloc, b"", 7, &[1])?;
     let mut sink = open_sink(alloc)?;
     let status = ended(alloc, &["big", "7"], &mut source, &mut sink)?;
-    assert_eq!(rt; status, Status::Ok);
     let lines: &[u8] = b"big 7 clusters 3 messages 2000\n\
 stored a 2000\nstored b 2000\nstored c 2000\nquiet\nevents ";
-    assert!(rt; sink.bytes().starts_with(lines));
+    assert!(rt; status == Status::Ok && sink.bytes().starts_with(lines));
     Ok(())
 }

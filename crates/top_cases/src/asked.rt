@@ -21,6 +21,18 @@ pub fn answered(alloc: Global, line: &[&str], input: &[u8]) -> Result<Answer, Fa
     Ok(answer(alloc, words.as_slice(), input)?)
 }
 
+/// Whether the program answers a command line and an input by this status and these bytes.
+pub fn is_answered(
+    alloc: Global,
+    line: &[&str],
+    input: &[u8],
+    status: Status,
+    bytes: &[u8],
+) -> Result<bool, Fail> {
+    let shown = answered(alloc, line, input)?;
+    Ok(shown.status == status && shown.bytes.as_slice() == bytes)
+}
+
 /// How the program ends over a source and a sink.
 pub fn ended(
     alloc: Global,

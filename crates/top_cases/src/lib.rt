@@ -6,6 +6,8 @@ mod answers;
 #[cfg(test)]
 mod asked;
 #[cfg(test)]
+mod sizes;
+#[cfg(test)]
 mod states;
 #[cfg(test)]
 mod traces;

@@ -52,13 +52,37 @@ fn what_is_no_state_is_refused(rt: HostRuntime) -> Result<(), Fail> {
         ),
     ];
     for (word, input, number, line) in refused {
-        let mut sink = open_sink(rt.alloc())?;
-        let status = answer(rt.alloc(), word, input, &mut sink)?;
-        assert_eq!(rt; status.number(), number);
-        assert_eq!(rt; sink.bytes(), line);
+        assert!(rt; is_refused(rt.alloc(), word, input, number, line)?);
     }
-    let mut file = open_sink(rt.alloc())?;
-    assert_eq!(rt; answer(rt.alloc(), "save", FIRST, &mut file)?, Status::Ok);
+    Ok(())
+}
+
+/// Whether a command refuses an input by a status's number and a line.
+fn is_refused(
+    alloc: Global,
+    word: &str,
+    input: &[u8],
+    number: u8,
+    line: &[u8],
+) -> Result<bool, Fail> {
+    let mut sink = open_sink(alloc)?;
+    let status = answer(alloc, word, input, &mut sink)?;
+    Ok(status.number() == number && sink.bytes() == line)
+}
+
+/// The state file of the first script, and lines behind it.
+fn file_and(alloc: Global, lines: &[u8]) -> Result<Vec<u8>, Fail> {
+    let mut file = open_sink(alloc)?;
+    if answer(alloc, "save", FIRST, &mut file)? != Status::Ok {
+        return Err(Fail::new("no state"));
+    }
+    let mut input = file.bytes().to_vec(alloc)?;
+    input.extend_from_slice(lines)?;
+    Ok(input)
+}
+
+#[test]
+fn what_is_no_event_behind_a_state_is_refused(rt: HostRuntime) -> Result<(), Fail> {
     for (lines, line) in [
         (
             b"cluster a\n".as_slice(),
@@ -73,13 +97,8 @@ fn what_is_no_state_is_refused(rt: HostRuntime) -> Result<(), Fail> {
             b"bad script line 1 rule 1\n".as_slice(),
         ),
     ] {
-        let mut input = Vec::new(rt.alloc());
-        input.extend_from_slice(file.bytes())?;
-        input.extend_from_slice(lines)?;
-        let mut sink = open_sink(rt.alloc())?;
-        let status = answer(rt.alloc(), "resume", input.as_slice(), &mut sink)?;
-        assert_eq!(rt; status.number(), 3);
-        assert_eq!(rt; sink.bytes(), line);
+        let input = file_and(rt.alloc(), lines)?;
+        assert!(rt; is_refused(rt.alloc(), "resume", input.as_slice(), 3, line)?);
     }
     Ok(())
 }
@@ -88,18 +107,25 @@ fn what_is_no_state_is_refused(rt: HostRuntime) -> Result<(), Fail> {
 #[test]
 fn limits_count_on(rt: HostRuntime) -> Result<(), Fail> {
     let alloc = rt.alloc();
-    let mut file = open_sink(alloc)?;
-    assert_eq!(rt; answer(alloc, "save", FIRST, &mut file)?, Status::Ok);
-    let mut behind = file.bytes().to_vec(alloc)?;
-    let mut script = DECLARED.to_vec(alloc)?;
-    for event in 0..2_000_000 {
-        behind.extend_from_slice(b"get p\n")?;
-        script.extend_from_slice(b"get p\n")?;
-    }
-    for (word, input) in [("resume", behind.as_slice()), ("save", script.as_slice())] {
-        let mut sink = open_sink(alloc)?;
-        assert_eq!(rt; answer(alloc, word, input, &mut sink)?, Status::TooLarge(2));
-        assert_eq!(rt; sink.bytes(), b"too large 2\n".as_slice());
-    }
+    let script = with_gets(alloc, DECLARED)?;
+    assert!(rt; is_too_large(alloc, "save", script.as_slice())?);
+    let behind = with_gets(alloc, file_and(alloc, b"")?.as_slice())?;
+    assert!(rt; is_too_large(alloc, "resume", behind.as_slice())?);
     Ok(())
+}
+
+/// Two million idle events behind a text.
+fn with_gets(alloc: Global, text: &[u8]) -> Result<Vec<u8>, Fail> {
+    let mut input = text.to_vec(alloc)?;
+    for event in 0..2_000_000 {
+        input.extend_from_slice(b"get p\n")?;
+    }
+    Ok(input)
+}
+
+/// Whether a command answers an input by the limit of events.
+fn is_too_large(alloc: Global, word: &str, input: &[u8]) -> Result<bool, Fail> {
+    let mut sink = open_sink(alloc)?;
+    let status = answer(alloc, word, input, &mut sink)?;
+    Ok(status == Status::TooLarge(2) && sink.bytes() == b"too large 2\n".as_slice())
 }

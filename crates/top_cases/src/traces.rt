@@ -1,17 +1,13 @@
 //! What the program tells of a run, line by line.
 
-use crate::asked::answered;
+use crate::asked::{answered, is_answered};
 use geo_top::Status;
 use std::alloc::Global;
 use std::test::Fail;
 
-/// What `trace` writes for a script, which it accepts.
-fn traced(alloc: Global, script: &[u8]) -> Result<Vec<u8>, Fail> {
-    let shown = answered(alloc, &["trace"], script)?;
-    match shown.status {
-        Status::Ok => Ok(shown.bytes.as_slice().to_vec(alloc)?),
-        _ => Ok(Vec::new(alloc)),
-    }
+/// Whether `trace` writes this for a script, which it accepts.
+fn is_trace(alloc: Global, script: &[u8], text: &[u8]) -> Result<bool, Fail> {
+    is_answered(alloc, &["trace"], script, Status::Ok, text)
 }
 
 /// A snapshot is taken at a, and an acknowledgement there reaches b by an update.
@@ -45,7 +41,7 @@ ack t b s1 0-1 update 0:3\n";
 
 #[test]
 fn one_snapshot_line_by_line(rt: HostRuntime) -> Result<(), Fail> {
-    assert_eq!(rt; traced(rt.alloc(), ONE_SNAPSHOT)?.as_slice(), ITS_TRACE);
+    assert!(rt; is_trace(rt.alloc(), ONE_SNAPSHOT, ITS_TRACE)?);
     Ok(())
 }
 
@@ -77,16 +73,17 @@ trace\nevent 1\nevent 2\nevent 3\nevent 4\nevent 5\n";
         ),
     ];
     for (end, lines) in ends {
-        let mut script = ON_ITS_WAY.to_vec(rt.alloc())?;
-        script.extend_from_slice(end)?;
-        let mut text = head.to_vec(rt.alloc())?;
-        text.extend_from_slice(lines)?;
-        assert_eq!(rt;
-            traced(rt.alloc(), script.as_slice())?.as_slice(),
-            text.as_slice()
-        );
+        let script = joined(rt.alloc(), ON_ITS_WAY, end)?;
+        let text = joined(rt.alloc(), head, lines)?;
+        assert!(rt; is_trace(rt.alloc(), script.as_slice(), text.as_slice())?);
     }
     Ok(())
+}
+
+fn joined(alloc: Global, front: &[u8], back: &[u8]) -> Result<Vec<u8>, Fail> {
+    let mut text = front.to_vec(alloc)?;
+    text.extend_from_slice(back)?;
+    Ok(text)
 }
 
 /// What `audit` answers to that trace; to one whose first event is not the first, to declarations alone, and to a trace alone.
@@ -108,9 +105,13 @@ fn traces_are_audited(rt: HostRuntime) -> Result<(), Fail> {
         (b"trace\n", 3, b"bad script line 1 rule 2\n"),
     ];
     for (input, number, line) in cases {
-        let judged = answered(alloc, &["audit"], input)?;
-        assert_eq!(rt; judged.status.number(), number);
-        assert_eq!(rt; judged.bytes.as_slice(), line);
+        assert!(rt; is_judged(alloc, input, number, line)?);
     }
     Ok(())
+}
+
+/// Whether `audit` answers an input by a status's number and a line.
+fn is_judged(alloc: Global, input: &[u8], number: u8, line: &[u8]) -> Result<bool, Fail> {
+    let judged = answered(alloc, &["audit"], input)?;
+    Ok(judged.status.number() == number && judged.bytes.as_slice() == line)
 }

@@ -1,6 +1,9 @@
-//! Many names, a long text and a long topic.
+//! Many names, a long text and a long topic: sizes at which a number of eight or sixteen bits is at its end. Want of memory may be
+//! answered to whatever is asked, so no clause refuses a program that counts in fewer bits than it says and calls what does not fit
+//! want of memory; these tests refuse it.
+use crate::asked::answered;
 use geo_base::Blob;
-use geo_top::{Answer, Status, Word, answer};
+use geo_top::Status;
 use state_items::put_text;
 use std::alloc::Global;
 use std::test::Fail;
@@ -20,11 +23,13 @@ const TOPICS: u32 = 16;
 /// What comes before the topics of a script.
 const CLUSTERS: &str = "geo 1\nledger 70000\ncluster a\ncluster b\n";
 
-/// What a command answers to a text.
-fn answered(alloc: Global, word: &str, input: &[u8]) -> Result<Answer, Fail> {
-    let words = vec![in alloc; Word::from_str(alloc, word)?]?;
-    let input = Blob::from_slice(alloc, input)?;
-    Ok(answer(alloc, words.as_slice(), input)?)
+/// What a command answers to a text that it takes.
+fn bytes_of(alloc: Global, word: &str, input: &[u8]) -> Result<Blob, Fail> {
+    let shown = answered(alloc, &[word], input)?;
+    match shown.status {
+        Status::Ok => Ok(shown.bytes),
+        _ => Err(Fail::new("another answer")),
+    }
 }
 
 /// A script whose names are more than eight bits count is run.
@@ -41,8 +46,8 @@ fn names_have_more_than_eight_bits(rt: HostRuntime) -> Result<(), Fail> {
         let line = format!(in alloc; "client c{number} t{topic} a\n")?;
         script.push_str(line.as_str())?;
     }
-    let run = answered(alloc, "run", script.as_bytes())?;
-    assert_eq!(rt; run.status, Status::Ok);
+    let run = bytes_of(alloc, "run", script.as_bytes())?;
+    assert!(rt; run.as_slice().starts_with(b"events 0 idle 0 rounds 0\n"));
     Ok(())
 }
 
@@ -62,14 +67,11 @@ fn texts_have_more_than_sixteen_bits(rt: HostRuntime) -> Result<(), Fail> {
 fn topics_have_more_than_sixteen_bits(rt: HostRuntime) -> Result<(), Fail> {
     let alloc = rt.alloc();
     let mut script = many_messages(alloc)?;
-    let file = answered(alloc, "save", script.as_bytes())?;
-    assert_eq!(rt; file.status, Status::Ok);
-    let resumed = answered(alloc, "resume", file.bytes.as_slice())?;
-    assert_eq!(rt; resumed.status, Status::Ok);
+    let file = bytes_of(alloc, "save", script.as_bytes())?;
+    let resumed = bytes_of(alloc, "resume", file.as_slice())?;
     script.push_str("stop\n")?;
-    let run = answered(alloc, "run", script.as_bytes())?;
-    assert_eq!(rt; run.status, Status::Ok);
-    assert_eq!(rt; resumed.bytes.as_slice(), run.bytes.as_slice());
+    let run = bytes_of(alloc, "run", script.as_bytes())?;
+    assert_eq!(rt; resumed.as_slice(), run.as_slice());
     Ok(())
 }
 
