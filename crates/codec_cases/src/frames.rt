@@ -240,10 +240,15 @@ fn has_command(reader: &mut FrameReader) -> bool {
     }
 }
 
+/// Whether a reader has one more frame.
+fn has_frame(reader: &mut FrameReader) -> bool {
+    reader.next().is_some()
+}
+
 /// Whether a reader takes bytes one by one, and has no frame before the last of them.
 fn is_fed(reader: &mut FrameReader, bytes: &[u8]) -> bool {
     for byte in bytes {
-        if has_command(reader) || reader.feed(&[*byte]).is_err() {
+        if has_frame(reader) || reader.feed(&[*byte]).is_err() {
             return false;
         }
     }
@@ -255,7 +260,7 @@ fn a_frame_comes_with_its_last_byte(rt: HostRuntime) -> Result<(), Fail> {
     let mut reader = FrameReader::new(rt.alloc());
     let is_fed = is_fed(&mut reader, &PING);
     let is_read = has_command(&mut reader);
-    assert!(rt; is_fed && is_read && !has_command(&mut reader));
+    assert!(rt; is_fed && is_read && !has_frame(&mut reader));
     Ok(())
 }
 
