@@ -63,10 +63,9 @@ shown_whole v n bytes within is = ap ok_answer is ∙ sym (ap (answer_to_run v n
 pub refused_run : (v : Shown) (n : Script) (limit : ℕ) (a : Answer) → passed_limit n ≡ Some limit → a ≡ refused (status.TooLarge limit) → a ≡ answer_to_run v n (passed_limit n)
 refused_run v n limit a some is = is ∙ sym (ap (answer_to_run v n) some)
 
-pub summed : (number : ℕ) (n : Script) (b : WorldBook) (bytes : List ℕ) → n ≡ generated_run number → IsFinished n b → bytes ≡ summary_of number
-    → ok_answer bytes ≡ answer_to_big number
-summed number n b bytes generated f is =
-    ap ok_answer is ∙ sym (ap (answer_to_generated number) (ap passed_limit (sym generated) ∙ f.unlimited))
+pub summed : (number : ℕ) (n : Script) (bytes : List ℕ) → n ≡ generated_run number → passed_limit n ≡ None → bytes ≡ summary_of number → ok_answer bytes ≡ answer_to_big number
+summed number n bytes generated none is =
+    ap ok_answer is ∙ sym (ap (answer_to_generated number) (ap passed_limit (sym generated) ∙ none))
 
 pub refused_big : (number : ℕ) (n : Script) (limit : ℕ) (a : Answer) → n ≡ generated_run number → passed_limit n ≡ Some limit → a ≡ refused (status.TooLarge limit)
     → a ≡ answer_to_big number

@@ -33,10 +33,13 @@ saved_whole n bytes is none = whole bytes (file_of n) (passed_limit (stopped n))
 pub saved_refused : (n : Script) (limit : ℕ) (a : Answer) → passed_limit (stopped n) ≡ Some limit → a ≡ refused (status.TooLarge limit) → a ≡ answer_to_saved n
 saved_refused n limit a some is = over (file_of n) (passed_limit (stopped n)) limit a some is
 
-pub resumed_whole : (f : SavedState) (n : Script) (es : List Step) (b : WorldBook) (bytes : List ℕ) → IsResumed f es b → n ≡ f.scenario → bytes ≡ report n.setup (shown_world b)
+pub resumed_bytes : (f : SavedState) (n : Script) (es : List Step) (b : WorldBook) (bytes : List ℕ) → IsResumed f es b → n ≡ f.scenario → bytes ≡ report n.setup (shown_world b)
+    → bytes ≡ resumed_report f es
+resumed_bytes f n es b bytes r same is = shown_resumed f es b bytes r (is ∙ ap (λ (m : Script). report m.setup (shown_world b)) same)
+
+pub resumed_whole : (f : SavedState) (es : List Step) (bytes : List ℕ) → bytes ≡ resumed_report f es → (resumed_under all_limits f es).ended ≡ None
     → ok_answer bytes ≡ answer_to_resumed f (Ok es)
-resumed_whole f n es b bytes r same is =
-    whole bytes (resumed_report f es) (resumed_under all_limits f es).ended (shown_resumed f es b bytes r (is ∙ ap (λ (m : Script). report m.setup (shown_world b)) same)) r.unlimited
+resumed_whole f es bytes is none = whole bytes (resumed_report f es) (resumed_under all_limits f es).ended is none
 
 pub resumed_refused : (f : SavedState) (es : List Step) (limit : ℕ) (a : Answer) → (resumed_under all_limits f es).ended ≡ Some limit → a ≡ refused (status.TooLarge limit)
     → a ≡ answer_to_resumed f (Ok es)

@@ -73,3 +73,12 @@ saved_within n v r none k e = stop_limit n none ∙ is r e k.within
 
 pub saved_large : (n : Script) (limit : ℕ) (r : Result Saved RunFault) → passed_limit n ≡ None → Saves n (run n.setup n.steps) r → r ≡ Err (fault.TooLarge limit) → passed_limit (stopped n) ≡ Some limit
 saved_large n limit r none k e = stop_limit n none ∙ k.large limit e
+
+-- and of whatever comes of it
+pub saved_states : (n : Script) (r : Result Saved RunFault) → Saves n (run n.setup n.steps) r → IfOk r (λ v. state_of v ≡ state_of_run n)
+saved_states n (Ok v) k = saved_state n v (Ok v) k refl
+saved_states n (Err e) k = tt
+
+pub saved_withins : (n : Script) (r : Result Saved RunFault) → passed_limit n ≡ None → Saves n (run n.setup n.steps) r → OnOk r (passed_limit (stopped n) ≡ None)
+saved_withins n (Ok v) none k = saved_within n v (Ok v) none k refl
+saved_withins n (Err e) none k = tt

@@ -3,10 +3,11 @@ ghost use Rattle.std.specs.Prelude.{◌≡◌, ℕ, All, Err, IfOk, None, OnOk, 
 ghost use Rattle.geo_base.specs.Run.{all_limits};
 ghost use Rattle.geo_top.specs.Finished.{IsFinished, IsResumed};
 ghost use Rattle.geo_top.specs.Outputs.{passed_limit};
-ghost use Rattle.geo_top.specs.States.{file_of, resumed_under, stopped};
+ghost use Rattle.geo_top.specs.States.{file_of, resumed_under, state_of_run, stopped};
 ghost use Rattle.script_text.specs.Scenario.{IsStep};
 ghost use Rattle.state_file.specs.Known.{IsKnownState};
 ghost use Rattle.state_file.specs.State.{state_of};
+ghost use Rattle.state_file.specs.Writing.{CanSave};
 
 use geo_base::Blob;
 use script_text::{Scenario, StepList};
@@ -28,15 +29,25 @@ pub fn run_script(alloc: Global, scenario: &Scenario) -> Result<World, RunFault>
 }
 
 /// The state file of a script's run and the stop behind it, or the limit that they pass.
-#[tactic(auto, using(crate::proofs::Stopping::run_limit))]
 pub fn save_script(alloc: Global, scenario: Scenario) -> Result<Blob, RunFault>
     ensures done { IfOk result (λ bytes. bytes ≡ file_of scenario) }
     ensures within { OnOk result (passed_limit (stopped scenario) ≡ None) }
     ensures large { (limit : ℕ) → result ≡ Err (RunFault.TooLarge limit) → passed_limit (stopped scenario) ≡ Some limit }
 {
-    let world = run_script(alloc, &scenario)?;
-    let saved = world.saved(alloc, scenario)?;
+    let saved = saved_run(alloc, scenario)?;
     Ok(save(alloc, &saved)?)
+}
+
+/// The state that the stop behind a script's run leaves, or the limit that they pass.
+#[tactic(auto, using(crate::proofs::Stopping::run_limit))]
+fn saved_run(alloc: Global, scenario: Scenario) -> Result<Saved, RunFault>
+    ensures state { IfOk result (λ v. state_of v ≡ state_of_run scenario) }
+    ensures can { IfOk result (λ v. CanSave (state_of v)) }
+    ensures within { OnOk result (passed_limit (stopped scenario) ≡ None) }
+    ensures large { (limit : ℕ) → result ≡ Err (RunFault.TooLarge limit) → passed_limit (stopped scenario) ≡ Some limit }
+{
+    let world = run_script(alloc, &scenario)?;
+    world.saved(alloc, scenario)
 }
 
 /// The world at the end of a run that goes on from a state, and what its script declares.

@@ -103,19 +103,38 @@ fn tiered(alloc: Global, scenario: &Scenario, keep: u64) -> Result<Blob, RunFaul
 }
 
 /// The summary of the run that a number generates, or the limit that the run passes.
-#[tactic(auto, using(crate::proofs::Finishing::summed, crate::proofs::Finishing::refused_big))]
 pub fn answer_to_number(alloc: Global, number: u32) -> Result<Answer, Memory>
     ensures { IfOk result (λ a. a ≡ answer_to_big number) }
 {
     let scenario = generated(alloc, number)?;
-    match run_script(alloc, &scenario) {
-        Ok(world) => Ok(Answer {
+    answer_to_its_run(alloc, number, &scenario)
+}
+
+/// The summary of a number's run, or the limit that it passes.
+#[tactic(auto, using(crate::proofs::Finishing::summed, crate::proofs::Finishing::refused_big))]
+fn answer_to_its_run(alloc: Global, number: u32, scenario: &Scenario) -> Result<Answer, Memory>
+    requires { scenario.now ≡ generated_run number }
+    ensures { IfOk result (λ a. a ≡ answer_to_big number) }
+{
+    match summed_up(alloc, number, scenario) {
+        Ok(bytes) => Ok(Answer {
             status: Status::Ok,
-            bytes: summary(alloc, number, &scenario, &world)?,
+            bytes,
         }),
         Err(RunFault::TooLarge(limit)) => refusal(alloc, Status::TooLarge(limit)),
         Err(RunFault::Memory) => Err(Memory),
     }
+}
+
+/// The summary of the world at the end of a number's run, or the limit that the run passes.
+fn summed_up(alloc: Global, number: u32, scenario: &Scenario) -> Result<Blob, RunFault>
+    requires { scenario.now ≡ generated_run number }
+    ensures done { IfOk result (λ bytes. bytes ≡ summary_of number) }
+    ensures within { OnOk result (passed_limit scenario.now ≡ None) }
+    ensures large { (limit : ℕ) → result ≡ Err (RunFault.TooLarge limit) → passed_limit scenario.now ≡ Some limit }
+{
+    let world = run_script(alloc, scenario)?;
+    Ok(summary(alloc, number, scenario, &world)?)
 }
 
 /// The script of a number's run.
@@ -126,7 +145,7 @@ fn generated(alloc: Global, number: u32) -> Result<Scenario, Memory>
     Scenario::of_parts(alloc, parts)
 }
 
-/// The summary of the world at the end of a number's run.
+/// The summary of such a world.
 #[tactic(auto, using(crate::proofs::Shown::shown_summary))]
 fn summary(alloc: Global, number: u32, scenario: &Scenario, world: &World) -> Result<Blob, Memory>
     requires number { scenario.now ≡ generated_run number }

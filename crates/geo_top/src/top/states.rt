@@ -1,7 +1,7 @@
 //! The answers of the two commands on state files.
-ghost use Rattle.std.specs.Prelude.{◌≡◌, ◌<◌, ◌≤◌, ◌^◌, All, IfOk, OnOk, Ok, drop, length};
+ghost use Rattle.std.specs.Prelude.{◌≡◌, ◌<◌, ◌≤◌, ◌^◌, ℕ, All, Err, IfOk, None, OnOk, Ok, Some, drop, length};
 ghost use Rattle.geo_top.specs.Founded.{IsAccepted};
-ghost use Rattle.geo_top.specs.Outputs.{IsAnswerToFile, answer_to_resumed, answer_to_save, answer_to_saved};
+ghost use Rattle.geo_top.specs.Outputs.{IsAnswerToFile, answer_to_resumed, answer_to_save, answer_to_saved, resumed_limit, resumed_report};
 ghost use Rattle.script_text.specs.Rules.{script_of};
 ghost use Rattle.script_text.specs.Scenario.{IsStep};
 ghost use Rattle.script_text.specs.Schedule.{schedule_of};
@@ -95,18 +95,30 @@ fn resumed_answer(alloc: Global, saved: Saved, lines: &[u8]) -> Result<Answer, M
 }
 
 /// The report of the run that goes on from a state, or the limit that it passes.
-#[tactic(auto, using(crate::proofs::Saving::resumed_refused))]
+#[tactic(auto, using(crate::proofs::Saving::resumed_whole, crate::proofs::Saving::resumed_refused))]
 fn run_on(alloc: Global, saved: Saved, steps: &StepList) -> Result<Answer, Memory>
     requires known { IsKnownState (state_of saved) }
     requires steps { All (IsStep (state_of saved).scenario.setup) steps.now }
     ensures { IfOk result (λ a. a ≡ answer_to_resumed (state_of saved) (Ok steps.now)) }
 {
-    match resume(alloc, saved, steps) {
-        Ok(resumed) => Ok(Answer {
+    match reported_on(alloc, saved, steps) {
+        Ok(bytes) => Ok(Answer {
             status: Status::Ok,
-            bytes: report(alloc, &resumed.scenario, &resumed.world)?,
+            bytes,
         }),
         Err(RunFault::TooLarge(limit)) => refusal(alloc, Status::TooLarge(limit)),
         Err(RunFault::Memory) => Err(Memory),
     }
+}
+
+/// The report of the world behind the steps that go on from a state, or the limit that they pass.
+fn reported_on(alloc: Global, saved: Saved, steps: &StepList) -> Result<Blob, RunFault>
+    requires known { IsKnownState (state_of saved) }
+    requires steps { All (IsStep (state_of saved).scenario.setup) steps.now }
+    ensures done { IfOk result (λ bytes. bytes ≡ resumed_report (state_of saved) steps.now) }
+    ensures within { OnOk result (resumed_limit (state_of saved) steps.now ≡ None) }
+    ensures large { (limit : ℕ) → result ≡ Err (RunFault.TooLarge limit) → resumed_limit (state_of saved) steps.now ≡ Some limit }
+{
+    let resumed = resume(alloc, saved, steps)?;
+    Ok(report(alloc, &resumed.scenario, &resumed.world)?)
 }
