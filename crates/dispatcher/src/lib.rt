@@ -5,8 +5,8 @@
 //!
 //! What is out and what is due again ascend by index. So an offer, and each index of an acknowledgement (`forget_each`), costs
 //! a binary search in both and in the cursor's ranges. An index that is out no more leaves an empty slot, so that acknowledgements move
-//! nothing in whatever order they come; `forget_to` goes over what it takes out alone. A consumer that leaves, and `forget`, go over all
-//! that is out.
+//! nothing of what is out, in whatever order they come; one of an index that is due again, out of its turn, moves the shorter side of
+//! what is due. `forget_to` goes over what it takes out alone. A consumer that leaves, and `forget`, go over all that is out.
 #![tactic(auto)]
 
 mod acking;
