@@ -1,7 +1,7 @@
 -- What each line that is accepted keeps of the topics and subscriptions that the lines make.
 use Rattle.std.proofs.Common.{◌≡◌, ℕ, ◌+◌, ◌*◌, ◌<◌, ◌≤◌, Bool, true, false, List, [], ◌∷◌, ◌++◌, length, refl, sym, ap, subst, ◌∙◌, arith}
 use Rattle.std.specs.Prelude.{◌≢◌, Some, if◌then◌else◌, slice_get, slice_index_or, slice_set}
-use Rattle.std.proofs.lemmas.List.{append-nil}
+use Rattle.std.proofs.lemmas.List.{append-nil, length-set}
 use Rattle.std.proofs.lemmas.Option.{none-some, same_Some}
 use Rattle.world_laws.proofs.Types.{ClusterPosition, Entry, Position}
 use Rattle.world_laws.proofs.Types.content
@@ -185,3 +185,17 @@ left_alone s a a' settled more t x m lengths grown all there k = record {
 
 pub all_lengths : (s : Setup) (a : Mirrors) (settled : SettledSoFar) → Kept s a settled → AllLengths s a
 all_lengths s a settled k t x there = (k.topics t x there).lengths
+
+-- what a line that only lengthens topics leaves, where topic t at x becomes m'
+pub with_topic : (s : Setup) (a : Mirrors) (settled more : SettledSoFar) (t x : ℕ) (m' : Mirror) → IsThere s t x → Kept s a settled → Longer (mirror_at s a t x) m' → Includes settled more
+    → (Lengthened s a (record a { topics = slice_set a.topics (mirror_number s t x) m' }) → TopicKept s (record a { topics = slice_set a.topics (mirror_number s t x) m' }) more t x m')
+    → Kept s (record a { topics = slice_set a.topics (mirror_number s t x) m' }) more
+with_topic s a settled more t x m' there kept longer all new =
+    let a' : Mirrors = record a { topics = slice_set a.topics (mirror_number s t x) m' } in
+    let grown : Lengthened s a a' =
+    one_mirror s (λ u v m. Longer (mirror_at s a u v) m) a.topics t x m' there longer (λ u v here. as_before (mirror_at s a u v) (mirror_at s a u v) refl refl) in
+    record {
+      sized = length-set a.topics (mirror_number s t x) m' ∙ kept.sized;
+      topics = one_mirror s (λ u v m. TopicKept s a' more u v m) a.topics t x m' there (new grown)
+          (λ u v here. left_alone s a a' settled more u v (mirror_at s a u v) (all_lengths s a settled kept) grown all here (kept.topics u v here));
+    }

@@ -1,6 +1,11 @@
 pub mod Lists
 pub mod Same
 pub mod Kept
+pub mod Refusals
+pub mod SnapshotLines
+pub mod UpdateLines
+pub mod AppendLines
+pub mod SubLines
 pub mod Safe
 pub mod Stems
 pub mod Places
