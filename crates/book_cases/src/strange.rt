@@ -1,5 +1,5 @@
 //! Books that are not those of their places.
-use crate::run::{Configs, SCRIPT, merge_of};
+use crate::merging::{Configs, SCRIPT, merge_of};
 use geo_base::Memory;
 use merge_history::{Difference, Merged};
 use script_text::{Scenario, read_script};

@@ -1,5 +1,5 @@
 //! Packets that were taken and are not those that were sent.
-use crate::run::{Configs, Place, ROWS, Row, SCRIPT, Taken, Wrong, merge_of};
+use crate::merging::{Configs, Place, ROWS, Row, SCRIPT, Taken, Wrong, merge_of};
 use geo_base::{Memory, Step};
 use merge_history::{Difference, Merged};
 use script_text::{Scenario, read_script};

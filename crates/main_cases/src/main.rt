@@ -1,4 +1,7 @@
 //! Tests of the whole program with its threads, in a crate of their own: a crate with tests is proved a second time with them.
+//!
+//! It is a program that does nothing, and no library: each time the gate builds a library it sums up the files of all that this one
+//! stands on, once for each path to them, which took it minutes here.
 #![tactic(auto)]
 
 #[cfg(test)]
@@ -9,3 +12,5 @@ mod program;
 mod refusals;
 #[cfg(test)]
 mod replays;
+
+fn main(_rt: HostRuntime) {}

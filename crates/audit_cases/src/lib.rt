@@ -1,5 +1,0 @@
-//! Tests of the audit, in a crate of their own: a crate with tests is proved a second time with them.
-#![tactic(auto)]
-
-#[cfg(test)]
-mod rules;

@@ -1,0 +1,24 @@
+//! Tests of books of nodes and of their merge, in a crate of their own: a crate with tests is proved a second time with them.
+//!
+//! It is a program that does nothing, and no library: each time the gate builds a library it sums up the files of all that this one
+//! stands on, once for each path to them, which took it minutes here.
+#![tactic(auto)]
+
+#[cfg(test)]
+mod beside;
+#[cfg(test)]
+mod books;
+#[cfg(test)]
+mod differences;
+#[cfg(test)]
+mod idle;
+#[cfg(test)]
+mod merging;
+#[cfg(test)]
+mod places;
+#[cfg(test)]
+mod story;
+#[cfg(test)]
+mod strange;
+
+fn main(_rt: HostRuntime) {}

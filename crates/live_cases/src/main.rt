@@ -1,0 +1,14 @@
+//! Tests of actors and of runs on threads, in a crate of their own: a crate with tests is proved a second time with them.
+//!
+//! It is a program that does nothing, and no library: each time the gate builds a library it sums up the files of all that this one
+//! stands on, once for each path to them, which took it minutes here.
+#![tactic(auto)]
+
+#[cfg(test)]
+mod rotation;
+#[cfg(test)]
+mod threads;
+#[cfg(test)]
+mod turns;
+
+fn main(_rt: HostRuntime) {}
