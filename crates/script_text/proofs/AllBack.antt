@@ -1,5 +1,5 @@
 -- What is declared is written so that it reads back.
-use Rattle.std.proofs.Common.{◌≡◌, ℕ, ◌<◌, ◌≤◌, ◌==◌, Bool, true, false, List, [], ◌∷◌, ◌++◌, append_assoc, length, map, Option, None, Ok, codes, arith, refl, sym, ap, ◌∙◌, subst}
+use Rattle.std.proofs.Common.{◌≡◌, ℕ, ◌<◌, ◌≤◌, ◌==◌, Bool, true, false, List, [], ◌∷◌, ◌++◌, append_assoc, length, map, Option, None, Result, Ok, Err, IfOk, codes, arith, refl, sym, ap, ◌∙◌, subst}
 use Rattle.std.proofs.lemmas.Bool.{ne_eqb}
 use Rattle.std.proofs.lemmas.List.{append-nil}
 use Rattle.geo_base.specs.Setup.{Declared, Setup}
@@ -79,3 +79,8 @@ declarations_back s k =
 
 pub text_reads : (s : Script) (text : List ℕ) → IsScenario s → text ≡ declarations_text s.setup s.chance → script_of text ≡ Ok (declared_alone s.setup s.chance)
 text_reads s text k is = ap script_of is ∙ declarations_back s k
+
+-- and of whatever comes of writing it
+pub written_reads : {E : Type 0} (s : Script) (r : Result (List ℕ) E) → IsScenario s → IfOk r (λ text. text ≡ declarations_text s.setup s.chance) → IfOk r (λ text. script_of text ≡ Ok (declared_alone s.setup s.chance))
+written_reads s (Ok text) k is = text_reads s text k is
+written_reads s (Err e) k is = tt

@@ -2,7 +2,7 @@
 use Rattle.std.proofs.Common.{◌≡◌, ℕ, Result, Ok, Err, IfOk, ◌⊎◌, inl, inr, refl, sym, ap, ◌∙◌}
 use Rattle.script_text.specs.declared.fault.ScriptFault.{ScriptFault}
 use Rattle.script_text.specs.declared.fault.ScriptFault.TheVariants as fault
-use Rattle.script_text.specs.Drafts.{Answers, Finishes, Goes}
+use Rattle.script_text.specs.Drafts.{Answers, Finishes, Goes, Takes}
 use Rattle.script_text.specs.Script.{Declarations, Fault}
 
 pub ok_is : {A : Type 0} (r : Result A ScriptFault) (m : Result A Fault) → Answers r m → IfOk r (λ a. m ≡ Ok a)
@@ -35,6 +35,11 @@ refused (Err fault.Memory) m line rule is e = inr refl
 pub part_refused : {A : Type 0} (f : ScriptFault) (whole : Result A Fault) (left : ℕ → Result A Fault) → Goes (Err f) whole left → Answers {A = A} (Err f) whole
 part_refused (fault.Rule line rule) whole left is = is
 part_refused fault.Memory whole left is = tt
+
+-- and so does one that was not taken in
+pub not_taken : {A : Type 0} (f : ScriptFault) (new : A) (m : Result A Fault) → Takes (Err f) new m → Answers {A = A} (Err f) m
+not_taken (fault.Rule line rule) new m is = is
+not_taken fault.Memory new m is = tt
 
 pub unfinished : {A : Type 0} (f : ScriptFault) (d : Declarations) (m : Result A Fault) → Finishes (Err f) d → Answers {A = A} (Err f) m
 unfinished (fault.Rule line rule) d m is = absurd is

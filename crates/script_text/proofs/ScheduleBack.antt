@@ -1,5 +1,5 @@
 -- A schedule that is written reads back the same, and the steps of one that is read are the script's.
-use Rattle.std.proofs.Common.{◌≡◌, ℕ, ◌+◌, ◌≤◌, nat_le, ◌==◌, true, false, ◌&&◌, List, [], ◌∷◌, ◌++◌, get_or, All, Option, Some, None, Result, Ok, Err, inl, inr, arith, refl, sym, ap, ◌∙◌, subst}
+use Rattle.std.proofs.Common.{◌≡◌, ℕ, ◌+◌, ◌≤◌, nat_le, ◌==◌, true, false, ◌&&◌, List, [], ◌∷◌, ◌++◌, get_or, All, IfOk, Option, Some, None, Result, Ok, Err, inl, inr, arith, refl, sym, ap, ◌∙◌, subst}
 use Rattle.std.specs.List.{list_all}
 use Rattle.std.proofs.lemmas.Bool.{and_from, and_parts, leb-true, ne_eqb}
 use Rattle.std.proofs.lemmas.List.{append_assoc, append-nil}
@@ -20,11 +20,12 @@ use Rattle.script_rows.proofs.Plain.{IsSaid, is_shown, step_said, step_shown}
 use Rattle.script_text.specs.Lines.{TextLine, is_skipped, lines_of}
 use Rattle.script_text.specs.Scenario.{IsStep}
 use Rattle.script_text.specs.Adding.{with_step}
-use Rattle.script_text.specs.Drafts.{IsDeclared}
+use Rattle.script_text.specs.declared.fault.ScriptFault.{ScriptFault}
+use Rattle.script_text.specs.Drafts.{Answers, IsDeclared}
 use Rattle.script_text.specs.Naming.{names_of}
 use Rattle.script_text.specs.Rules.{at_line, lowest, said_by, unless_broken}
 use Rattle.script_text.specs.Schedule.{at_events, schedule_from, schedule_of, schedule_text, scheduled}
-use Rattle.script_text.specs.Script.{Steps, no_steps}
+use Rattle.script_text.specs.Script.{Fault, Steps, no_steps}
 use Rattle.script_text.proofs.Cuts.{lines_cut}
 use Rattle.script_text.proofs.Lowest.{words_begun}
 use Rattle.script_text.proofs.Named.{names_declared, step_here, step_there}
@@ -89,6 +90,21 @@ line_known s at p steps more l k e all =
           subst (λ (x : Steps). All (IsStep s) x.list) parts.1 (step_pushed s at steps (step_in n (said_by l)) (λ st is. step_here s st (step_known p n l.bytes st (names_declared s k) (words_ok p n l parts.0, is))) all)
     ]
 
+-- what is left of a schedule adds steps of the script, if its first line does
+known_after : (s : Setup) (k : ℕ) (steps : Steps) (l : TextLine) (ls : List TextLine) (ss : List Step) (r : Result Steps Rule) → IsDeclared s → scheduled k at_events (names_of s) steps l ≡ r → at_line k r (λ more. schedule_from (k + 1) (names_of s) more ls) ≡ Ok ss → All (IsStep s) steps.list → ((more : Steps) → schedule_from (k + 1) (names_of s) more ls ≡ Ok ss → All (IsStep s) more.list → All (IsStep s) ss) → All (IsStep s) ss
+known_after s k steps l ls ss (Ok more) d is e all rest = rest more e (line_known s k at_events steps more l d is all)
+known_after s k steps l ls ss (Err r) d is e all rest = absurd (cc)
+
+lines_known : (s : Setup) (k : ℕ) (steps : Steps) (ls : List TextLine) (ss : List Step) → IsDeclared s → schedule_from k (names_of s) steps ls ≡ Ok ss → All (IsStep s) steps.list → All (IsStep s) ss
+lines_known s k steps [] ss d e all = let same : steps.list ≡ ss = cc in subst (All (IsStep s)) same all
+lines_known s k steps (l ∷ ls) ss d e all =
+    known_after s k steps l ls ss (scheduled k at_events (names_of s) steps l) d refl e all (λ more goes so. lines_known s (k + 1) more ls ss d goes so)
+
+-- so the steps that are answered are the script's
+pub steps_known : (s : Setup) (bytes : List ℕ) (r : Result (List Step) ScriptFault) → IsDeclared s → Answers r (schedule_of s bytes) → IfOk r (All (IsStep s))
+steps_known s bytes (Ok ss) d is = lines_known s 1 no_steps (lines_of bytes) ss d is (λ k e under. absurd (omega (arith, under)))
+steps_known s bytes (Err f) d is = tt
+
 -- ---- from line to line
 pub schedule_goes : (k : ℕ) (n : Names) (steps more : Steps) (l : TextLine) (ls : List TextLine) → scheduled k at_events n steps l ≡ Ok more → schedule_from k n steps (l ∷ ls) ≡ schedule_from (k + 1) n more ls
 schedule_goes k n steps more l ls e =
@@ -97,3 +113,7 @@ schedule_goes k n steps more l ls e =
 pub schedule_breaks : (k : ℕ) (n : Names) (steps : Steps) (l : TextLine) (ls : List TextLine) (r : Rule) → scheduled k at_events n steps l ≡ Err r → schedule_from k n steps (l ∷ ls) ≡ Err (record { line = k; rule = rule_number r })
 schedule_breaks k n steps l ls r e =
     ap (λ (x : Result Steps Rule). at_line k x (λ m. schedule_from (k + 1) n m ls)) e
+
+-- a refusal of a schedule
+abbrev pub refused_line : ℕ → ℕ → Result (List Step) Fault
+refused_line line number = Err (record { line = line; rule = number })

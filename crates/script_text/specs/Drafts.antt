@@ -161,6 +161,12 @@ Answers (Ok a) meaning = meaning ≡ Ok a
 Answers (Err (script_fault.Rule line rule)) meaning = meaning ≡ Err (record { line = line; rule = rule })
 Answers (Err script_fault.Memory) meaning = ⊤
 
+-- a whole was taken in so, unless memory was wanting
+abbrev pub Takes : {A : Type 0} → Result (Unit {0}) ScriptFault → A → Result A Fault → Type 0
+Takes (Ok u) new meaning = meaning ≡ Ok new
+Takes (Err (script_fault.Rule line rule)) new meaning = meaning ≡ Err (record { line = line; rule = rule })
+Takes (Err script_fault.Memory) new meaning = ⊤
+
 -- what is declared was kept so, unless memory was wanting
 abbrev pub Finishes : Result Declarations ScriptFault → Declarations → Type 0
 Finishes (Ok new) d = new ≡ d

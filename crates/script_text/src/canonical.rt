@@ -24,8 +24,10 @@ pub fn write_declarations(alloc: Global, scenario: &Scenario) -> Result<Blob, Me
         ≡ Ok (declared_alone scenario.now.setup scenario.now.chance)) }
 {
     let names = scenario.names(alloc)?;
-    let text = written(alloc, &names, scenario)?;
-    Ok(text)
+    let text = written(alloc, &names, scenario);
+    // by a call, so that the end of names is proved once
+    drop(names);
+    text
 }
 
 /// The text, by the names of the script.

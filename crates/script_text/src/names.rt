@@ -13,19 +13,59 @@ use script_names::NameTable;
 use script_rows::{Member, Names};
 use std::alloc::Global;
 
+/// The names of the clusters and of the topics.
+#[derive(Drop)]
+struct NodeNames<'a> {
+    clusters: NameTable<'a>,
+    topics: NameTable<'a>,
+}
+
+/// The names of the clients, and what is asked of each.
+#[derive(Drop)]
+struct ClientNames<'a> {
+    clients: NameTable<'a>,
+    members: Vec<Member>,
+}
+
 impl Declarations {
     /// What lines may name.
     pub(crate) fn names(&self, alloc: Global) -> Result<Names<'_>, Memory>
         ensures names { IfOk result (λ names. names ≡ names_of self.now.setup) }
         ensures known { OnOk result (IsDeclared self.now.setup) }
     {
+        let subs = self.sub_tables(alloc)?;
+        let clients = self.client_names(alloc)?;
+        let nodes = self.node_names(alloc)?;
+        Ok(Names::from_tables(
+            nodes.clusters,
+            nodes.topics,
+            clients.clients,
+            clients.members,
+            subs,
+        ))
+    }
+
+    /// The names of the clusters and of the topics.
+    fn node_names(&self, alloc: Global) -> Result<NodeNames<'_>, Memory>
+        ensures clusters { IfOk result (λ names. names.clusters ≡ self.now.setup.clusters) }
+        ensures topics { IfOk result (λ names. names.topics ≡ self.now.setup.topics) }
+        ensures known { OnOk result (IsDeclared self.now.setup) }
+    {
         let setup = self.setup();
         let clusters = table_of(alloc, setup.clusters())?;
         let topics = table_of(alloc, setup.topics())?;
+        Ok(NodeNames { clusters, topics })
+    }
+
+    /// The names of the clients, and what is asked of each.
+    fn client_names(&self, alloc: Global) -> Result<ClientNames<'_>, Memory>
+        ensures clients { IfOk result (λ names. names.clients ≡ map (λ (d : Declared). d.name) self.now.setup.clients) }
+        ensures members { IfOk result (λ names. names.members.items ≡ map member_of self.now.setup.clients) }
+    {
+        let setup = self.setup();
         let clients = client_table(alloc, setup.clients())?;
         let members = members_of(alloc, setup.clients())?;
-        let subs = self.sub_tables(alloc)?;
-        Ok(Names::from_tables(clusters, topics, clients, members, subs))
+        Ok(ClientNames { clients, members })
     }
 
     /// The subscriptions of each topic.

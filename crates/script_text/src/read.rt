@@ -1,7 +1,9 @@
 //! The reader of a script.
 ghost use Rattle.std.specs.Prelude.{◌≡◌, ℕ, ◌+◌, ◌<◌, ◌≤◌, ◌^◌, ◌⊎◌, length, All, Err, Ok, IfOk, IfSome, OnOk};
-ghost use Rattle.script_text.specs.Drafts.{Answers, Finishes, Goes, StartsWithStep, no_draft, so_far};
+ghost use Rattle.script_text.specs.Drafts.{Answers, Finishes, Goes, IsDeclared, StartsWithStep, no_draft, so_far};
 ghost use Rattle.script_text.specs.Kept.{IsKept};
+ghost use Rattle.script_text.specs.Naming.{names_of};
+ghost use Rattle.script_text.specs.Recent.{IsNothing};
 ghost use Rattle.script_text.specs.Rules.{at_line, completed, script_from, script_of};
 ghost use Rattle.script_text.specs.Scenario.{IsChance, IsClient, IsScenario, IsStep};
 ghost use Rattle.script_text.specs.Script.{Script, no_line, no_steps};
@@ -14,7 +16,7 @@ use crate::recent::Recent;
 use crate::scenario::Scenario;
 use crate::steps::Steps;
 use geo_base::Memory;
-use script_rows::{LineFault, Rule, Stage};
+use script_rows::{LineFault, Names, Rule, Stage};
 use std::alloc::Global;
 
 /// Reads a script of fewer than 2^32 bytes.
@@ -51,15 +53,32 @@ fn read(alloc: Global, bytes: &[u8]) -> Result<Scenario, ScriptFault>
 }
 
 /// The script of all lines.
-#[tactic(auto, using(crate::proofs::Answered::part_refused))]
 fn read_lines(alloc: Global, lines: &mut Lines<'_>) -> Result<Scenario, ScriptFault>
     requires { length lines.old < 2 ^ 32 }
     ensures answers { Answers result (script_from 1 no_line lines.old) }
     ensures known { IfOk result IsScenario }
 {
     let mut draft = Draft::new(alloc);
+    let scenario = read_into(alloc, &mut draft, lines);
+    // by a call, so that the end of a draft is proved by itself
+    drop(draft);
+    scenario
+}
+
+/// The script of all lines, by a draft that is empty before the first.
+#[tactic(auto, using(crate::proofs::Answered::part_refused))]
+fn read_into<'a>(
+    alloc: Global,
+    draft: &mut Draft<'a>,
+    lines: &mut Lines<'a>,
+) -> Result<Scenario, ScriptFault>
+    requires fresh { draft.old ≡ no_draft }
+    requires few { length lines.old < 2 ^ 32 }
+    ensures answers { Answers result (script_from 1 no_line lines.old) }
+    ensures known { IfOk result IsScenario }
+{
     match draft.read_declarations(alloc, lines) {
-        Ok(number) => read_after(alloc, &mut draft, lines, number),
+        Ok(number) => read_after(alloc, draft, lines, number),
         Err(fault) => Err(fault),
     }
 }
@@ -162,19 +181,65 @@ impl Declarations {
             (λ number. at_line number (completed (record { declared = self.now; steps = steps.new })) Ok) }
         ensures known { OnOk result (All (IsStep self.now.setup) steps.new.list) }
     {
-        let names = match self.names(alloc) {
-            Ok(names) => names,
-            Err(Memory) => return Err(ScriptFault::Memory),
-        };
+        match self.names(alloc) {
+            Ok(names) => {
+                let end = self.read_by(alloc, &names, steps, lines, first);
+                // by a call, so that the end of names is proved once
+                drop(names);
+                end
+            }
+            Err(Memory) => Err(ScriptFault::Memory),
+        }
+    }
+
+    /// The same by the names that are declared.
+    fn read_by(
+        &self,
+        alloc: Global,
+        names: &Names<'_>,
+        steps: &mut Steps,
+        lines: Lines<'_>,
+        first: u64,
+    ) -> Result<u64, ScriptFault>
+        requires names { names.now ≡ names_of self.now.setup }
+        requires declared { IsDeclared self.now.setup }
+        requires fresh { steps.old ≡ no_steps }
+        requires starts { StartsWithStep lines }
+        requires few { first + length lines ≤ 2 ^ 32 }
+        ensures goes { Goes result (script_from first (so_far self.now) lines.entry)
+            (λ number. at_line number (completed (record { declared = self.now; steps = steps.new })) Ok) }
+        ensures known { OnOk result (All (IsStep self.now.setup) steps.new.list) }
+    {
+        match Recent::new(alloc) {
+            Ok(mut recent) => self.read_noting(names, steps, lines, first, &mut recent),
+            Err(Memory) => Err(ScriptFault::Memory),
+        }
+    }
+
+    /// The same; each line that schedules a step is noted among the recent ones, where none stands yet.
+    fn read_noting<'a>(
+        &self,
+        names: &Names<'_>,
+        steps: &mut Steps,
+        lines: Lines<'a>,
+        first: u64,
+        recent: &mut Recent<'a>,
+    ) -> Result<u64, ScriptFault>
+        requires names { names.now ≡ names_of self.now.setup }
+        requires declared { IsDeclared self.now.setup }
+        requires fresh { steps.old ≡ no_steps }
+        requires starts { StartsWithStep lines }
+        requires few { first + length lines ≤ 2 ^ 32 }
+        requires recent { All IsNothing recent.old }
+        ensures goes { Goes result (script_from first (so_far self.now) lines.entry)
+            (λ number. at_line number (completed (record { declared = self.now; steps = steps.new })) Ok) }
+        ensures known { OnOk result (All (IsStep self.now.setup) steps.new.list) }
+    {
         let mut lines = lines;
-        let mut recent = match Recent::new(alloc) {
-            Ok(recent) => recent,
-            Err(Memory) => return Err(ScriptFault::Memory),
-        };
         let mut progress = self.progress();
         let mut number = first;
         while let Some(line) = lines.next_line() {
-            match steps.read_next(progress, &names, number, line, &mut recent) {
+            match steps.read_next(progress, names, number, line, recent) {
                 Ok(()) => {}
                 Err(LineFault::Broken(rule)) => {
                     return Err(ScriptFault::Rule {

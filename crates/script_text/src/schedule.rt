@@ -1,10 +1,12 @@
 //! Schedules that stand by themselves, behind the declarations of a script.
 ghost use Rattle.std.specs.Prelude.{◌≡◌, ℕ, ◌<◌, ◌^◌, ◌⊎◌, List, [], length, All, Err, Ok, IfOk};
 ghost use Rattle.geo_base.specs.declared.event.Step.{Step};
-ghost use Rattle.script_text.specs.Drafts.{Answers};
+ghost use Rattle.script_text.specs.Drafts.{Answers, Takes};
+ghost use Rattle.script_text.specs.Lines.{lines_of};
 ghost use Rattle.script_text.specs.Naming.{names_of};
 ghost use Rattle.script_text.specs.Scenario.{IsStep};
-ghost use Rattle.script_text.specs.Schedule.{schedule_of, schedule_text};
+ghost use Rattle.script_text.specs.Schedule.{schedule_from, schedule_of, schedule_text};
+ghost use Rattle.script_text.specs.Script.{no_steps};
 
 use crate::fault::ScriptFault;
 use crate::lines::Lines;
@@ -52,21 +54,45 @@ pub fn read_schedule(
 }
 
 /// The same, said at once.
-#[tactic(auto, using(crate::proofs::LineCounts::length_lines_of))]
 fn read(alloc: Global, scenario: &Scenario, bytes: &[u8]) -> Result<StepList, ScriptFault>
     requires { length bytes.now < 2 ^ 32 }
     ensures answers { Answers result (schedule_of scenario.now.setup bytes.now) }
     ensures known { IfOk result (All (IsStep scenario.now.setup)) }
 {
-    let names = match scenario.names(alloc) {
-        Ok(names) => names,
-        Err(Memory) => return Err(ScriptFault::Memory),
-    };
+    match scenario.names(alloc) {
+        Ok(names) => {
+            let steps = read_by(alloc, &names, bytes);
+            // by a call, so that the end of names is proved once
+            drop(names);
+            steps
+        }
+        Err(Memory) => Err(ScriptFault::Memory),
+    }
+}
+
+/// The steps of a schedule by names.
+fn read_by(alloc: Global, names: &Names<'_>, bytes: &[u8]) -> Result<StepList, ScriptFault>
+    requires { length bytes.now < 2 ^ 32 }
+    ensures { Answers result (schedule_from 1 names.now no_steps (lines_of bytes.now)) }
+{
     let mut steps = Steps::new(alloc);
+    match take_lines(names, &mut steps, bytes) {
+        Ok(()) => Ok(steps.into_list()),
+        Err(fault) => Err(fault),
+    }
+}
+
+/// Takes in the steps of a schedule's lines.
+#[tactic(auto, using(crate::proofs::LineCounts::length_lines_of))]
+fn take_lines(names: &Names<'_>, steps: &mut Steps, bytes: &[u8]) -> Result<(), ScriptFault>
+    requires { length bytes.now < 2 ^ 32 }
+    ensures { Takes result steps.new.list
+        (schedule_from 1 names.now steps.old (lines_of bytes.now)) }
+{
     let mut lines = Lines::new(bytes);
     let mut number = 1;
     while let Some(line) = lines.next_line() {
-        match steps.read_line(AT_EVENTS, &names, number, &line) {
+        match steps.read_line(AT_EVENTS, names, number, &line) {
             Ok(()) => number += 1,
             Err(LineFault::Broken(rule)) => {
                 return Err(ScriptFault::Rule {
@@ -77,7 +103,7 @@ fn read(alloc: Global, scenario: &Scenario, bytes: &[u8]) -> Result<StepList, Sc
             Err(LineFault::Memory) => return Err(ScriptFault::Memory),
         }
     }
-    Ok(steps.into_list())
+    Ok(())
 }
 
 /// Writes the steps of a schedule, a line each, by the names of a script. What is written of steps that the script may
@@ -89,7 +115,10 @@ pub fn write_schedule(alloc: Global, scenario: &Scenario, steps: &StepList) -> R
         → schedule_of scenario.now.setup text ≡ Ok steps.now) }
 {
     let names = scenario.names(alloc)?;
-    write_steps(alloc, &names, steps)
+    let text = write_steps(alloc, &names, steps);
+    // by a call, so that the end of names is proved once
+    drop(names);
+    text
 }
 
 fn write_steps(alloc: Global, names: &Names<'_>, steps: &StepList) -> Result<Blob, Memory>

@@ -1,10 +1,9 @@
 use Rattle.std.proofs.Common.{◌≡◌, ◌+◌, ◌≤◌, All, length}
 use Rattle.script_text.specs.Drafts.{IsLate, moved_on, so_far}
-use Rattle.script_text.specs.Naming.{names_of}
 use Rattle.script_text.specs.Rules.{script_from}
 use Rattle.script_text.specs.Recent.{Means, among_events}
 use Rattle.script_text.specs.Scenario.{IsStep}
-use Rattle.script_text.proofs.declarations.Declarations.read_steps.Given as goal
+use Rattle.script_text.proofs.declarations.Declarations.read_noting.Given as goal
 
 abbrev pub invariant-loop-line : goal.invariant-loop-line
 invariant-loop-line l = record {
@@ -13,7 +12,7 @@ invariant-loop-line l = record {
   late : IsLate l.progress l.lines;
   begun : l.progress.begun ≡ l.self.progress.begun;
   known : All (IsStep l.self.setup) l.steps.list;
-  recent : All (Means (among_events l.progress) (names_of l.self.setup)) l.recent;
+  recent : All (Means (among_events l.progress) l.names) l.recent;
 }
 
 abbrev pub decreases-loop-line : goal.decreases-loop-line
