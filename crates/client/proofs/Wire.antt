@@ -41,12 +41,11 @@ got_bare d k frame.Pong = refl
 got_bare d k frame.Unreadable = refl
 
 -- the frame that was read is acted on as any that the bytes stand for
-pub read_acts : (names ns : List (List ℕ)) (d : Declared) (k j : Client) (b : WirePacket) (bytes : List ℕ) (f : Frame) → ns ≡ names → bytes ≡ b.frame → b.session ≡ k.connection
-    → Reads ns bytes f → j ≡ got_frame d k f → (p : Packet) → StandsFor names b p → j ≡ (get d k (Some p)).client
+pub read_acts : (names : List (List ℕ)) (d : Declared) (k j : Client) (b : WirePacket) (f : Frame) → b.session ≡ k.connection
+    → Reads names b.frame f → j ≡ got_frame d k f → (p : Packet) → StandsFor names b p → j ≡ (get d k (Some p)).client
 unfolding get
-read_acts names ns d k j b bytes f same_names same_bytes here reads is p stands =
-    let reads' : Reads names b.frame f = subst (λ (bs : List ℕ). Reads names bs f) same_bytes (subst (λ (ms : List (List ℕ)). Reads ms bytes f) same_names reads) in
-    let value : f ≡ bare p.frame = value_one names b.frame f (bare p.frame) reads' stands.frame in
+read_acts names d k j b f here reads is p stands =
+    let value : f ≡ bare p.frame = value_one names b.frame f (bare p.frame) reads stands.frame in
     let same : (p.session == k.connection) ≡ true = let e : p.session ≡ k.connection = stands.session ∙ here in grind (arith, nat_tests, e) in
     rw same (is ∙ ap (λ (g : Frame). got_frame d k g) value ∙ got_bare d k p.frame)
 
@@ -65,11 +64,10 @@ reads_none : (names : List (List ℕ)) (bytes : List ℕ) (f : Frame) → Reads 
 reads_none names bytes f (text w is says) none = absurd (none w is)
 reads_none names bytes f (no_text not e) none = e
 
-pub discarded_stays : (ns : List (List ℕ)) (d : Declared) (k j : Client) (b : WirePacket) (bytes : List ℕ) (f : Frame) → bytes ≡ b.frame → b.session ≡ k.connection
-    → Reads ns bytes f → j ≡ got_frame d k f → IsDiscarded k b → j ≡ k
-discarded_stays ns d k j b bytes f same_bytes here reads is (of_another other) = absurd (other here)
-discarded_stays ns d k j b bytes f same_bytes here reads is (unread none) =
-    is ∙ ap (λ (g : Frame). got_frame d k g) (reads_none ns bytes f reads (λ w t. none w (subst (λ (bs : List ℕ). IsFrameText bs w) same_bytes t)))
+pub discarded_stays : (names : List (List ℕ)) (d : Declared) (k j : Client) (b : WirePacket) (f : Frame) → b.session ≡ k.connection
+    → Reads names b.frame f → j ≡ got_frame d k f → IsDiscarded k b → j ≡ k
+discarded_stays names d k j b f here reads is (of_another other) = absurd (other here)
+discarded_stays names d k j b f here reads is (unread none) = is ∙ ap (λ (g : Frame). got_frame d k g) (reads_none names b.frame f reads none)
 
 -- the next packet, where the client took one and where it found none
 pub next_acts : (names : List (List ℕ)) (d : Declared) (k j : Client) (b : WirePacket) → ((p : Packet) → StandsFor names b p → j ≡ (get d k (Some p)).client)
@@ -93,10 +91,12 @@ none_taken names d k None h = refl
 none_taken names d k (Some p) h = absurd h
 
 -- what was read is what its bytes stand for
-pub said_of : (names clusters : List (List ℕ)) (b : WirePacket) (bytes : List ℕ) (f : Frame) → clusters ≡ names → bytes ≡ b.frame → Reads clusters bytes f → IsSaid names (Some b)
-said_of names clusters b bytes f named same reads =
-    let here : Reads names b.frame f = subst (λ (ns : List (List ℕ)). Reads ns b.frame f) named (subst (λ (bs : List ℕ). Reads clusters bs f) same reads) in
-    record { said = Some (record { session = b.session; stamp = b.stamp; frame = f }); stands = record { session = refl; frame = reads_stand names b.frame f here } }
+pub said_of : (names : List (List ℕ)) (b : WirePacket) (f : Frame) → Reads names b.frame f → IsSaid names (Some b)
+said_of names b f reads =
+    record { said = Some (record { session = b.session; stamp = b.stamp; frame = f }); stands = record { session = refl; frame = reads_stand names b.frame f reads } }
+
+pub reads_same : (names clusters : List (List ℕ)) (bytes read : List ℕ) (f : Frame) → clusters ≡ names → read ≡ bytes → Reads clusters read f → Reads names bytes f
+reads_same names clusters bytes read f named same reads = subst (λ (ns : List (List ℕ)). Reads ns bytes f) named (subst (λ (bs : List ℕ). Reads clusters bs f) same reads)
 
 pub said_none : (names : List (List ℕ)) (o : Option WirePacket) → o ≡ None → IsSaid names o
 said_none names o is = rw is (record { said = None; stands = tt })

@@ -7,6 +7,7 @@ ghost use Rattle.geo_base.specs.declared.packet.Packet.{Packet};
 ghost use Rattle.client.specs.Counted.{CanCount};
 ghost use Rattle.client.specs.Packets.{IsDiscarded, IsSaid, StandsFor, StandsForNext};
 ghost use Rattle.client.specs.Usual.{carrying_viewed, value_viewed};
+ghost use Rattle.frame_values.specs.Standing.{Reads};
 ghost use Rattle.frame_values.specs.Usual.{entry_viewed, source_viewed};
 ghost use Rattle.frame_values.specs.Values.{simple_frame};
 ghost use Rattle.pulsar_commands.specs.Usual.{command_viewed};
@@ -100,10 +101,28 @@ impl Client {
         ensures err { OnErr result (self.new ≡ self.old) }
     {
         let frame = read_value(alloc, site.clusters(), packet.frame.as_slice())?;
+        self.take_frame(alloc, site, packet, &frame)
+    }
+
+    /// A packet came whose bytes were read.
+    fn take_frame(
+        &mut self,
+        alloc: Global,
+        site: &ClientSite,
+        packet: &WirePacket,
+        frame: &Frame,
+    ) -> Result<(), Memory>
+        requires value { Reads site.now.setup.clusters packet.now.frame frame.now }
+        requires counts { CanCount self.old }
+        ensures client { (p : Packet) → StandsFor site.now.setup.clusters packet.now p → OnOk result (self.new ≡ (get site.now.declared self.old (Some p)).client) }
+        ensures discarded { IsDiscarded self.old packet.now → OnOk result (self.new ≡ self.old) }
+        ensures said { OnOk result (IsSaid site.now.setup.clusters (Some packet.now)) }
+        ensures err { OnErr result (self.new ≡ self.old) }
+    {
         if packet.session != self.connection {
             return Ok(());
         }
-        self.get_frame(alloc, site, &frame)?;
+        self.get_frame(alloc, site, frame)?;
         Ok(())
     }
 
@@ -253,13 +272,13 @@ impl Client {
         if !is_line(self.sub, id) {
             return Ok(());
         }
+        self.got.reserve(1)?;
         let held = Ident {
             origin,
             producer: ProducerName::any(alloc, producer)?,
             seq,
         };
         let got = held.copy(alloc)?;
-        self.got.reserve(1)?;
         self.held.push(Held {
             ident: held,
             position,
