@@ -1,5 +1,5 @@
 //! The slots of a topic's subscriptions.
-ghost use Rattle.std.specs.Prelude.{◌≡◌, ◌≤◌, ◌<◌, [], ◌∷◌, ◌++◌, Some, None, true, length, slice_get, slice_set, OnOk, OnErr, IfSome, MatchOption};
+ghost use Rattle.std.specs.Prelude.{◌≡◌, ◌≤◌, ◌<◌, [], ◌∷◌, ◌++◌, Some, None, true, length, slice_get, slice_set, vec_capacity, vec_len, OnOk, OnErr, IfSome, MatchOption};
 ghost use Rattle.std.specs.Option.{option_copied};
 ghost use Rattle.cursor_acks.specs.Ranges.{indexes_of};
 ghost use Rattle.geo_base.specs.Cursor.{below, with_indexes};
@@ -60,15 +60,12 @@ impl SubSlots {
     }
 
     /// A subscription in a new slot; unchanged where memory is wanting.
-    #[tactic(auto, using(crate::proofs::SlotRows::finds_more))]
     pub(crate) fn push(&mut self, alloc: Global, sub: SubMirror) -> Result<(), Memory>
         requires { NoneNamed sub.name self.old }
         ensures ok { OnOk result (self.new ≡ self.old ++ Some sub ∷ []) }
         ensures err { OnErr result (self.new ≡ self.old) }
     {
-        let name = String::from_str(alloc, sub.name().as_str())?;
-        self.slots.reserve(1)?;
-        self.places.insert(name, self.slots.len())?;
+        make_way(alloc, &mut self.slots, &mut self.places, &sub)?;
         self.slots.push_reserved(Some(sub));
         Ok(())
     }
@@ -108,6 +105,28 @@ impl SubSlots {
             None => Ok(()),
         }
     }
+}
+
+/// Room for the slot of one more subscription, which the table finds there, behind the others; the table stays where memory is
+/// wanting.
+#[tactic(auto, using(crate::proofs::SlotRows::finds_more))]
+fn make_way(
+    alloc: Global,
+    slots: &mut Vec<Option<SubMirror>>,
+    places: &mut IndexMap<String, usize>,
+    sub: &SubMirror,
+) -> Result<(), Memory>
+    requires finds { FindsSlots places.old.entries slots.old.items }
+    requires new { NoneNamed sub.now.name slots.old.items }
+    ensures slots { slots.new.items ≡ slots.old.items }
+    ensures room { OnOk result (vec_len slots.new < vec_capacity slots.new) }
+    ensures ok { OnOk result (FindsSlots places.new.entries (slots.old.items ++ Some sub.now ∷ [])) }
+    ensures err { OnErr result (FindsSlots places.new.entries slots.old.items) }
+{
+    let name = String::from_str(alloc, sub.name().as_str())?;
+    slots.reserve(1)?;
+    places.insert(name, slots.len())?;
+    Ok(())
 }
 
 /// The slot that the table has of a name.

@@ -1,10 +1,12 @@
 //! The entries of a topic.
-ghost use Rattle.std.specs.Prelude.{◌≡◌, [], ◌∷◌, ◌++◌, length, slice_get, true, IfOk, OnOk, OnErr, MatchOption};
+ghost use Rattle.std.specs.Prelude.{◌≡◌, ◌<◌, [], ◌∷◌, ◌++◌, length, slice_get, true, vec_capacity, vec_len, IfOk, OnOk, OnErr, MatchOption};
 ghost use Rattle.std.specs.List.{list_any};
+ghost use Rattle.dedup_table.specs.Table.{noted, stream_of, verdict};
 ghost use Rattle.geo_base.specs.Audit.{is_above, same_entry};
 ghost use Rattle.geo_base.specs.Mirror.{index_from};
 ghost use Rattle.geo_base.specs.Topic.{accepts};
-ghost use Rattle.audit_mirrors.specs.Stored.{Ascend, FindsAll, StandsAt, StandsNowhere, identity_of, is_same_at, place_in};
+ghost use Rattle.indexmap.specs.IndexMap.{insert_entry};
+ghost use Rattle.audit_mirrors.specs.Stored.{Ascend, FindsAll, StandsAt, StandsNowhere, identity_of, is_identity, is_same_at, place_in};
 
 use crate::identity::Identity;
 use audit_entries::{is_same_entry, is_same_position};
@@ -112,21 +114,66 @@ impl Stored {
         ensures ok { OnOk result (self.new ≡ record { entries = self.old.entries ++ entry ∷ []; positions = self.old.positions ++ position ∷ [] }) }
         ensures err { OnErr result (self.new ≡ self.old) }
     {
-        let stream = Stream::of(alloc, &entry.ident)?;
-        let identity = Identity::of(alloc, &entry.ident)?;
-        self.entries.reserve(1)?;
-        self.positions.reserve(1)?;
-        self.streams.reserve(1)?;
-        self.places.reserve(1)?;
-        self.streams.note(stream, entry.ident.seq);
-        match self.places.insert(identity, self.entries.len()) {
-            Ok(_) => {}
-            Err(_) => unreachable!(),
-        }
+        make_way(
+            alloc,
+            &mut self.entries,
+            &mut self.positions,
+            &mut self.streams,
+            &mut self.places,
+            &entry.ident,
+        )?;
         self.positions.push_reserved(position);
         self.entries.push_reserved(entry);
         Ok(())
     }
+}
+
+/// Room for one more entry and its position; the tables tell that it stands behind the others. These and the positions stay, and so
+/// do the tables where memory is wanting.
+fn make_way(
+    alloc: Global,
+    entries: &mut Vec<Entry>,
+    positions: &mut Vec<Position>,
+    streams: &mut DedupTable,
+    places: &mut IndexMap<Identity, usize>,
+    ident: &Ident,
+) -> Result<(), Memory>
+    requires { verdict streams.old.rows (stream_of ident.now) ident.now.seq ≡ Verdict.New }
+    ensures entries { entries.new.items ≡ entries.old.items }
+    ensures positions { positions.new.items ≡ positions.old.items }
+    ensures entry_room { OnOk result (vec_len entries.new < vec_capacity entries.new) }
+    ensures position_room { OnOk result (vec_len positions.new < vec_capacity positions.new) }
+    ensures stream { OnOk result (streams.new.rows ≡ noted streams.old.rows (stream_of ident.now) ident.now.seq) }
+    ensures place { OnOk result (places.new.entries ≡ insert_entry is_identity places.old.entries (identity_of ident.now) (length entries.old.items)) }
+    ensures err_streams { OnErr result (streams.new.rows ≡ streams.old.rows) }
+    ensures err_places { OnErr result (places.new.entries ≡ places.old.entries) }
+{
+    entries.reserve(1)?;
+    positions.reserve(1)?;
+    tell(alloc, streams, places, ident, entries.len())?;
+    Ok(())
+}
+
+/// The tables tell that the entry of an identity, which is new, stands at a place. They stay where memory is wanting.
+fn tell(
+    alloc: Global,
+    streams: &mut DedupTable,
+    places: &mut IndexMap<Identity, usize>,
+    ident: &Ident,
+    place: usize,
+) -> Result<(), Memory>
+    requires { verdict streams.old.rows (stream_of ident.now) ident.now.seq ≡ Verdict.New }
+    ensures stream { OnOk result (streams.new.rows ≡ noted streams.old.rows (stream_of ident.now) ident.now.seq) }
+    ensures place { OnOk result (places.new.entries ≡ insert_entry is_identity places.old.entries (identity_of ident.now) place) }
+    ensures err_streams { OnErr result (streams.new.rows ≡ streams.old.rows) }
+    ensures err_places { OnErr result (places.new.entries ≡ places.old.entries) }
+{
+    streams.reserve(1)?;
+    let stream = Stream::of(alloc, ident)?;
+    let identity = Identity::of(alloc, ident)?;
+    places.insert(identity, place)?;
+    streams.note(stream, ident.seq);
+    Ok(())
 }
 
 /// Whether a position is above the last of some.
