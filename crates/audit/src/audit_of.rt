@@ -1,6 +1,8 @@
 //! The audit.
 ghost use Rattle.std.specs.Prelude.{ℕ, ◌≡◌, Ok, Err, IfOk};
-ghost use Rattle.audit.specs.AuditOf.{IsAccepted, audit_of};
+ghost use Rattle.geo_base.specs.Mirror.{opening_mirrors};
+ghost use Rattle.script_names.specs.Words.{cut_by};
+ghost use Rattle.audit.specs.AuditOf.{IsAccepted, audit_of, lines_audited, names_of};
 ghost use Rattle.audit.specs.declared.fault.AuditFault.TheVariants as fault;
 
 use crate::fault::AuditFault;
@@ -19,13 +21,35 @@ pub fn audit(alloc: Global, scenario: &Scenario, bytes: &[u8]) -> Result<u64, Au
     ensures refused { (event rule : ℕ) → result ≡ Err (fault.Rule event rule) → audit_of scenario.now.setup bytes.now ≡ Err (record { event = event; rule = rule }) }
     ensures accepted { IfOk result (λ events. IsAccepted scenario.now.setup bytes.now events) }
 {
-    let names = Names::new(alloc, scenario.clusters(), scenario.topics())?;
-    let mut mirrors = AllMirrors::new(alloc, scenario)?;
     let Some((head, lines)) = cut_at(bytes, b'\n') else {
         return Err(AuditFault::Rule { event: 0, rule: 1 });
     };
     if !is_word(head, b"trace") {
         return Err(AuditFault::Rule { event: 0, rule: 1 });
     }
-    mirrors.read_all(alloc, scenario, &names, lines)
+    audit_lines(alloc, scenario, lines)
+}
+
+/// Audits the lines of a trace behind `trace`.
+fn audit_lines(alloc: Global, scenario: &Scenario, lines: &[u8]) -> Result<u64, AuditFault>
+    ensures audited { IfOk result (λ events. lines_audited scenario.now.setup (opening_mirrors scenario.now.setup) (cut_by 10 lines.now) ≡ Ok events) }
+    ensures refused { (event rule : ℕ) → result ≡ Err (fault.Rule event rule) → lines_audited scenario.now.setup (opening_mirrors scenario.now.setup) (cut_by 10 lines.now) ≡ Err (record { event = event; rule = rule }) }
+{
+    let names = Names::new(alloc, scenario.clusters(), scenario.topics())?;
+    audit_named(alloc, scenario, &names, lines)
+}
+
+/// Audits such lines, whose names are looked up in tables.
+fn audit_named(
+    alloc: Global,
+    scenario: &Scenario,
+    names: &Names<'_>,
+    lines: &[u8],
+) -> Result<u64, AuditFault>
+    requires { names.now ≡ names_of scenario.now.setup }
+    ensures audited { IfOk result (λ events. lines_audited scenario.now.setup (opening_mirrors scenario.now.setup) (cut_by 10 lines.now) ≡ Ok events) }
+    ensures refused { (event rule : ℕ) → result ≡ Err (fault.Rule event rule) → lines_audited scenario.now.setup (opening_mirrors scenario.now.setup) (cut_by 10 lines.now) ≡ Err (record { event = event; rule = rule }) }
+{
+    let mut mirrors = AllMirrors::new(alloc, scenario)?;
+    mirrors.read_all(alloc, scenario, names, lines)
 }

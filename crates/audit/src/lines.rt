@@ -128,6 +128,22 @@ impl AllMirrors {
         }
     }
 
+    /// Whether a line may be told. A fault of a rule comes exactly where one refuses it, with the last event and the lowest such rule.
+    fn accept(&mut self, alloc: Global, scenario: &Scenario, line: &Line) -> Result<(), AuditFault>
+        requires sized { AreSized scenario.now.setup self.old }
+        requires numbers { IsItemOf scenario.now.setup (item_said line.now) }
+        ensures same { self.new ≡ self.old }
+        ensures accepted { OnOk result (item_refused scenario.now.setup self.old (Some (item_said line.now)) ≡ None) }
+        ensures rule { (event rule : ℕ) → result ≡ Err (fault.Rule event rule) → item_refused scenario.now.setup self.old (Some (item_said line.now)) ≡ Some rule }
+        ensures event { (event rule : ℕ) → result ≡ Err (fault.Rule event rule) → event ≡ self.old.events }
+    {
+        let event = self.events();
+        match self.refused(alloc, scenario, line)? {
+            None => Ok(()),
+            Some(rule) => Err(AuditFault::Rule { event, rule }),
+        }
+    }
+
     /// Reads a line: where no rule refuses it, what it tells is done. A fault of a rule comes exactly where one does, with the last
     /// event and the lowest such rule.
     pub(crate) fn read(
@@ -151,13 +167,9 @@ impl AllMirrors {
         let Some(line) = line_of(alloc, names, line)? else {
             return Err(AuditFault::Rule { event, rule: 1 });
         };
-        match self.refused(alloc, scenario, &line)? {
-            None => {
-                self.tell(alloc, scenario, line)?;
-                Ok(())
-            }
-            Some(rule) => Err(AuditFault::Rule { event, rule }),
-        }
+        self.accept(alloc, scenario, &line)?;
+        self.tell(alloc, scenario, line)?;
+        Ok(())
     }
 
     /// Reads all lines of a text: how many events have begun, where no rule refuses one. A fault of a rule comes exactly where one

@@ -1,5 +1,5 @@
 //! All topics of a trace.
-ghost use Rattle.std.specs.Prelude.{◌≡◌, ◌<◌, ◌+◌, None, length, take, slice_index_or, slice_set, IfOk, IfSome, OnOk};
+ghost use Rattle.std.specs.Prelude.{◌≡◌, ◌<◌, ◌+◌, [], ◌∷◌, ◌++◌, None, length, take, slice_index_or, slice_set, IfOk, IfSome, OnOk};
 ghost use Rattle.std.specs.List.{list_all};
 ghost use Rattle.cursor_acks.specs.Ranges.{indexes_of};
 ghost use Rattle.geo_base.specs.Mirror.{acted, index_at, mirror_number, no_mirror, opening_mirrors, told};
@@ -72,6 +72,20 @@ fn index_in(topic: &TopicMirror, position: &Position) -> Option<usize>
     topic.index_at(position)
 }
 
+/// One more topic of which nothing was told, and of which nothing is needed.
+fn add_topic(
+    alloc: Global,
+    topics: &mut Vec<TopicMirror>,
+    covers: &mut Vec<CoverList>,
+) -> Result<(), Memory>
+    ensures topics { OnOk result (topics.new.items ≡ topics.old.items ++ no_mirror ∷ []) }
+    ensures covers { OnOk result (covers.new.items ≡ covers.old.items ++ [] ∷ []) }
+{
+    topics.push(TopicMirror::new(alloc))?;
+    covers.push(CoverList::new(alloc))?;
+    Ok(())
+}
+
 impl AllMirrors {
     /// Nothing was told. An `Err` is want of memory.
     #[tactic(auto, using(crate::proofs::Within::opening_held, std::proofs::lemmas::List::replicate_more))]
@@ -82,8 +96,7 @@ impl AllMirrors {
         let mut topics = Vec::new(alloc);
         let mut covers = Vec::new(alloc);
         for _number in 0..count {
-            topics.push(TopicMirror::new(alloc))?;
-            covers.push(CoverList::new(alloc))?;
+            add_topic(alloc, &mut topics, &mut covers)?;
         }
         Ok(AllMirrors {
             topics,

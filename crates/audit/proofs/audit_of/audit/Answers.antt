@@ -1,9 +1,8 @@
-use Rattle.std.proofs.Common.{◌≡◌, ◌∙◌, ◌∷◌, ℕ, true, ap, arith, rules, sym}
+use Rattle.std.proofs.Common.{◌≡◌, ◌∙◌, ◌∷◌, ℕ, true, sym}
 use Rattle.std.specs.Prelude.{Ok, codes}
 use Rattle.std.specs.Str.{bytes_eq}
-use Rattle.std.proofs.lemmas.Grind.{common_steps}
 use Rattle.std.proofs.lemmas.Result.{IfOk-weaker}
-use Rattle.geo_base.specs.Mirror.{Mirrors}
+use Rattle.geo_base.specs.Mirror.{opening_mirrors}
 use Rattle.geo_base.specs.Setup.{Setup}
 use Rattle.script_names.specs.Words.{cut_by}
 use Rattle.audit.specs.AuditOf.{IsAccepted, audit_of, lines_audited}
@@ -13,29 +12,22 @@ use Rattle.audit.proofs.audit_of.audit.Goals as goal
 pub returns-clause-audited : goal.returns-clause-audited
 returns-clause-audited c =
     let s : Setup = c.args.scenario.now.setup in let bytes = c.args.bytes.now in let head = c.in-Some.head.now in let lines = c.in-Some.lines.now in
-    let a : Mirrors = c.in_ok-mirrors.mirrors in
-    let cut : cut_by 10 bytes ≡ head ∷ cut_by 10 lines = (let whole = c.in-Some.ensures in first_of (cc, search rules, grind (arith, common_steps))) in
-    let word : bytes_eq head (codes "trace") ≡ true = (let said = c.is_word.ensures in let first = c.if-not-is_word.false in first_of (cc, search rules, grind (arith, said, first))) in
-    let whole : audit_of s bytes ≡ lines_audited s a (cut_by 10 lines) =
-    audit_reads s bytes head lines cut word ∙ ap (λ (m : Mirrors). lines_audited s m (cut_by 10 lines)) (sym c.in_ok-mirrors.ensures) in
-    IfOk-weaker c.read_all.result (λ (n : ℕ). lines_audited s a (cut_by 10 lines) ≡ Ok n) (λ (n : ℕ). audit_of s bytes ≡ Ok n) (λ n h. whole ∙ h) c.read_all.ensures.audited
+    let cut : cut_by 10 bytes ≡ head ∷ cut_by 10 lines = c.in-Some.ensures in
+    let word : bytes_eq head (codes "trace") ≡ true = sym c.is_word.ensures ∙ c.if-not-is_word.false in
+    let whole = audit_reads s bytes head lines cut word in
+    IfOk-weaker c.audit_lines.result (λ (n : ℕ). lines_audited s (opening_mirrors s) (cut_by 10 lines) ≡ Ok n) (λ (n : ℕ). audit_of s bytes ≡ Ok n) (λ n h. whole ∙ h) c.audit_lines.ensures.audited
 
 pub returns-clause-refused : goal.returns-clause-refused
 returns-clause-refused c = λ event rule is.
     let s : Setup = c.args.scenario.now.setup in let bytes = c.args.bytes.now in let head = c.in-Some.head.now in let lines = c.in-Some.lines.now in
-    let a : Mirrors = c.in_ok-mirrors.mirrors in
-    let cut : cut_by 10 bytes ≡ head ∷ cut_by 10 lines = (let whole = c.in-Some.ensures in first_of (cc, search rules, grind (arith, common_steps))) in
-    let word : bytes_eq head (codes "trace") ≡ true = (let said = c.is_word.ensures in let first = c.if-not-is_word.false in first_of (cc, search rules, grind (arith, said, first))) in
-    let whole : audit_of s bytes ≡ lines_audited s a (cut_by 10 lines) =
-    audit_reads s bytes head lines cut word ∙ ap (λ (m : Mirrors). lines_audited s m (cut_by 10 lines)) (sym c.in_ok-mirrors.ensures) in
-    whole ∙ c.read_all.ensures.refused event rule is
+    let cut : cut_by 10 bytes ≡ head ∷ cut_by 10 lines = c.in-Some.ensures in
+    let word : bytes_eq head (codes "trace") ≡ true = sym c.is_word.ensures ∙ c.if-not-is_word.false in
+    audit_reads s bytes head lines cut word ∙ c.audit_lines.ensures.refused event rule is
 
 pub returns-clause-accepted : goal.returns-clause-accepted
 returns-clause-accepted c =
     let s : Setup = c.args.scenario.now.setup in let bytes = c.args.bytes.now in let head = c.in-Some.head.now in let lines = c.in-Some.lines.now in
-    let a : Mirrors = c.in_ok-mirrors.mirrors in
-    let cut : cut_by 10 bytes ≡ head ∷ cut_by 10 lines = (let whole = c.in-Some.ensures in first_of (cc, search rules, grind (arith, common_steps))) in
-    let word : bytes_eq head (codes "trace") ≡ true = (let said = c.is_word.ensures in let first = c.if-not-is_word.false in first_of (cc, search rules, grind (arith, said, first))) in
-    let whole : audit_of s bytes ≡ lines_audited s a (cut_by 10 lines) =
-    audit_reads s bytes head lines cut word ∙ ap (λ (m : Mirrors). lines_audited s m (cut_by 10 lines)) (sym c.in_ok-mirrors.ensures) in
-    IfOk-weaker c.read_all.result (λ (n : ℕ). lines_audited s a (cut_by 10 lines) ≡ Ok n) (λ (n : ℕ). IsAccepted s bytes n) (λ n h. accepted_says s bytes n (whole ∙ h)) c.read_all.ensures.audited
+    let cut : cut_by 10 bytes ≡ head ∷ cut_by 10 lines = c.in-Some.ensures in
+    let word : bytes_eq head (codes "trace") ≡ true = sym c.is_word.ensures ∙ c.if-not-is_word.false in
+    let whole = audit_reads s bytes head lines cut word in
+    IfOk-weaker c.audit_lines.result (λ (n : ℕ). lines_audited s (opening_mirrors s) (cut_by 10 lines) ≡ Ok n) (λ (n : ℕ). IsAccepted s bytes n) (λ n h. accepted_says s bytes n (whole ∙ h)) c.audit_lines.ensures.audited

@@ -8,8 +8,8 @@ use Rattle.audit.specs.AuditOf.{names_of}
 use Rattle.audit.proofs.LineNumbers.{item_numbers}
 use Rattle.audit.proofs.mirrors.AllMirrors.read.Goals as goal
 
-pub refused-requires-clause-numbers : goal.refused-requires-clause-numbers
-refused-requires-clause-numbers c =
+pub accept-requires-clause-numbers : goal.accept-requires-clause-numbers
+accept-requires-clause-numbers c =
     let s : Setup = c.args.scenario.now.setup in
     let read : item_read (names_of s) c.args.line.now ≡ Some (item_said c.in-Some-2.line) =
     ap (λ (d : DeclaredNames). item_read d c.args.line.now) (sym c.requires.names) ∙ (sym c.in_ok-line.ensures ∙ ap (option_map item_said) c.in-Some-2.is) in
