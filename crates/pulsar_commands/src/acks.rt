@@ -25,6 +25,12 @@ use std::alloc::Global;
 /// The fewest bytes of a position in an ACK: its head, and two numbers of a byte each behind their tags.
 const LEAST_ID_BYTES: usize = 6;
 
+/// An ACK's own message has fewer bytes: at most 24 of each of `ACKED_AT_ONCE` positions, and 22 of the two numbers before them.
+pub const ACK_BODY_BOUND: usize = 5_000_000;
+
+/// Its canonical text has fewer bytes: what stands before its own message has at most a hundred.
+pub const ACK_BOUND: usize = 5_000_100;
+
 /// The ACK whose own message the content is, where that has the usual form; None says nothing of the content. `Memory` where there is
 /// no room for its positions.
 #[tactic(auto, using(crate::proofs::UsualAcks::ack_is))]
@@ -115,7 +121,7 @@ impl<'a> AckView<'a> {
     pub fn body_size(self) -> usize
         requires { length self.message_id.now ≤ ACKED_AT_ONCE }
         ensures size { result ≡ length (body_text (ack_viewed self.entry)) }
-        ensures few { result < 5000000 }
+        ensures few { result < ACK_BODY_BOUND }
     {
         varint_field_size(1, self.consumer_id)
             + varint_field_size(2, ack_type_number(self.ack_type))
@@ -126,9 +132,9 @@ impl<'a> AckView<'a> {
     #[tactic(auto, using(crate::proofs::UsualAcks::ack_length))]
     pub fn size(self, body: usize) -> usize
         requires body { body ≡ length (body_text (ack_viewed self)) }
-        requires few { body < 5000000 }
+        requires few { body < ACK_BODY_BOUND }
         ensures size { result ≡ length (command_text (ack_viewed self.entry)) }
-        ensures few { result < 5000100 }
+        ensures few { result < ACK_BOUND }
     {
         let number = Kind::Ack.number();
         // A head is as long as the field of its length.
@@ -138,7 +144,7 @@ impl<'a> AckView<'a> {
     /// Puts its canonical text, of which so many bytes are its own message, behind the bytes of a buffer that has room for it.
     pub fn put(self, out: &mut Buffer, body: usize)
         requires body { body ≡ length (body_text (ack_viewed self)) }
-        requires few { body < 5000000 }
+        requires few { body < ACK_BODY_BOUND }
         requires room { length (command_text (ack_viewed self)) ≤ out.old.spare }
         ensures text { Puts out.old (command_text (ack_viewed self.entry)) out.new }
         ensures writable { IsWritable (ack_viewed self.entry) }

@@ -15,7 +15,7 @@ mod table;
 mod view;
 mod write;
 
-pub use acks::AckView;
+pub use acks::{ACK_BODY_BOUND, ACK_BOUND, AckView};
 pub use command::{Command, PositionList};
 pub use fault::CommandFault;
 pub use kind::Kind;
