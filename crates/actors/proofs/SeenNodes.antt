@@ -1,14 +1,12 @@
 -- What a book's state says of its node.
-use Rattle.std.proofs.Common.{◌≡◌, ℕ, ◌<◌, ◌≤◌, Bool, true, false, List, length, refl, sym, ap, ◌∙◌, ◌==◌, arith}
-use Rattle.std.proofs.lemmas.Bool.{false≢true, lt-ltb}
+use Rattle.std.proofs.Common.{◌≡◌, ℕ, ◌<◌, ◌≤◌, Bool, true, false, length, refl, ap, ◌==◌, arith}
+use Rattle.std.proofs.lemmas.Bool.{lt-ltb}
 use Rattle.std.proofs.lemmas.Bool.Decides.{nat_tests}
-use Rattle.std.specs.Prelude.{if◌then◌else◌, ◌&&◌, Option, Some, None, nat_lt}
+use Rattle.std.specs.Prelude.{if◌then◌else◌, ◌&&◌, Some, None, nat_lt}
 use Rattle.actors.specs.Tries.{cluster_of, has_sender, is_broker, is_client, is_connected, sender_to}
 use Rattle.actor_roles.specs.declared.role.Link.{Link}
 use Rattle.broker.specs.Node.{BrokerBook}
 use Rattle.geo_base.specs.Broker.{sender_at}
-use Rattle.geo_base.specs.Nodes.{BrokerNode, ClientNode, Node}
-use Rattle.geo_base.specs.Sender.{Sender}
 use Rattle.geo_base.specs.Setup.{Setup}
 use Rattle.node_book.specs.declared.state.NodeState.{NodeState as Kept}
 use Rattle.node_book.specs.declared.state.NodeState.TheVariants as kept

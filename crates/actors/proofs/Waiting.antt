@@ -1,5 +1,5 @@
 -- What a turn leaves of an actor.
-use Rattle.std.proofs.Common.{◌≡◌, ℕ, ◌+◌, Bool, true, false, refl}
+use Rattle.std.proofs.Common.{◌≡◌, ◌+◌, Bool, true, false, refl}
 use Rattle.std.specs.Prelude.{if◌then◌else◌, min, not, ◌&&◌, Ok}
 use Rattle.actors.specs.Tries.{Actor, has_waited, most_waited}
 use Rattle.actors.specs.Turns.{waited_after}

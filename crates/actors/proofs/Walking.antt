@@ -1,5 +1,5 @@
 -- Tries in order.
-use Rattle.std.proofs.Common.{◌≡◌, ◌∙◌, ℕ, Bool, true, false, List, [], ◌∷◌, ◌++◌, refl, sym, ap, subst}
+use Rattle.std.proofs.Common.{◌≡◌, ◌∙◌, ℕ, Bool, true, false, List, [], ◌∷◌, ◌++◌, refl, sym, ap}
 use Rattle.std.specs.Prelude.{IfOk, IsErr, IsFalse, IsTrue, OnErr, Option, Result, Ok, Err, is_err}
 use Rattle.std.proofs.lemmas.Bool.{false≢true}
 use Rattle.actor_roles.specs.declared.role.Link.{Link}

@@ -17,7 +17,7 @@ use Rattle.pb_fields.specs.declared.field.Field.{Field}
 use Rattle.pb_fields.specs.declared.field.Value.{Value}
 use Rattle.pb_fields.specs.declared.field.Value.TheVariants as value
 use Rattle.pb_fields.specs.Message.{last_value, values}
-use Rattle.pb_fields.specs.Text.{IsFieldText, IsText, IsValue, TakesField, end, next}
+use Rattle.pb_fields.specs.Text.{IsFieldText, IsText, IsValue, end, next}
 use Rattle.pb_fields.specs.Text as text
 use Rattle.pulsar_commands.specs.declared.command.Command.{Command}
 use Rattle.pulsar_commands.specs.declared.command.Command.TheVariants as command

@@ -1,5 +1,5 @@
 -- A broker at the start, and over a restart.
-use Rattle.std.proofs.Common.{◌≡◌, ℕ, zero, suc, ◌≤◌, List, [], ◌∷◌, length, map, refl, sym, ◌∙◌, ap, subst}
+use Rattle.std.proofs.Common.{◌≡◌, ℕ, suc, ◌≤◌, List, [], ◌∷◌, length, map, refl, sym, ◌∙◌, ap, subst}
 use Rattle.std.specs.Prelude.{None, replicate}
 use Rattle.std.specs.List.{AllByRecursion}
 use Rattle.geo_base.specs.Broker.{Broker, Site, new_broker}

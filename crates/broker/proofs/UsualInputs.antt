@@ -1,6 +1,6 @@
 -- Packets of the usual form say what they look like.
 use Rattle.std.proofs.Common.{◌≡◌, ℕ, List, refl, sym, ap}
-use Rattle.std.specs.Prelude.{Option, Some, None}
+use Rattle.std.specs.Prelude.{Some, None}
 use Rattle.geo_base.specs.declared.frame.Frame.TheVariants as frame
 use Rattle.geo_base.specs.declared.position.Position.{Position}
 use Rattle.pulsar_commands.specs.declared.view.CommandView.{CommandView}
@@ -15,7 +15,6 @@ use Rattle.frame_values.specs.Values.{carrying, simple_frame}
 use Rattle.frame_values.proofs.UsualValues.{entry_is, viewed_carries, viewed_simple}
 use Rattle.wire_ends.specs.declared.packet.WirePacket.{WirePacket}
 use Rattle.broker_plans.specs.declared.usual.Came.{Came}
-use Rattle.broker_plans.specs.Usual.{send_viewed}
 use Rattle.frame_values.specs.Usual.{entry_viewed, source_viewed}
 use Rattle.broker.specs.declared.reading.Receipt.{Receipt}
 use Rattle.broker.specs.Input.{IsReceiptOf, IsSendOf}

@@ -4,10 +4,10 @@ use Rattle.std.proofs.lemmas.Bool.{cases_lt}
 use Rattle.std.proofs.lemmas.Bool.Decides.{nat_tests}
 use Rattle.geo_base.specs.Cursor.{below, has, with_index, with_indexes}
 use Rattle.cursor_acks.specs.declared.range.IndexRange.{IndexRange}
-use Rattle.cursor_acks.specs.Acks.{has_before, stands_alone}
+use Rattle.cursor_acks.specs.Acks.{has_before}
 use Rattle.cursor_acks.specs.Ranges.{covers, indexes_of}
-use Rattle.cursor_acks.specs.Places.{AreKept, Begins, Ends, IsPlace}
-use Rattle.cursor_acks.proofs.Covered.{covers_at, has_indexes, rising_indexes}
+use Rattle.cursor_acks.specs.Places.{AreKept, Ends, IsPlace}
+use Rattle.cursor_acks.proofs.Covered.{has_indexes, rising_indexes}
 use Rattle.cursor_acks.proofs.Edited.{Fits, covers_edited, edited, edited_kept}
 use Rattle.cursor_acks.proofs.Sets.{Rising, has_range, has_with_index, has_with_indexes, rising_with_index, rising_with_indexes, same_set}
 

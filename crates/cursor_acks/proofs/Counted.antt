@@ -1,9 +1,8 @@
 -- The blocks before the last one stay counted.
 use Rattle.std.proofs.Common.{◌≡◌, ℕ, suc, ◌+◌, ◌-◌, ◌<◌, ◌≤◌, List, [], ◌∷◌, ◌++◌, length, get_or, take, drop, set, refl, ap, sym, ◌∙◌, arith}
 use Rattle.std.specs.List.{All}
-use Rattle.std.proofs.lemmas.List.{get_or_read, length-drop, length-take-le}
+use Rattle.std.proofs.lemmas.List.{get_or_read}
 use Rattle.std.proofs.lemmas.List.Elements.{All-append, All-drop, All-nil, All-push, All-set, All-take}
-use Rattle.cursor_acks.specs.declared.range.IndexRange.{IndexRange}
 use Rattle.cursor_acks.specs.Blocks.{AreCounted, excess, split_at}
 use Rattle.cursor_acks.proofs.Joined.{Ranges, excess_append, excess_drop, excess_set, split_excess, split_is, split_some}
 use Rattle.cursor_acks.proofs.Parts.{gone_excess}

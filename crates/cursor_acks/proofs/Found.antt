@@ -8,7 +8,7 @@ use Rattle.cursor_acks.specs.declared.range.IndexRange.{IndexRange}
 use Rattle.cursor_acks.specs.declared.place.Place.{Place}
 use Rattle.cursor_acks.specs.Blocks.{IsFound, IsRange, IsSlot, count_before, end_of, flat, joined, no_range}
 use Rattle.cursor_acks.specs.Places.{AreKept, IsPlace}
-use Rattle.cursor_acks.proofs.Joined.{Ranges, block_range, block_within, joined_append, next_block}
+use Rattle.cursor_acks.proofs.Joined.{Ranges, block_range, block_within, next_block}
 use Rattle.cursor_acks.proofs.Places.{place_at, rises}
 
 -- ---- a part of ranges that are kept

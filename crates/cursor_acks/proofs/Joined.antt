@@ -1,13 +1,11 @@
 -- What an edit of one block makes of the ranges of all blocks.
-use Rattle.std.proofs.Common.{◌≡◌, ℕ, zero, suc, ◌+◌, ◌-◌, ◌*◌, ◌<◌, ◌≤◌, ◌^◌, List, [], ◌∷◌, ◌++◌, inl, inr, length, get_or, take, drop, set, refl, ap, sym, ◌∙◌, arith}
+use Rattle.std.proofs.Common.{◌≡◌, ℕ, zero, suc, ◌+◌, ◌-◌, ◌<◌, ◌≤◌, List, [], ◌∷◌, ◌++◌, length, get_or, take, drop, set, refl, ap, sym, ◌∙◌, arith}
 use Rattle.std.specs.List.{All}
-use Rattle.std.proofs.lemmas.Bool.{cases_lt}
 use Rattle.std.proofs.Math.Seq.{drop-append-add, take-append-add}
 use Rattle.std.proofs.lemmas.List.{append_assoc, drop-append-le, get_or-append-add, get_or_append_left, length-append, length-drop, length-take-le, take-append-drop, take-append-le}
 use Rattle.std.proofs.lemmas.List.Elements.{All-cons, All-head, All-tail}
 use Rattle.cursor_acks.specs.declared.range.IndexRange.{IndexRange}
-use Rattle.cursor_acks.specs.declared.place.Place.{Place}
-use Rattle.cursor_acks.specs.Blocks.{count_before, end_of, excess, flat, joined, split_at, IsFound, IsRange, IsSlot}
+use Rattle.cursor_acks.specs.Blocks.{count_before, excess, joined, split_at}
 
 abbrev pub Ranges : Type 0
 Ranges = List IndexRange

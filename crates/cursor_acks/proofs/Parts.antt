@@ -1,14 +1,13 @@
 -- What an edit of the parts of a list makes of its ranges and of its spare.
-use Rattle.std.proofs.Common.{◌≡◌, ℕ, zero, suc, ◌+◌, ◌-◌, ◌*◌, ◌<◌, ◌≤◌, ◌^◌, List, [], ◌∷◌, ◌++◌, inl, inr, length, get_or, take, drop, set, refl, ap, sym, ◌∙◌, arith}
-use Rattle.std.specs.Prelude.{min}
+use Rattle.std.proofs.Common.{◌≡◌, ℕ, zero, suc, ◌+◌, ◌-◌, ◌<◌, ◌≤◌, ◌^◌, List, [], ◌∷◌, ◌++◌, inl, inr, length, get_or, take, drop, set, refl, ap, sym, ◌∙◌, arith}
 use Rattle.std.specs.List.{All}
 use Rattle.std.proofs.lemmas.Bool.{cases_lt}
 use Rattle.std.proofs.Math.Seq.{drop-append-add}
-use Rattle.std.proofs.lemmas.List.{append-nil, append_assoc, drop-append-le, drop_all, drop_at, drop_more, get_or_append_left, get_or_at, length-append, length-drop, length-set, length-take-le, nil_from_length, set-append_left, set_at, set_split, take-append-le, take-take}
+use Rattle.std.proofs.lemmas.List.{drop-append-le, drop_at, drop_more, get_or_append_left, get_or_at, length-append, length-drop, length-set, length-take-le, nil_from_length, set-append_left, set_at, set_split, take-append-le, take-take}
 use Rattle.cursor_acks.specs.declared.range.IndexRange.{IndexRange}
 use Rattle.cursor_acks.specs.declared.place.Place.{Place}
-use Rattle.cursor_acks.specs.Blocks.{AreParts, IsRange, IsSlot, count_before, excess, flat, joined, last_room, spare_of, split_at}
-use Rattle.cursor_acks.proofs.Joined.{Ranges, drop_joined, edit_joined, excess_append, excess_at, excess_drop, excess_set, joined_append, next_block, same_places, split_before, split_excess, split_joined, split_last, split_length, split_lower, split_upper}
+use Rattle.cursor_acks.specs.Blocks.{AreParts, IsRange, IsSlot, count_before, excess, flat, joined, spare_of, split_at}
+use Rattle.cursor_acks.proofs.Joined.{Ranges, drop_joined, edit_joined, excess_append, excess_at, excess_drop, excess_set, joined_append, same_places, split_before, split_last, split_length, split_lower, split_upper}
 
 -- ---- a block before the last, and the last
 

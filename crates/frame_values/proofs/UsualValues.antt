@@ -9,7 +9,6 @@ use Rattle.std.proofs.lemmas.Result.{IfOk-weaker}
 use Rattle.geo_base.specs.declared.entry.Content.{Content}
 use Rattle.geo_base.specs.declared.entry.Content.TheVariants as content
 use Rattle.geo_base.specs.declared.entry.Entry.{Entry}
-use Rattle.geo_base.specs.declared.entry.Targets.TheVariants as targets
 use Rattle.geo_base.specs.declared.frame.Frame.{Frame}
 use Rattle.geo_base.specs.declared.frame.Frame.TheVariants as frame
 use Rattle.geo_base.specs.declared.marker.Place.{Place}
@@ -34,7 +33,7 @@ use Rattle.frame_values.specs.Coded.{IsCarriedText, IsMarkerRight, IsWritten}
 use Rattle.frame_values.specs.Standing.{Reads, text as told}
 use Rattle.frame_values.specs.Texts.{body_of, marker_number, metadata_of, payload_text}
 use Rattle.frame_values.specs.Usual.{entry_viewed, is_data, is_usual, source_viewed}
-use Rattle.frame_values.specs.Values.{IsEntryOf, Says, SaysValue, carrying, no_marker, place_of, simple_frame}
+use Rattle.frame_values.specs.Values.{IsEntryOf, Says, SaysValue, carrying, no_marker, simple_frame}
 use Rattle.frame_values.proofs.Entries.{no_rest, says_is}
 
 -- ---- read

@@ -1,5 +1,5 @@
 -- What the code writes is the text of the frame.
-use Rattle.std.proofs.Common.{◌≡◌, ◌≢◌, ℕ, ◌≤◌, ◌-◌, List, [], ◌∷◌, true, false, refl, sym, ap, subst, ◌∙◌, arith, length, ◌==◌}
+use Rattle.std.proofs.Common.{◌≡◌, ◌≢◌, ℕ, ◌-◌, List, [], ◌∷◌, true, false, refl, sym, ap, subst, ◌∙◌, arith, length, ◌==◌}
 use Rattle.std.specs.Prelude.{Option, Some, None}
 use Rattle.std.proofs.lemmas.Bool.{eqb-true}
 use Rattle.geo_base.specs.declared.entry.Content.TheVariants as content

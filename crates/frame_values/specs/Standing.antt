@@ -1,9 +1,7 @@
 -- Bytes and packets of bytes that stand for values of the machine.
 use Rattle.std.specs.Prelude.{◌≡◌, ℕ, List}
-use Rattle.geo_base.specs.declared.entry.Entry.{Entry}
 use Rattle.geo_base.specs.declared.frame.Frame.{Frame}
 use Rattle.geo_base.specs.declared.frame.Frame.TheVariants as frame
-use Rattle.geo_base.specs.declared.packet.Packet.{Packet}
 use Rattle.geo_base.specs.Entry.{with_origin}
 use Rattle.pulsar_frames.specs.declared.frame.Frame.{Frame as WireFrame}
 use Rattle.pulsar_frames.specs.Frames.{IsFrameText}

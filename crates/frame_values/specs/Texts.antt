@@ -1,6 +1,6 @@
 -- The frame of the protocol that a value of the machine is written as, and its bytes. Where the machine has a cluster's number,
 -- the bytes have the cluster's name; names are those of the clusters, by their numbers.
-use Rattle.std.specs.Prelude.{ℕ, Bool, true, false, List, [], ◌∷◌, Option, Some, None, codes}
+use Rattle.std.specs.Prelude.{ℕ, Bool, true, false, List, [], Option, Some, None, codes}
 use Rattle.std.specs.Option.{option_map}
 use Rattle.geo_base.specs.declared.entry.Content.{Content}
 use Rattle.geo_base.specs.declared.entry.Content.TheVariants as content

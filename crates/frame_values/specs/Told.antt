@@ -1,5 +1,5 @@
 -- Which values their canonical text tells: what the bytes don't say apart agrees with what they say.
-use Rattle.std.specs.Prelude.{◌≡◌, ℕ, List, [], Option, Some, None}
+use Rattle.std.specs.Prelude.{◌≡◌, ℕ, List, [], Option}
 use Rattle.std.specs.Option.{option_map}
 use Rattle.geo_base.specs.declared.entry.Content.{Content}
 use Rattle.geo_base.specs.declared.entry.Content.TheVariants as content

@@ -1,14 +1,13 @@
 -- Links by peers: what a history sent on a link and took from one is what it sent to a peer and took from one.
-use Rattle.std.proofs.Common.{◌≡◌, ℕ, ◌+◌, Bool, true, false, List, [], ◌∷◌, ◌++◌, refl, sym, ap, subst, ◌∙◌, ◌==◌, arith}
-use Rattle.std.specs.Prelude.{◌&&◌, if◌then◌else◌, Option, Some, None, length}
+use Rattle.std.proofs.Common.{◌≡◌, ℕ, ◌+◌, Bool, true, false, List, [], ◌∷◌, ◌++◌, refl, sym, ap, ◌∙◌, ◌==◌, arith}
+use Rattle.std.specs.Prelude.{◌&&◌, if◌then◌else◌, Option, Some, None}
 use Rattle.std.proofs.lemmas.Bool.{eqb-true, eq-eqb, false≢true}
 use Rattle.geo_base.specs.declared.packet.Peer.{Peer}
 use Rattle.geo_base.specs.declared.packet.Peer.TheVariants as peer
 use Rattle.geo_base.specs.History.{RecordedEvent, state_after}
 use Rattle.geo_base.specs.NodeState.{NodeState, takes_from}
-use Rattle.geo_base.specs.Nodes.{BrokerNode, ClientNode, Node, is_peer, link_from, link_to, node_of, same_link}
-use Rattle.geo_base.specs.Setup.{Setup, declared_at}
-use Rattle.geo_base.specs.World.{LinkName}
+use Rattle.geo_base.specs.Nodes.{BrokerNode, ClientNode, Node, is_peer, link_from, link_to, same_link}
+use Rattle.geo_base.specs.Setup.{Setup}
 use Rattle.world_laws.specs.ByteHistories.{ByteSent, bytes_sent_in, bytes_sent_over, bytes_taken_in, bytes_taken_over}
 use Rattle.wire_ends.specs.declared.packet.WirePacket.{WirePacket}
 use Rattle.history_packets.specs.Kept.{Kept}

@@ -1,7 +1,7 @@
 -- What is known of a history that stands for one of values and that replays: it sends to its node's peers, and takes from them.
-use Rattle.std.proofs.Common.{◌≡◌, ℕ, ◌+◌, ◌-◌, ◌*◌, ◌<◌, ◌≤◌, ◌/◌, ◌%◌, Bool, true, false, List, [], ◌∷◌, ◌++◌, length, refl, sym, ap, subst, ◌∙◌, ◌==◌, arith, nat_lt}
-use Rattle.std.specs.Prelude.{Option, Some, None, ◌&&◌, if◌then◌else◌, slice_index_or}
-use Rattle.std.proofs.lemmas.Bool.{false≢true, ltb-false, ltb-true}
+use Rattle.std.proofs.Common.{◌≡◌, ℕ, ◌+◌, ◌-◌, ◌*◌, ◌<◌, ◌/◌, ◌%◌, true, false, List, [], ◌∷◌, length, refl, sym, ap, subst, ◌∙◌, arith, nat_lt}
+use Rattle.std.specs.Prelude.{Option, Some, None}
+use Rattle.std.proofs.lemmas.Bool.{false≢true, ltb-true}
 use Rattle.std.proofs.lemmas.Nat.{div-mul-add, mod-mul-add}
 use Rattle.geo_base.specs.declared.event.Event.{Event}
 use Rattle.geo_base.specs.declared.event.Event.TheVariants as event
@@ -11,10 +11,10 @@ use Rattle.geo_base.specs.declared.packet.Peer.TheVariants as peer
 use Rattle.geo_base.specs.Broker.{Broker}
 use Rattle.geo_base.specs.Client.{Client}
 use Rattle.geo_base.specs.History.{HappensAt, RecordedEvent, Replays, SentPacket, is_input, state_after}
-use Rattle.geo_base.specs.NodeState.{BrokerState, ClientState, NodeState, opening_state, takes_from}
+use Rattle.geo_base.specs.NodeState.{BrokerState, ClientState, NodeState, takes_from}
 use Rattle.geo_base.specs.Nodes.{BrokerNode, ClientNode, Node, broker_count, is_event, is_node, is_peer, node_number, node_of}
 use Rattle.geo_base.specs.Planned.{in_range}
-use Rattle.geo_base.specs.Setup.{Setup, declared_at}
+use Rattle.geo_base.specs.Setup.{Setup}
 use Rattle.geo_base.specs.World.{node}
 use Rattle.world_laws.proofs.ClientPeers.{went, went_once}
 use Rattle.world_laws.proofs.ClientPeers.{cluster_of as their_cluster}
@@ -22,7 +22,7 @@ use Rattle.world_laws.proofs.Crossings.{ToPeers as AllToPeers}
 use Rattle.world_laws.proofs.Roles.{Role, role_next}
 use Rattle.world_laws.proofs.Sizes.{node_lt}
 use Rattle.world_laws.proofs.Walk.{left, right}
-use Rattle.world_laws.specs.ByteHistories.{ByteSent, EventStands, SentStand, StandAll}
+use Rattle.world_laws.specs.ByteHistories.{ByteSent, SentStand, StandAll}
 use Rattle.wire_ends.specs.declared.packet.WirePacket.{WirePacket}
 use Rattle.history_packets.specs.Kept.{Kept}
 use Rattle.history_packets.specs.Ends.{IsFromPeer, SendsToPeers, TakesFromPeers, ToPeers}

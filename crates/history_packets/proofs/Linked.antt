@@ -1,23 +1,22 @@
 -- Histories of which each packet taken is the one that was sent agree on every link.
-use Rattle.std.proofs.Common.{◌≡◌, ℕ, ◌+◌, ◌-◌, ◌*◌, ◌<◌, ◌≤◌, ◌/◌, ◌%◌, Bool, true, false, List, [], ◌∷◌, ◌++◌, length, refl, sym, ap, subst, ◌∙◌, ◌==◌, arith, nat_lt}
-use Rattle.std.specs.Prelude.{Option, Some, None, ◌&&◌, if◌then◌else◌, not, slice_index_or}
-use Rattle.std.proofs.lemmas.Bool.{eq-eqb, eqb-true, false≢true, lt-ltb, ltb-false, ltb-true}
+use Rattle.std.proofs.Common.{◌≡◌, ℕ, ◌+◌, ◌-◌, ◌*◌, ◌<◌, Bool, true, false, List, [], ◌∷◌, ◌++◌, length, refl, sym, ap, subst, ◌∙◌, ◌==◌, arith, nat_lt}
+use Rattle.std.specs.Prelude.{Option, Some, None, ◌&&◌, if◌then◌else◌, not}
+use Rattle.std.proofs.lemmas.Bool.{eq-eqb, eqb-true, false≢true, ltb-true}
 use Rattle.std.proofs.lemmas.Nat.{div-mul-add}
 use Rattle.geo_base.specs.declared.packet.Peer.{Peer}
 use Rattle.geo_base.specs.declared.packet.Peer.TheVariants as peer
 use Rattle.geo_base.specs.Broker.{new_broker}
 use Rattle.geo_base.specs.Client.{new_client}
-use Rattle.geo_base.specs.History.{RecordedEvent, Replays, state_after}
+use Rattle.geo_base.specs.History.{RecordedEvent, state_after}
 use Rattle.geo_base.specs.Merge.{history_of}
 use Rattle.geo_base.specs.NodeState.{BrokerState, ClientState, NodeState, opening_state, takes_from}
-use Rattle.geo_base.specs.Nodes.{BrokerNode, ClientNode, Node, beside, broker_count, has_link, is_node, is_peer, link_from, link_to, node_count, node_number, node_of, same_link, sender_of, taker_of}
+use Rattle.geo_base.specs.Nodes.{BrokerNode, ClientNode, Node, beside, broker_count, has_link, is_node, is_peer, link_from, link_to, node_count, node_number, same_link, sender_of, taker_of}
 use Rattle.geo_base.specs.Planned.{has_client, has_node}
-use Rattle.geo_base.specs.Scripted.{IsScripted}
 use Rattle.geo_base.specs.Setup.{Setup, declared_at}
 use Rattle.geo_base.specs.World.{Back, Forward, LinkName, node}
 use Rattle.world_laws.proofs.Roles.{opening_role}
 use Rattle.world_laws.proofs.Walk.{left, right}
-use Rattle.world_laws.specs.ByteHistories.{AreByteHistories, ByteSent, StandAll, bytes_sent_in, bytes_sent_over, bytes_taken_in, bytes_taken_over}
+use Rattle.world_laws.specs.ByteHistories.{AreByteHistories, ByteSent, bytes_sent_in, bytes_sent_over, bytes_taken_in, bytes_taken_over}
 use Rattle.wire_ends.specs.declared.packet.WirePacket.{WirePacket}
 use Rattle.book_laws.specs.Books.{StandsAs}
 use Rattle.history_packets.specs.declared.layout.Home.{Home}

@@ -1,6 +1,6 @@
 -- The other end by number is the other end.
-use Rattle.std.proofs.Common.{◌≡◌, ℕ, ◌+◌, ◌-◌, ◌*◌, ◌<◌, ◌≤◌, ◌/◌, ◌%◌, Bool, true, false, List, length, refl, sym, ap, subst, ◌∙◌, arith, nat_lt}
-use Rattle.std.specs.Prelude.{if◌then◌else◌, ◌&&◌, ◌==◌, not}
+use Rattle.std.proofs.Common.{◌≡◌, ℕ, ◌+◌, ◌-◌, ◌*◌, ◌<◌, ◌/◌, ◌%◌, Bool, true, false, length, refl, sym, ap, subst, ◌∙◌, arith, nat_lt}
+use Rattle.std.specs.Prelude.{◌&&◌, ◌==◌, not}
 use Rattle.std.proofs.lemmas.Bool.{eq-eqb, eqb-true, false≢true, ltb-true, lt-ltb}
 use Rattle.std.proofs.lemmas.Nat.{div-mul-add, mod-mul-add, mul-add-lt}
 use Rattle.std.proofs.Math.Nat.{div-add-mod, div-lt_iff_lt-mul, mod-lt, mul_comm}
@@ -13,7 +13,7 @@ use Rattle.geo_base.specs.World.{Back, Forward, LinkName, ToBroker, ToClient, no
 use Rattle.world_laws.proofs.Walk.{left, on_false, on_true, right}
 use Rattle.history_packets.specs.declared.layout.FarEnd.{FarEnd}
 use Rattle.history_packets.specs.Ends.{IsLayoutOf, LinkEnds, OtherEnd, other_end}
-use Rattle.history_packets.specs.Peers.{LayoutView, broker_end, client_end, end_of, home_at}
+use Rattle.history_packets.specs.Peers.{LayoutView, broker_end, client_end, end_of}
 
 broker_end_of : (l : LayoutView) (t x : ℕ) (q : Peer) → x < l.clusters → t * l.clusters + x < l.brokers → end_of l (t * l.clusters + x) q ≡ broker_end l t x q
 broker_end_of l t x q small lt =

@@ -1,15 +1,14 @@
 -- A node's history, read event by event.
 use Rattle.std.proofs.Common.{◌≡◌, ℕ, zero, suc, ◌+◌, ◌<◌, ◌≤◌, Bool, true, false, List, [], ◌∷◌, ◌++◌, length, refl, sym, ap, subst, ◌∙◌, ◌==◌, arith, inl, inr}
-use Rattle.std.specs.Prelude.{Option, Some, None, if◌then◌else◌, map, slice_get, slice_index_or, take}
+use Rattle.std.specs.Prelude.{Option, Some, None, if◌then◌else◌, slice_get, slice_index_or, take}
 use Rattle.std.proofs.lemmas.List.{append-nil, append_assoc}
 use Rattle.std.proofs.lemmas.Option.{none-some, same_Some}
 use Rattle.geo_base.specs.declared.packet.Peer.{Peer}
 use Rattle.world_laws.specs.ByteHistories.{ByteSent}
 use Rattle.world_laws.proofs.Members.{below_or}
 use Rattle.wire_ends.specs.declared.packet.WirePacket.{WirePacket}
-use Rattle.history_packets.specs.declared.walk.Found.{Found}
 use Rattle.history_packets.specs.Kept.{Kept, kept_by}
-use Rattle.history_packets.specs.Differences.{AllSent, IsSentAt, Takes, earlier, index_taken, sent_there}
+use Rattle.history_packets.specs.Differences.{AllSent, IsSentAt, earlier, index_taken}
 use Rattle.history_packets.specs.Peers.{LayoutView, asked, cluster_along, cluster_then, end_of, home_of, if_taken, peer_taken, same_peer, sent_once, sent_to, taken_from, taken_once}
 use Rattle.history_packets.specs.Slots.{IsRaised, count_in, sends_in, slot}
 use Rattle.history_packets.specs.Walks.{DiffersHere, IsFoundAt, IsSentHere, IsWalked, WalkView}

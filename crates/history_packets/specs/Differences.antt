@@ -1,5 +1,5 @@
 -- Where histories do not agree: a packet that a node took, and that is not the one that its peer sent at that place.
-use Rattle.std.specs.Prelude.{◌≡◌, ◌<◌, List, [], ◌∷◌, length, ℕ, Option, Some, slice_get, take}
+use Rattle.std.specs.Prelude.{◌≡◌, ◌<◌, List, length, ℕ, Option, Some, slice_get, take}
 use Rattle.geo_base.specs.declared.packet.Peer.{Peer}
 use Rattle.wire_ends.specs.declared.packet.WirePacket.{WirePacket}
 use Rattle.history_packets.specs.Kept.{Kept, kept_by}

@@ -1,5 +1,5 @@
 -- The first packet of all that were taken that is not the one that was sent.
-use Rattle.std.specs.Prelude.{◌≡◌, ◌⊎◌, ℕ, ◌<◌, ◌≤◌, List, [], ◌∷◌, Option, Some, None, slice_get}
+use Rattle.std.specs.Prelude.{◌≡◌, ◌⊎◌, ℕ, ◌<◌, ◌≤◌, List, Option, Some, None, slice_get}
 use Rattle.history_packets.specs.declared.differences.PacketDifference.{PacketDifference}
 use Rattle.history_packets.specs.declared.walk.Found.{Found}
 use Rattle.history_packets.specs.Kept.{Kept, kept_by}

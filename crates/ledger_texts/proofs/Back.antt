@@ -1,5 +1,5 @@
 -- What a ledger's text was written of is read from it.
-use Rattle.std.proofs.Common.{◌≡◌, ◌≢◌, inl, inr, ℕ, ◌<◌, ◌^◌, List, [], ◌∷◌, ◌++◌, length, Ok, Err, refl, sym, ap, subst, ◌∙◌, append_assoc}
+use Rattle.std.proofs.Common.{◌≡◌, ◌≢◌, inl, inr, ℕ, ◌<◌, ◌^◌, List, ◌++◌, length, Ok, Err, refl, sym, ap, subst, ◌∙◌, append_assoc}
 use Rattle.std.specs.Prelude.{Option, Some, None, IfSome, Result}
 use Rattle.geo_base.specs.declared.entry.Entry.{Entry}
 use Rattle.geo_base.specs.declared.entry.Targets.{Targets}
@@ -17,7 +17,7 @@ use Rattle.pb_fields.specs.declared.message.MessageFault.TheVariants as fault
 use Rattle.pb_fields.specs.Faults.{Answers}
 use Rattle.state_items.specs.declared.fault.ItemFault.{ItemFault}
 use Rattle.state_items.specs.declared.fault.ItemFault.TheVariants as item_fault
-use Rattle.state_items.specs.Reading.{Answer, Fails, Gives, Read}
+use Rattle.state_items.specs.Reading.{Answer, Fails}
 use Rattle.state_items.specs.Texts.{number, text, word}
 use Rattle.state_items.proofs.Again.{number_again, text_again, word_again}
 use Rattle.frame_values.specs.Texts.{marker_number, metadata_of, payload_text}

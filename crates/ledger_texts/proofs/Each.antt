@@ -1,6 +1,5 @@
 -- Each entry of a ledger.
-use Rattle.std.proofs.Common.{◌≡◌, ℕ, zero, suc, ◌+◌, ◌<◌, ◌≤◌, ◌^◌, List, [], ◌∷◌, length, get_or, take, IfSome, subst, sym, ap, ◌∙◌, arith}
-use Rattle.std.specs.List.{AllByRecursion}
+use Rattle.std.proofs.Common.{◌≡◌, ℕ, zero, suc, ◌+◌, ◌<◌, ◌≤◌, ◌^◌, List, [], ◌∷◌, length, get_or, take, IfSome, subst, arith}
 use Rattle.std.proofs.lemmas.List.{take_all}
 use Rattle.geo_base.specs.declared.entry.Entry.{Entry}
 use Rattle.state_entries.specs.Texts.{AreShort, HasTexts}

@@ -1,6 +1,6 @@
 -- Entries read one by one.
-use Rattle.std.proofs.Common.{◌≡◌, ℕ, zero, suc, ◌+◌, ◌<◌, ◌≤◌, ◌^◌, List, [], ◌∷◌, ◌++◌, length, get_or, take, drop, Ok, refl, sym, ap, subst, ◌∙◌, arith}
-use Rattle.std.specs.Prelude.{◌==◌, Bool, true, false, Result}
+use Rattle.std.proofs.Common.{◌≡◌, ℕ, suc, ◌+◌, ◌<◌, ◌≤◌, ◌^◌, List, [], ◌∷◌, ◌++◌, length, get_or, take, drop, Ok, refl, sym, ap, ◌∙◌, arith}
+use Rattle.std.specs.Prelude.{◌==◌, Bool, true, false}
 use Rattle.std.specs.List.{flat_map}
 use Rattle.std.proofs.lemmas.List.{take_all, take_more}
 use Rattle.std.proofs.Math.ListN.{drop_of_length-le}
@@ -15,7 +15,6 @@ use Rattle.ledger_texts.proofs.Each.{readable_here}
 use Rattle.state_items.specs.declared.fault.ItemFault.{ItemFault}
 use Rattle.state_items.specs.declared.rule.Rule.TheVariants as rule
 use Rattle.state_items.specs.Reading.{Answer, Fails, Read, judge, number_at}
-use Rattle.state_items.specs.Texts.{number}
 use Rattle.state_items.proofs.Again.{number_again}
 
 -- so many entries were read, and the others are left

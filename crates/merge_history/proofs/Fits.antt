@@ -1,13 +1,12 @@
 -- What the merge answers.
-use Rattle.std.proofs.Common.{◌≡◌, ℕ, ◌+◌, ◌<◌, ◌≤◌, Bool, List, ◌++◌, length, refl, sym, ap, subst, ◌∙◌, arith, inl, inr}
-use Rattle.std.specs.Prelude.{Err, IfOk, IfSome, None, Ok, Option, Result, Some, slice_get, slice_index_or}
+use Rattle.std.proofs.Common.{◌≡◌, ℕ, Bool, List, length, refl, sym, ap, subst, ◌∙◌, inl, inr}
+use Rattle.std.specs.Prelude.{Err, IfOk, IfSome, None, Ok, Option, Result, Some, slice_get}
 use Rattle.std.proofs.lemmas.Option.{none-some, same_Some}
 use Rattle.geo_base.specs.declared.event.Step.{Step}
 use Rattle.geo_base.specs.declared.memory.Memory.{Memory}
-use Rattle.geo_base.specs.declared.packet.Peer.{Peer}
 use Rattle.geo_base.specs.History.{RecordedEvent}
-use Rattle.geo_base.specs.Merge.{history_of, merge_of, of_node, steps_of}
-use Rattle.geo_base.specs.NodeState.{NodeState, opening_state, state_at}
+use Rattle.geo_base.specs.Merge.{history_of, merge_of, steps_of}
+use Rattle.geo_base.specs.NodeState.{NodeState, opening_state}
 use Rattle.geo_base.specs.Nodes.{node_count}
 use Rattle.geo_base.specs.Run.{run}
 use Rattle.geo_base.specs.Scripted.{IsScripted}
@@ -21,7 +20,7 @@ use Rattle.world_laws.proofs.Members.{below_or}
 use Rattle.history_packets.proofs.Firsts.{nothing_past}
 use Rattle.history_packets.proofs.Runs.{runs_begun, runs_whole}
 use Rattle.history_packets.specs.declared.differences.PacketDifference.{PacketDifference}
-use Rattle.history_packets.specs.Differences.{AllSent, IsSentAt, Takes, sent_there}
+use Rattle.history_packets.specs.Differences.{AllSent, Takes, sent_there}
 use Rattle.history_packets.specs.Ends.{AreStood, layout_of}
 use Rattle.history_packets.specs.Firsts.{AreRising, ComesBefore, IsFirst}
 use Rattle.history_packets.specs.Kept.{Kept, kept_by}

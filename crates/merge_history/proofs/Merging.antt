@@ -1,5 +1,5 @@
 -- The events at sorted turns are the steps of the merge.
-use Rattle.std.proofs.Common.{◌≡◌, ℕ, zero, suc, ◌+◌, ◌<◌, ◌≤◌, List, [], ◌∷◌, ◌++◌, length, map, refl, sym, ap, subst, ◌∙◌, arith}
+use Rattle.std.proofs.Common.{◌≡◌, ℕ, zero, suc, ◌+◌, ◌<◌, List, [], ◌∷◌, ◌++◌, length, map, refl, sym, ap, subst, ◌∙◌, arith}
 use Rattle.std.specs.Prelude.{All, slice_index_or}
 use Rattle.std.specs.List.Sorted.{IsPermutation}
 use Rattle.std.proofs.lemmas.List.{append_assoc}
@@ -7,11 +7,11 @@ use Rattle.geo_base.specs.declared.event.Event.{Event}
 use Rattle.geo_base.specs.declared.event.Step.{Step}
 use Rattle.geo_base.specs.declared.event.Step.TheVariants as step
 use Rattle.geo_base.specs.History.{RecordedEvent}
-use Rattle.geo_base.specs.Merge.{Merged, history_of, merge_of, steps_of}
+use Rattle.geo_base.specs.Merge.{history_of, merge_of, steps_of}
 use Rattle.world_laws.proofs.Effects.{Each, each_both}
 use Rattle.merge_history.specs.declared.turn.Turn.{Turn}
 use Rattle.history_packets.specs.Kept.{Kept, kept_by, kept_stamp}
-use Rattle.merge_history.specs.Turns.{AlikeAll, AlikeEvents, AreSorted, IsIn, Rise, all_turns, entry_at, event_at, kept_at, no_event, no_kept, stamp_of, step_at, turns_from}
+use Rattle.merge_history.specs.Turns.{AlikeAll, AlikeEvents, AreSorted, IsIn, Rise, all_turns, entry_at, event_at, no_event, no_kept, stamp_of, step_at, turns_from}
 use Rattle.merge_history.proofs.Entries.{each_all, each_moved, longer, past, sorted_law}
 use Rattle.history_packets.proofs.Walking.{kept_there}
 

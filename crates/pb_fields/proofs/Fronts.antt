@@ -1,6 +1,5 @@
 -- A field whose tag is one byte, at the front of bytes.
 use Rattle.std.proofs.Common.{◌≡◌, ℕ, ◌+◌, ◌*◌, ◌^◌, ◌<◌, List, [], ◌∷◌, ◌++◌, length, refl, arith}
-use Rattle.pb_fields.specs.declared.field.Field.{Field}
 use Rattle.pb_fields.specs.declared.field.WireType.TheVariants as wire
 use Rattle.pb_fields.specs.Field.{bytes_field, varint_field}
 use Rattle.pb_fields.specs.Front.{Fronts, IsShortNumber}

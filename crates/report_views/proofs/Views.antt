@@ -9,7 +9,7 @@ use Rattle.geo_base.specs.declared.entry.Entry.{Entry}
 use Rattle.geo_base.specs.Report.{entry_line, with_line_feeds}
 use Rattle.geo_base.specs.Topic.{position_at}
 use Rattle.report_lines.proofs.Added.{drop_here, line_added}
-use Rattle.report_views.specs.Views.{horizon_line, if_shown, shown_lines, view_lines}
+use Rattle.report_views.specs.Views.{if_shown, shown_lines}
 
 -- nothing stands where there is no entry, nor behind
 none_there : {X : Type 0} (xs : List X) (i : ℕ) → slice_get xs i ≡ None → length xs ≤ i

@@ -1,7 +1,7 @@
 -- A list cut into ledgers.
 use Rattle.std.proofs.Common.{◌≡◌, ℕ, zero, suc, ◌+◌, ◌-◌, ◌<◌, ◌≤◌, ◌^◌, nat_lt, Bool, true, false, List, [], ◌∷◌, ◌++◌, length, get_or, take, drop, map, refl, sym, ap, ◌∙◌, arith}
 use Rattle.std.specs.Prelude.{Option, Some, None, if◌then◌else◌, slice_get}
-use Rattle.std.specs.List.{AllByRecursion, count_by, sum}
+use Rattle.std.specs.List.{count_by, sum}
 use Rattle.std.proofs.lemmas.List.{length-drop, length-take, length-take-le, length_push, take_all, take_more}
 use Rattle.std.proofs.lemmas.Option.{get_or_from_slice_get, slice_get_within}
 use Rattle.std.proofs.lemmas.List.Sums.{sum_by-cons}
@@ -13,7 +13,7 @@ use Rattle.tier_store.specs.Kept.{Kept}
 use Rattle.topic_ledger.specs.Firsts.{lengths_of}
 use Rattle.tiered_ledger.specs.declared.part.Part.{Part}
 use Rattle.tiered_ledger.specs.declared.part.Part.TheVariants as part
-use Rattle.tiered_ledger.specs.Calls.{is_away, offloaded}
+use Rattle.tiered_ledger.specs.Calls.{is_away}
 use Rattle.tiered_ledger.specs.Ledgers.{entries_in}
 use Rattle.tiered_ledger.specs.Tiered.{Holds, IsPart, Tiered, all_here, fresh, part_length}
 

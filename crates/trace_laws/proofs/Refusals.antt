@@ -3,7 +3,6 @@ use Rattle.std.proofs.Common.{◌≡◌, ℕ, Bool, true, false, refl, sym, ap, 
 use Rattle.std.specs.Prelude.{◌||◌, Option, None, Result, Ok, Err}
 use Rattle.std.proofs.lemmas.Bool.{false≢true}
 use Rattle.std.proofs.lemmas.Option.{none-some}
-use Rattle.geo_base.specs.declared.planned.Cause.TheVariants as cause
 use Rattle.geo_base.specs.Audit.{Refusal, unless_broken}
 
 abbrev is_accepted : {A : Type 0} → Result A Refusal → Bool

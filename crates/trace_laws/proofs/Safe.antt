@@ -1,5 +1,5 @@
 -- An accepted line keeps all that, so what all lines make of topics and subscriptions is safe.
-use Rattle.std.proofs.Common.{◌≡◌, ℕ, ◌*◌, true, List, [], ◌∷◌, ◌++◌, length, refl, sym, ap, subst, ◌∙◌, not}
+use Rattle.std.proofs.Common.{◌≡◌, ℕ, ◌*◌, true, List, [], ◌∷◌, ◌++◌, length, refl, sym, ap, subst, ◌∙◌}
 use Rattle.std.specs.Prelude.{Option, Some, None, slice_index_or, Result, Ok}
 use Rattle.std.specs.List.{AllByRecursion, list_any}
 use Rattle.std.proofs.lemmas.List.{append_assoc, get_or-replicate, length-replicate}
@@ -11,7 +11,6 @@ use Rattle.geo_base.specs.Setup.{Setup}
 use Rattle.world_laws.proofs.OnlyTold.{first_included}
 use Rattle.world_laws.proofs.Sizes.{node_lt}
 use Rattle.world_laws.proofs.Told.{Includes, told_too}
-use Rattle.geo_base.specs.declared.planned.Cause.TheVariants as cause
 use Rattle.geo_base.specs.TraceItems.{Acks, Appends, Begins, Creates, Deletes, Item, Seeks, Writes}
 use Rattle.geo_base.specs.Mirror.{Mirror, Mirrors, mirror_at, no_mirror, opening_mirrors, mirror_number, settled_by, told}
 use Rattle.geo_base.specs.Audit.{Refusal, audited_from, judged, refused, settled_from}

@@ -16,7 +16,6 @@ use Rattle.geo_base.specs.Setup.{Setup}
 use Rattle.geo_base.specs.Updating.{passes}
 use Rattle.world_laws.proofs.Passing.{below_mark}
 use Rattle.world_laws.proofs.Walk.{left, right}
-use Rattle.geo_base.specs.declared.planned.Cause.TheVariants as cause
 use Rattle.geo_base.specs.TraceItems.{names_same}
 use Rattle.geo_base.specs.Mirror.{Mirror, MirrorSub, Mirrors, index_at, mirror_at, mirror_sub, told}
 use Rattle.geo_base.specs.Audit.{covers, entry_at, entry_by, is_brought, may_update, passes_local, same_entry, tells_content, tells_entry}

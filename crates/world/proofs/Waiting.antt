@@ -18,7 +18,7 @@ use Rattle.broker_plans.specs.Prepared.{IsPrepared}
 use Rattle.broker_state.specs.Plan.{idle_book}
 use Rattle.frame_laws.specs.BytePackets.{StandsForPacket}
 use Rattle.links.specs.declared.name.LinkName.{LinkName}
-use Rattle.links.specs.Each.{Both, both, neither}
+use Rattle.links.specs.Each.{Both, neither}
 use Rattle.links.specs.Queues.{packet_on}
 use Rattle.script_text.specs.Scenario.{IsEvent}
 use Rattle.wire_ends.specs.declared.packet.WirePacket.{WirePacket}

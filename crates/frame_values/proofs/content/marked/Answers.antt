@@ -1,4 +1,4 @@
-use Rattle.std.proofs.Common.{rules, ◌≡◌, ◌∙◌}
+use Rattle.std.proofs.Common.{rules}
 use Rattle.marker_codec.specs.Markers.{IsMarkerText}
 use Rattle.marker_codec.specs.Faults.{IsWrongOrMemory, WrongMarker}
 use Rattle.frame_values.proofs.Contents.{read_canonical, read_foreign, wrong_unread}

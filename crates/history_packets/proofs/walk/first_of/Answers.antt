@@ -1,4 +1,4 @@
-use Rattle.std.proofs.Common.{◌≡◌, ℕ, ◌+◌, ◌<◌, List, ◌∷◌, ◌++◌, [], refl, ap, subst, sym, take, ◌∙◌, arith, length}
+use Rattle.std.proofs.Common.{◌≡◌, ◌+◌, List, ◌∷◌, ◌++◌, [], refl, subst, sym, take, ◌∙◌, arith}
 use Rattle.history_packets.specs.Kept.{Kept, kept_by}
 use Rattle.history_packets.specs.Walks.{IsWalked}
 use Rattle.history_packets.proofs.Tables.{next_read}

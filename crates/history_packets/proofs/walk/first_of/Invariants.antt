@@ -1,4 +1,4 @@
-use Rattle.std.proofs.Common.{◌≡◌, ℕ, ◌<◌, take}
+use Rattle.std.proofs.Common.{ℕ, ◌<◌, take}
 use Rattle.history_packets.specs.Differences.{IsSentAt}
 use Rattle.history_packets.specs.Walks.{IsWalked}
 use Rattle.history_packets.proofs.walk.first_of.Given as goal

@@ -1,6 +1,5 @@
-use Rattle.std.proofs.Common.{◌≡◌, ◌<◌, ◌≤◌, ◌∙◌, Ok, List, length, ap, sym, refl, rules, arith}
+use Rattle.std.proofs.Common.{◌<◌, ◌≤◌, length, rules, arith}
 use Rattle.std.proofs.lemmas.Result.{err_from_is_err_and}
-use Rattle.geo_base.specs.declared.entry.Entry.{Entry}
 use Rattle.ledger_texts.proofs.Loop.{all_read, is_end, more_read, no_end_fault, none_read, nothing_left}
 use Rattle.ledger_texts.proofs.reading.counted_entries.Goals as goal
 

@@ -1,4 +1,3 @@
-use Rattle.std.proofs.Common.{◌≡◌, ◌∙◌, Ok, ap, sym, refl, rules}
 use Rattle.std.proofs.lemmas.Result.{err_from_is_err_and}
 use Rattle.ledger_texts.proofs.Back.{entry_is, fails_as, no_item, pair_is, parts_are}
 use Rattle.ledger_texts.proofs.reading.entry_at.Goals as goal

@@ -1,4 +1,4 @@
-use Rattle.std.proofs.Common.{◌≡◌, Ok, ap, sym, rules}
+use Rattle.std.proofs.Common.{Ok, ap, sym}
 use Rattle.message_meta.specs.Metadata.{Metadata}
 use Rattle.state_items.specs.Reading.{Answer}
 use Rattle.ledger_texts.proofs.Back.{meta_is, no_other}

@@ -1,4 +1,3 @@
-use Rattle.std.proofs.Common.{◌≡◌, ◌∙◌, rules}
 use Rattle.std.proofs.lemmas.Result.{err_from_is_err_and}
 use Rattle.ledger_texts.proofs.Loop.{counted_is, no_count}
 use Rattle.ledger_texts.proofs.reading.read_ledger.Goals as goal

@@ -1,6 +1,5 @@
-use Rattle.std.proofs.Common.{◌≡◌, ◌∙◌, Ok, ap, sym, refl, rules}
+use Rattle.std.proofs.Common.{◌∙◌, Ok, ap, sym, refl}
 use Rattle.std.proofs.lemmas.Result.{err_from_is_err_and}
-use Rattle.geo_base.specs.declared.entry.Entry.{Entry}
 use Rattle.message_meta.specs.Metadata.{Metadata}
 use Rattle.state_items.specs.Reading.{Answer}
 use Rattle.ledger_texts.proofs.Back.{fails_alike, given_entry, given_meta, stated, stated_in, stored_back}

@@ -1,8 +1,7 @@
-use Rattle.std.proofs.Common.{◌≡◌, ℕ, ◌<◌, Bool, List, length, subst, sym, ◌∙◌}
+use Rattle.std.proofs.Common.{◌≡◌, ℕ, ◌<◌, List, length, subst, sym, ◌∙◌}
 use Rattle.std.specs.Arc.{arc_value}
 use Rattle.geo_base.specs.History.{RecordedEvent}
 use Rattle.geo_base.specs.Merge.{history_of, merge_of, steps_of}
-use Rattle.geo_base.specs.Nodes.{node_count}
 use Rattle.geo_base.specs.Scripted.{IsScripted}
 use Rattle.script_text.specs.Script.{Script}
 use Rattle.history_packets.specs.Firsts.{AreRising}

@@ -1,5 +1,5 @@
-use Rattle.std.proofs.Common.{◌≡◌, ap, length, subst}
-use Rattle.std.specs.Prelude.{IfSome, None, Ok, Option}
+use Rattle.std.proofs.Common.{ap, length, subst}
+use Rattle.std.specs.Prelude.{IfSome, Ok, Option}
 use Rattle.history_packets.specs.Firsts.{IsFirst}
 use Rattle.history_packets.specs.declared.differences.PacketDifference.{PacketDifference}
 use Rattle.merge_history.proofs.Fits.{first_packet}

@@ -1,4 +1,4 @@
-use Rattle.std.proofs.Common.{◌≡◌, ◌∙◌, sym, rules}
+use Rattle.std.proofs.Common.{sym}
 use Rattle.tiered_ledger.specs.Ledgers.{entries_in}
 use Rattle.tiered_ledger.proofs.Cutting.{copied_all, copied_more}
 use Rattle.tiered_ledger.proofs.cut.copied_ledger.Goals as goal

@@ -1,5 +1,5 @@
 use Rattle.std.proofs.Common.{◌≡◌, ap}
-use Rattle.geo_base.specs.Broker.{Broker, Site}
+use Rattle.geo_base.specs.Broker.{Site}
 use Rattle.broker.specs.Node.{BrokerBook}
 use Rattle.broker.proofs.Ready.{committed, committed_holds}
 use Rattle.broker.proofs.broker.Broker.commit.Goals as goal

@@ -1,5 +1,4 @@
 use Rattle.std.proofs.Common.{◌≡◌, ◌∙◌, ap}
-use Rattle.geo_base.specs.Broker.{Broker, Site}
 use Rattle.broker.specs.Node.{BrokerBook}
 use Rattle.broker.proofs.Inputs.{prepared_here}
 use Rattle.broker.proofs.Prepares.{in_range}

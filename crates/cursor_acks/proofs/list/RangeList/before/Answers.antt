@@ -1,4 +1,4 @@
-use Rattle.std.proofs.Common.{◌≡◌, ◌-◌, ◌∙◌, [], get_or, length, ap, arith}
+use Rattle.std.proofs.Common.{◌-◌, length, ap, arith}
 use Rattle.cursor_acks.proofs.Found.{last_of_block}
 use Rattle.cursor_acks.proofs.list.RangeList.before.Goals as goal
 

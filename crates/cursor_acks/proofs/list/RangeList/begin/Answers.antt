@@ -1,7 +1,6 @@
-use Rattle.std.proofs.Common.{◌+◌, ◌<◌, ap, arith}
+use Rattle.std.proofs.Common.{ap, arith}
 use Rattle.cursor_acks.specs.declared.range.IndexRange.{IndexRange}
 use Rattle.cursor_acks.specs.Blocks.{flat}
-use Rattle.cursor_acks.proofs.Found.{range_found}
 use Rattle.cursor_acks.proofs.Places.{begins_apart, begins_first, begins_with}
 use Rattle.cursor_acks.proofs.list.RangeList.begin.Goals as goal
 

@@ -1,4 +1,4 @@
-use Rattle.std.proofs.Common.{◌≡◌, ◌<◌, ◌∙◌, [], get_or, length, ap, sym, arith}
+use Rattle.std.proofs.Common.{◌≡◌, ◌∙◌, [], get_or, length, ap, sym, arith}
 use Rattle.std.proofs.lemmas.List.{get_or_default}
 use Rattle.cursor_acks.specs.declared.range.IndexRange.{IndexRange}
 use Rattle.cursor_acks.specs.Blocks.{IsRange, flat, joined, no_range}

@@ -1,4 +1,3 @@
-use Rattle.std.proofs.Common.{◌≡◌, ◌+◌, ◌∙◌, sym, arith}
 use Rattle.cursor_acks.specs.Blocks.{flat}
 use Rattle.cursor_acks.proofs.Parts.{joined_two}
 use Rattle.cursor_acks.proofs.list.RangeList.join.Goals as goal

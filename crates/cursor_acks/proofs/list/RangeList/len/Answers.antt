@@ -1,4 +1,4 @@
-use Rattle.std.proofs.Common.{◌≡◌, ◌+◌, ◌<◌, ◌∙◌, suc, [], get_or, length, ap, sym, arith}
+use Rattle.std.proofs.Common.{◌≡◌, ◌+◌, ◌<◌, suc, [], get_or, length, ap, sym, arith}
 use Rattle.cursor_acks.specs.Blocks.{count_before, joined}
 use Rattle.cursor_acks.proofs.Found.{count_all, count_zero}
 use Rattle.cursor_acks.proofs.Joined.{block_within, next_block}

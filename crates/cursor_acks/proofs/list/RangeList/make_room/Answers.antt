@@ -1,4 +1,4 @@
-use Rattle.std.proofs.Common.{◌+◌, ◌-◌, ◌∙◌, refl, arith}
+use Rattle.std.proofs.Common.{◌+◌, ◌-◌, refl, arith}
 use Rattle.cursor_acks.specs.declared.place.Place.{Place}
 use Rattle.cursor_acks.proofs.Parts.{high_half, low_half}
 use Rattle.cursor_acks.proofs.list.RangeList.make_room.Goals as goal

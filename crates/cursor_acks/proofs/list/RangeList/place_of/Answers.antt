@@ -1,5 +1,5 @@
-use Rattle.std.proofs.Common.{◌≡◌, ◌+◌, ◌-◌, ◌<◌, ◌≤◌, ℕ, [], get_or, length, sym}
-use Rattle.cursor_acks.specs.Blocks.{end_of, joined}
+use Rattle.std.proofs.Common.{◌-◌, [], get_or}
+use Rattle.cursor_acks.specs.Blocks.{joined}
 use Rattle.cursor_acks.specs.Places.{AreKept, IsPlace}
 use Rattle.cursor_acks.proofs.Found.{block_kept, found_at}
 use Rattle.cursor_acks.proofs.list.RangeList.place_of.Goals as goal

@@ -1,6 +1,5 @@
-use Rattle.std.proofs.Common.{◌≡◌, ◌+◌, ◌-◌, ◌*◌, ◌<◌, ◌≤◌, ◌∙◌, List, [], ◌∷◌, ◌++◌, drop, get_or, length, suc, take, ap, sym, arith}
+use Rattle.std.proofs.Common.{◌≡◌, ◌+◌, ◌-◌, ◌<◌, ◌∙◌, List, [], ◌∷◌, ◌++◌, drop, get_or, length, suc, take, ap, arith}
 use Rattle.cursor_acks.specs.declared.range.IndexRange.{IndexRange}
-use Rattle.cursor_acks.specs.declared.place.Place.{Place}
 use Rattle.cursor_acks.specs.Blocks.{IsRange, joined}
 use Rattle.cursor_acks.proofs.Parts.{at_end, get_end, get_first, remove_end, remove_first}
 use Rattle.cursor_acks.proofs.list.RangeList.remove.Goals as goal

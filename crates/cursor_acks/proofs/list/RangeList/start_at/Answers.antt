@@ -1,4 +1,3 @@
-use Rattle.std.proofs.Common.{◌≡◌, ◌+◌, ◌∙◌, sym, arith}
 use Rattle.cursor_acks.specs.Blocks.{flat}
 use Rattle.cursor_acks.proofs.Parts.{started_at}
 use Rattle.cursor_acks.proofs.list.RangeList.start_at.Goals as goal

@@ -1,4 +1,4 @@
-use Rattle.std.proofs.Common.{◌≡◌, ◌<◌, ◌^◌, ◌∙◌, ℕ, List, length, refl, subst, sym, ap, arith}
+use Rattle.std.proofs.Common.{◌≡◌, ◌<◌, ◌^◌, ◌∙◌, ℕ, length, subst, sym, ap, arith}
 use Rattle.std.specs.List.{sum}
 use Rattle.tiered_ledger.specs.Calls.{offloaded}
 use Rattle.tiered_ledger.specs.Ledgers.{AreFirstsIfAny}

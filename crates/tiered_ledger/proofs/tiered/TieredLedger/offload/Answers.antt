@@ -1,4 +1,4 @@
-use Rattle.std.proofs.Common.{◌≡◌, ◌<◌, ◌∙◌, ℕ, List, length, refl, rules, subst, sym, ap, arith}
+use Rattle.std.proofs.Common.{◌≡◌, ◌<◌, ◌∙◌, ℕ, List, length, refl, subst, sym, ap, arith}
 use Rattle.std.specs.Prelude.{Some, not, slice_get}
 use Rattle.geo_base.specs.declared.entry.Entry.{Entry}
 use Rattle.ledger_texts.specs.Readable.{AreReadable, AreTellable}

@@ -1,5 +1,5 @@
 use Rattle.std.proofs.Common.{◌≡◌, ◌<◌, ◌∙◌, ℕ, List, length, refl, rules, subst, sym, ap, arith}
-use Rattle.std.specs.Prelude.{Option, Some, None, slice_get, vec_len}
+use Rattle.std.specs.Prelude.{Option, Some, slice_get}
 use Rattle.geo_base.specs.declared.entry.Entry.{Entry}
 use Rattle.geo_base.specs.Topic.{position_of}
 use Rattle.topic_ledger.specs.Firsts.{lengths_of}
