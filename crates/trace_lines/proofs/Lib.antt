@@ -1,4 +1,5 @@
 pub mod Apart
+pub mod Begun
 pub mod Fresh
 pub mod Parts
 pub mod Printable

@@ -1,5 +1,5 @@
 //! Lines.
-ghost use Rattle.std.specs.Prelude.{◌≡◌, ◌<◌, [], ◌∷◌, Some, length, option_map, IfOk, IfSome, MatchOption};
+ghost use Rattle.std.specs.Prelude.{◌≡◌, ◌<◌, ℕ, [], ◌∷◌, Some, length, option_map, IfNone, IfOk, IfSome, MatchOption};
 ghost use Rattle.geo_base.specs.TraceItems.{Begins};
 ghost use Rattle.trace_lines.specs.Lines.{ack_of, act_of, append_of, cause_of, create_of, delete_of, event_of, item_read, seek_of, write_of};
 ghost use Rattle.trace_lines.specs.Names.{DeclaredNames};
@@ -33,10 +33,11 @@ pub fn line_of(alloc: Global, names: &Names<'_>, line: &[u8]) -> Result<Option<L
     write_of(alloc, names, kind, words)
 }
 
-/// The number of the event that a line begins; None where it has not that form. It takes no memory.
+/// The number of the event that a line begins, whatever names are declared; None exactly where it begins none. It takes no memory.
 #[tactic(auto, unfolding(crate::specs::Lines::item_read))]
 pub fn begun_event(line: &[u8]) -> Option<u64>
-    ensures { IfSome result (λ number. (names : DeclaredNames) → item_read names line.now ≡ Some (Begins number)) }
+    ensures found { IfSome result (λ number. (names : DeclaredNames) → item_read names line.now ≡ Some (Begins number)) }
+    ensures none { IfNone result ((names : DeclaredNames) (number : ℕ) → item_read names line.now ≡ Some (Begins number) → ⊥) }
 {
     let mut words = LineWords::new(line);
     let kind = words.next_word()?;
@@ -164,7 +165,7 @@ fn append_of(
 }
 
 /// The words of an entry before what it is.
-#[derive(Debug, Drop)]
+#[derive(Drop)]
 struct Head<'a> {
     position: &'a [u8],
     origin: &'a [u8],

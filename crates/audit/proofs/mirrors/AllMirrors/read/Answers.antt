@@ -24,4 +24,4 @@ tell-requires-clause-numbers c =
 
 pub returns-in-Some-clause-told : goal.returns-in-Some-clause-told
 returns-in-Some-clause-told c =
-    rw (c.in-Some.ensures c.args.names.now) (c.begin_next.ensures.told c.args.scenario.now.setup)
+    rw (c.in-Some.ensures.found c.args.names.now) (c.begin_next.ensures.told c.args.scenario.now.setup)
