@@ -5,3 +5,4 @@ pub mod Plan
 pub mod Room
 pub mod Fits
 pub mod State
+pub mod Parts

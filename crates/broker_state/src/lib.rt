@@ -11,6 +11,7 @@ mod boxed;
 mod change;
 mod changing;
 mod committing;
+mod parts;
 mod plan;
 mod reserving;
 mod sender_row;

@@ -6,12 +6,12 @@ ghost use Rattle.durable_parts.specs.Parts as durable;
 ghost use Rattle.broker_state.specs.State.{no_room};
 ghost use Rattle.broker_state.specs.Senders.{senders_of};
 
+use crate::parts::Parts;
 use crate::sender_row::SenderRow;
 use crate::senders::SenderTable;
 use crate::site::Site;
-use crate::state::{BrokerState, closed_receivers, no_sessions};
-use broker_subs::SubTable;
-use durable_parts::{Durable, DurableSender, DurableSenders, recover};
+use crate::state::BrokerState;
+use durable_parts::{Durable, DurableSender, DurableSenders};
 use geo_base::{Memory, cluster_number};
 use std::alloc::Global;
 
@@ -43,26 +43,8 @@ impl BrokerState {
         ensures broker { IfOk result (λ b. b.broker ≡ record (broker_of durable) { receivers = replicate (length durable.senders) None; sessions = replicate clients None }) }
         ensures site { IfOk result (λ b. b.site ≡ site) }
     {
-        let recovered = recover(alloc, &durable)?;
-        let Durable {
-            own,
-            store,
-            subs,
-            senders,
-        } = durable;
-        let senders = SenderTable::restored(alloc, own, senders)?;
-        let receivers = closed_receivers(alloc, senders.len())?;
-        Ok(BrokerState {
-            site,
-            store,
-            dedup: recovered.dedup,
-            next_marker: recovered.next_marker,
-            senders,
-            receivers,
-            subs: SubTable::restored(alloc, subs)?,
-            sessions: no_sessions(alloc, clients)?,
-            builder: None,
-        })
+        let parts = Parts::restored(alloc, &site, durable, clients)?;
+        Ok(BrokerState::of_parts(site, parts))
     }
 }
 

@@ -1,5 +1,5 @@
 //! A broker's state.
-ghost use Rattle.std.specs.Prelude.{◌≡◌, ◌<◌, length, replicate, IfOk, IfSome};
+ghost use Rattle.std.specs.Prelude.{◌≡◌, ◌<◌, length, IfOk, IfSome};
 ghost use Rattle.std.specs.Option.{option_copied};
 ghost use Rattle.geo_base.specs.Broker.{new_broker, receiver_at, sender_at, session_at};
 ghost use Rattle.geo_base.specs.Topic.{accepts, index_of};
@@ -8,6 +8,7 @@ ghost use Rattle.broker_subs.specs.Table.{rooms_of};
 ghost use Rattle.broker_state.specs.State.{StateBook, marker_number, no_room};
 ghost use Rattle.broker_state.specs.Site.{IsSite};
 
+use crate::parts::Parts;
 use crate::sender_row::SenderRow;
 use crate::senders::SenderTable;
 use crate::site::Site;
@@ -54,23 +55,12 @@ impl Model for BrokerState {
 
 impl BrokerState {
     /// The broker of a site, with an empty topic and no session of so many clients.
-    #[tactic(auto, using(dedup_table::proofs::Tells::tells_none))]
     pub fn new(alloc: Global, site: Site, clients: usize) -> Result<BrokerState, Memory>
         requires { 0 < site.per_ledger }
         ensures { IfOk result (λ b. b ≡ record { site = site; broker = new_broker (length site.clusters) clients; room = no_room }) }
     {
-        let clusters = site.clusters().len();
-        Ok(BrokerState {
-            store: TopicLedger::new(alloc, site.per_ledger())?,
-            dedup: DedupTable::new(alloc),
-            next_marker: 0,
-            senders: SenderTable::new(alloc, site.own(), clusters as u32)?,
-            receivers: closed_receivers(alloc, clusters)?,
-            subs: SubTable::new(alloc),
-            sessions: no_sessions(alloc, clients)?,
-            builder: None,
-            site,
-        })
+        let parts = Parts::new(alloc, &site, clients)?;
+        Ok(BrokerState::of_parts(site, parts))
     }
 
     /// What the broker knows of the setup. There is a sender and a receiver for each of its clusters.
@@ -172,30 +162,4 @@ impl BrokerState {
     {
         self.builder.as_ref()
     }
-}
-
-pub(crate) fn closed_receivers(alloc: Global, clusters: usize) -> Result<Vec<Receiver>, Memory>
-    ensures { IfOk result (λ rs. rs.items ≡ replicate clusters None) }
-{
-    let mut receivers = Vec::new(alloc);
-    while receivers.len() < clusters {
-        match receivers.push(Receiver::new()) {
-            Ok(()) => {}
-            Err(_) => return Err(Memory),
-        }
-    }
-    Ok(receivers)
-}
-
-pub(crate) fn no_sessions(alloc: Global, clients: usize) -> Result<Vec<Option<Session>>, Memory>
-    ensures { IfOk result (λ ss. ss.items ≡ replicate clients None) }
-{
-    let mut sessions = Vec::new(alloc);
-    while sessions.len() < clients {
-        match sessions.push(None) {
-            Ok(()) => {}
-            Err(_) => return Err(Memory),
-        }
-    }
-    Ok(sessions)
 }

@@ -1,6 +1,6 @@
 use Rattle.std.proofs.Common.{◌≡◌, ◌≤◌, ◌-◌, replicate, vec_len}
 use Rattle.std.specs.Prelude.{None}
-use Rattle.broker_state.proofs.state.no_sessions.Given as goal
+use Rattle.broker_state.proofs.parts.no_sessions.Given as goal
 
 abbrev pub invariant-loop-sessions : goal.invariant-loop-sessions
 invariant-loop-sessions l = record {

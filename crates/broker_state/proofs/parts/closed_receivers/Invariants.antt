@@ -1,6 +1,6 @@
 use Rattle.std.proofs.Common.{◌≡◌, ◌≤◌, ◌-◌, replicate, vec_len}
 use Rattle.std.specs.Prelude.{None}
-use Rattle.broker_state.proofs.state.closed_receivers.Given as goal
+use Rattle.broker_state.proofs.parts.closed_receivers.Given as goal
 
 abbrev pub invariant-loop-receivers : goal.invariant-loop-receivers
 invariant-loop-receivers l = record {
