@@ -24,15 +24,17 @@ pub fn own_marker(
     requires number { MarkerFits book.now.site book.now.broker }
     ensures { IfOk result (λ e. e ≡ own_marker book.now.site book.now.broker marker to names) }
 {
+    let marker = BoxedMarker::new(alloc, marker)?;
+    let meta = Metadata::new(alloc, 0, None, names, Blob::new(alloc))?;
     Ok(Entry {
         ident: Ident {
             origin: book.site().own(),
             producer: ProducerName::any(alloc, MARKER_PRODUCER)?,
             seq: book.next_marker(),
         },
-        content: Content::Marked(BoxedMarker::new(alloc, marker)?),
+        content: Content::Marked(marker),
         to,
-        meta: Metadata::new(alloc, 0, None, names, Blob::new(alloc))?,
+        meta,
         payload: Blob::new(alloc),
     })
 }

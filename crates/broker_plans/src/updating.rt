@@ -63,19 +63,28 @@ pub fn begin_write(
     ensures senders { book.new.room.senders ≡ book.old.room.senders }
     ensures err { OnErr result ((plan.new.changes ≡ []) × (plan.new.sent ≡ [])) }
 {
-    reserve(
-        book,
-        place,
-        room,
-        acks_needed(&write),
-        entries_needed(&update),
-    )?;
-    plan.begin(place);
-    plan.write(BookWrite::Sub(write))?;
-    if let Some(update) = update {
-        plan.write(update)?;
+    let acks = acks_needed(&write);
+    let entries = entries_needed(&update);
+    match reserve(book, place, room, acks, entries) {
+        Ok(()) => {}
+        Err(memory) => {
+            drop(write);
+            drop(update);
+            return Err(memory);
+        }
     }
-    Ok(())
+    plan.begin(place);
+    match plan.write(BookWrite::Sub(write)) {
+        Ok(()) => {}
+        Err(memory) => {
+            drop(update);
+            return Err(memory);
+        }
+    }
+    match update {
+        None => Ok(()),
+        Some(update) => plan.write(update),
+    }
 }
 
 /// Makes room at the subscription at a place, and for so many entries.
