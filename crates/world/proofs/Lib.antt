@@ -6,6 +6,7 @@ pub mod Halting
 pub mod ClientEvents
 pub mod Getting
 pub mod After
+pub mod Finishing
 pub mod Acting
 pub mod Waiting
 pub mod Prepared

@@ -13,11 +13,11 @@ use Rattle.broker.specs.Node.{BrokerBook}
 use Rattle.links.specs.Queues.{empty_links}
 use Rattle.world_kept.proofs.Reaching.{starts}
 use Rattle.world_kept.specs.Kept.{Kept}
-use Rattle.world_kept.specs.Reached.{Reached, started_kept}
+use Rattle.world_kept.specs.Reached.{Reached}
 use Rattle.world_kept.specs.Standing.{Stands}
 use Rattle.world_laws.proofs.Sizes.{node_lt}
 use Rattle.world_laws.specs.Starts.{most_at_start}
-use Rattle.world.specs.Saving.{AreRevived}
+use Rattle.world.specs.Saving.{AreRevived, IsResumed}
 use Rattle.state_laws.specs.Saved.{revived, world_from}
 use Rattle.world.specs.World.{AreNodes, IsAt, WorldBook, brokers_of, kept_of, node_at}
 use Rattle.world.proofs.Resumed.{AreFew, state_reached, state_starts}
@@ -56,11 +56,6 @@ revived_nodes s bs vs size h = record {
 }
 
 -- ---- the world
-
--- it has the brokers, and all else is as a start is kept
-pub record IsResumed (v : SavedState) (b : WorldBook) : Type 0 where
-  pub nodes : AreRevived v.scenario.setup v.nodes b.nodes
-  pub kept : kept_of b ≡ started_kept v.scenario.setup (world_from v)
 
 pub resumed : (v : SavedState) (b : WorldBook) → let s = v.scenario.setup in
     AreRevived s v.nodes b.nodes → b.clients ≡ v.clients → b.links ≡ empty_links (length s.topics) (length s.clusters) (length s.clients)

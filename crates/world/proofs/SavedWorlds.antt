@@ -33,6 +33,7 @@ use Rattle.world_laws.proofs.Reaching.{indexes}
 use Rattle.world_laws.specs.Indexes.{HasIndexes, KeepsIndexes}
 use Rattle.world.specs.declared.fault.RunFault.{RunFault}
 use Rattle.world.specs.declared.fault.RunFault.TheVariants as fault
+use Rattle.world.specs.declared.saving.StopParts.{StopParts}
 use Rattle.world.specs.Saving.{Saves, behind_stop}
 use Rattle.state_file.specs.State.{state_in}
 use Rattle.world.specs.World.{IsAt, WorldBook, brokers_of, kept_of}
@@ -126,7 +127,7 @@ IsGiven (Ok v) = Unit {0}
 IsGiven r = ⊥
 
 -- a fault of a part of the call
-abbrev pub failed : RunFault → Result (Unit {0}) RunFault
+abbrev pub failed : RunFault → Result StopParts RunFault
 failed f = Err f
 
 same_fault : (f g : RunFault) → refused f ≡ refused g → failed f ≡ failed g

@@ -8,14 +8,15 @@ use Rattle.geo_base.specs.World.{World}
 use Rattle.durable_parts.specs.Durable.{durable_part}
 use Rattle.script_text.specs.Script.{Script}
 use Rattle.state_file.specs.declared.saved.Saved.{Saved}
-use Rattle.state_file.specs.State.{state_in, state_of}
-use Rattle.state_laws.specs.Saved.{revived}
+use Rattle.state_file.specs.State.{SavedState, state_in, state_of}
+use Rattle.state_laws.specs.Saved.{revived, world_from}
 use Rattle.broker.specs.Events.{IsNodeOf}
 use Rattle.broker.specs.Node.{BrokerBook}
+use Rattle.world_kept.specs.Reached.{started_kept}
 use Rattle.world_laws.specs.Starts.{most_at_start}
 use Rattle.world.specs.declared.fault.RunFault.{RunFault}
 use Rattle.world.specs.declared.fault.RunFault.TheVariants as fault
-use Rattle.world.specs.World.{node_at}
+use Rattle.world.specs.World.{WorldBook, kept_of, node_at}
 
 -- what is durable of a broker behind a stop, which opens a ledger
 abbrev pub behind_stop : Broker → Broker
@@ -40,3 +41,8 @@ pub record IsRevived (s : Setup) (n : ℕ) (b : Broker) (v : BrokerBook) : Type 
 pub record AreRevived (s : Setup) (bs : List Broker) (vs : List BrokerBook) : Type 0 where
   pub count : length vs ≡ length bs
   pub each : (k : ℕ) → k < length bs → IsRevived s k (slice_index_or bs k no_broker) (node_at vs k)
+
+-- A world goes on from a state: it has the brokers, and all else is as a start is kept.
+pub record IsResumed (v : SavedState) (b : WorldBook) : Type 0 where
+  pub nodes : AreRevived v.scenario.setup v.nodes b.nodes
+  pub kept : kept_of b ≡ started_kept v.scenario.setup (world_from v)

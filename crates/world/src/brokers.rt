@@ -1,5 +1,5 @@
 //! An event of a broker: prepared there, its packets delivered, committed.
-ghost use Rattle.std.specs.Prelude.{◌≡◌, ℕ, ◌<◌, ◌+◌, ◌^◌, false, true, length, IfOk, OnErr, OnOk, None, Some, Ok, Err};
+ghost use Rattle.std.specs.Prelude.{◌≡◌, ℕ, ◌<◌, ◌+◌, ◌^◌, [], false, true, length, IfOk, OnErr, OnOk, None, Some, Ok, Err};
 ghost use Rattle.broker_state.specs.Plan.{IsEmptyPlan};
 ghost use Rattle.geo_base.specs.Happening.{happens};
 ghost use Rattle.geo_base.specs.World.{World as Machine};
@@ -9,7 +9,7 @@ ghost use Rattle.world.specs.World.{AreNodes, IsAt, IsWithin, SameWorld, kept_of
 ghost use Rattle.script_text.specs.Scenario.{IsEvent};
 ghost use Rattle.broker.specs.Events.{IsOfNode, NumbersRise};
 ghost use Rattle.broker.specs.Node.{IsReady};
-ghost use Rattle.links.specs.Queues.{bytes_of, taken_from};
+ghost use Rattle.links.specs.Queues.{bytes_of, delivered, taken_from};
 ghost use Rattle.world_kept.specs.Events.{IsBrokers};
 ghost use Rattle.world_kept.specs.Kept.{stamp_at};
 ghost use Rattle.world_kept.specs.Standing.{Stands, limit_of};
@@ -21,7 +21,7 @@ use crate::world::{World, node_number};
 use broker_state::Plan;
 use geo_base::limits::{EVENTS, SENT_BYTES};
 use geo_base::{Event, Memory, Stamp, WireOut};
-use links::{LinkName, Links, frame_bytes};
+use links::{LinkName, Links, Node, frame_bytes};
 use script_text::Scenario;
 use std::alloc::Global;
 use std::boxed::Box;
@@ -211,19 +211,54 @@ impl World {
         ensures err { OnErr result (self.new ≡ self.old) }
         ensures empty { OnOk result (IsEmptyPlan plan.new) }
     {
+        let stamp = self.stamp_at(number, place.takes);
+        self.send_at(alloc, place.sender(), stamp, plan)?;
+        self.commit_at(place, number, plan, stamp);
+        Ok(())
+    }
+
+    /// Sends what was prepared at a broker, in an event of this stamp, and counts its bytes; nothing of that where a limit would be
+    /// passed, or memory is wanting. Most events send nothing, for which no link is asked.
+    fn send_at(
+        &mut self,
+        alloc: Global,
+        from: Node,
+        stamp: u64,
+        plan: &mut Plan,
+    ) -> Result<(), RunFault>
+        requires { IsWithin self.old }
+        ensures sent { OnOk result (self.new ≡ record self.old { links = delivered from stamp plan.old.sent self.old.links; frame_bytes = self.old.frame_bytes + bytes_of plan.old.sent }) }
+        ensures rest { OnOk result (plan.new ≡ record plan.old { sent = [] }) }
+        ensures within { OnOk result (limit_of (self.old.events + 1) self.old.idle (self.old.frame_bytes + bytes_of plan.old.sent) ≡ None) }
+        ensures large { (n : ℕ) → result ≡ Err (fault.TooLarge n) → limit_of (self.old.events + 1) self.old.idle (self.old.frame_bytes + bytes_of plan.old.sent) ≡ Some n }
+        ensures err { OnErr result (self.new ≡ self.old) }
+    {
         if plan.sends_nothing() {
-            self.one_more()?;
-            let stamp = self.stamp_at(number, place.takes);
-            self.commit_at(place, number, plan, stamp);
-            return Ok(());
+            return self.one_more();
         }
         let mut sent = plan.take_sent(alloc);
-        let bytes = self.bytes_after(&sent)?;
-        let stamp = self.stamp_at(number, place.takes);
-        self.links
-            .deliver(place.sender(), Stamp::new(stamp), &mut sent)?;
+        self.deliver(from, stamp, &mut sent)?;
         plan.keep_sent(sent);
-        self.commit_at(place, number, plan, stamp);
+        Ok(())
+    }
+
+    /// Sends this in an event of this stamp, and counts its bytes; nothing of that where a limit would be passed, or memory is
+    /// wanting. All of it is taken out of `sent`, which keeps its memory.
+    pub(crate) fn deliver(
+        &mut self,
+        from: Node,
+        stamp: u64,
+        sent: &mut VecDeque<WireOut>,
+    ) -> Result<(), RunFault>
+        requires { IsWithin self.old }
+        ensures sent { OnOk result (self.new ≡ record self.old { links = delivered from stamp sent.old.items self.old.links; frame_bytes = self.old.frame_bytes + bytes_of sent.old.items }) }
+        ensures taken { OnOk result (sent.new.items ≡ []) }
+        ensures within { OnOk result (limit_of (self.old.events + 1) self.old.idle (self.old.frame_bytes + bytes_of sent.old.items) ≡ None) }
+        ensures large { (n : ℕ) → result ≡ Err (fault.TooLarge n) → limit_of (self.old.events + 1) self.old.idle (self.old.frame_bytes + bytes_of sent.old.items) ≡ Some n }
+        ensures err { OnErr result (self.new ≡ self.old) }
+    {
+        let bytes = self.bytes_after(sent)?;
+        self.links.deliver(from, Stamp::new(stamp), sent)?;
         self.counts.frame_bytes = bytes;
         Ok(())
     }

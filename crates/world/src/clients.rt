@@ -16,7 +16,6 @@ ghost use Rattle.world_kept.specs.Reached.{Reached};
 use crate::fault::RunFault;
 use crate::world::World;
 use client::Prepared;
-use geo_base::Stamp;
 use links::{LinkName, Node};
 use node_starts::site_of;
 use script_text::Scenario;
@@ -88,12 +87,9 @@ impl World {
     {
         let mut prepared = prepared;
         let mut sent = prepared.take_sent(alloc);
-        let bytes = self.bytes_after(&sent)?;
         let stamp = self.client_stamp(client, None);
-        self.links
-            .deliver(Node::Client { client }, Stamp::new(stamp), &mut sent)?;
+        self.deliver(Node::Client { client }, stamp, &mut sent)?;
         self.client_commits(client, prepared, stamp);
-        self.counts.frame_bytes = bytes;
         Ok(())
     }
 

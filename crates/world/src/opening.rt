@@ -1,6 +1,8 @@
 //! How a world begins: empty topics, clients that have done nothing, empty links, and clocks at zero.
-ghost use Rattle.std.specs.Prelude.{◌≡◌, ◌<◌, ◌+◌, ◌*◌, length, map, IfOk, OnOk};
+ghost use Rattle.std.specs.Prelude.{◌≡◌, ◌<◌, ◌+◌, ◌*◌, length, map, replicate, IfOk, OnOk};
 ghost use Rattle.geo_base.specs.Client.{new_client};
+ghost use Rattle.geo_base.specs.Scripted.{IsScripted};
+ghost use Rattle.links.specs.Queues.{empty_links};
 ghost use Rattle.world.specs.Opening.{AreNew};
 ghost use Rattle.world.specs.World.{IsAt, kept_of};
 ghost use Rattle.world_kept.specs.Kept.{opening_kept};
@@ -22,15 +24,15 @@ impl World {
         ensures kept { IfOk result (λ w. kept_of w ≡ opening_kept scenario.now.setup) }
         ensures at { IfOk result (IsAt scenario.now.setup) }
     {
-        let topics = scenario.topics().len();
-        let clusters = scenario.clusters().len();
-        let clients = scenario.clients().len();
+        let nodes = new_nodes(alloc, scenario)?;
+        let clients = new_clients(alloc, scenario)?;
+        let unused = Unused::of(alloc, scenario)?;
         Ok(World {
-            nodes: new_nodes(alloc, scenario)?,
-            clients: new_clients(alloc, scenario)?,
-            links: Links::new(alloc, topics, clusters, clients)?,
-            broker_clocks: vec![in alloc; 0; topics * clusters]?,
-            client_clocks: vec![in alloc; 0; clients]?,
+            nodes,
+            clients,
+            links: unused.links,
+            broker_clocks: unused.broker_clocks,
+            client_clocks: unused.client_clocks,
             counts: Counts {
                 events: 0,
                 idle: 0,
@@ -38,6 +40,33 @@ impl World {
                 frame_bytes: 0,
             },
             plan: None,
+        })
+    }
+}
+
+/// What no event used yet: links on which nothing was sent, and clocks at zero.
+#[derive(Drop)]
+pub(crate) struct Unused {
+    pub(crate) links: Links,
+    pub(crate) broker_clocks: Vec<u64>,
+    pub(crate) client_clocks: Vec<u64>,
+}
+
+impl Unused {
+    /// Those of a script's world. An `Err` is want of memory.
+    pub(crate) fn of(alloc: Global, scenario: &Scenario) -> Result<Unused, Memory>
+        ensures links { IfOk result (λ u. u.links ≡ empty_links (length scenario.now.setup.topics) (length scenario.now.setup.clusters) (length scenario.now.setup.clients)) }
+        ensures broker_clocks { IfOk result (λ u. u.broker_clocks.items ≡ replicate (length scenario.now.setup.topics * length scenario.now.setup.clusters) 0) }
+        ensures client_clocks { IfOk result (λ u. u.client_clocks.items ≡ replicate (length scenario.now.setup.clients) 0) }
+        ensures known { OnOk result (IsScripted scenario.now.setup) }
+    {
+        let topics = scenario.topics().len();
+        let clusters = scenario.clusters().len();
+        let clients = scenario.clients().len();
+        Ok(Unused {
+            links: Links::new(alloc, topics, clusters, clients)?,
+            broker_clocks: vec![in alloc; 0; topics * clusters]?,
+            client_clocks: vec![in alloc; 0; clients]?,
         })
     }
 }

@@ -1,27 +1,28 @@
 //! A world that goes on from the state that a file held.
-ghost use Rattle.std.specs.Prelude.{◌≡◌, ◌<◌, ◌≤◌, ◌*◌, ◌/◌, ◌%◌, true, false, [], length, map, IfOk};
+ghost use Rattle.std.specs.Prelude.{◌≡◌, ◌<◌, ◌≤◌, ◌*◌, ◌/◌, ◌%◌, true, false, [], length, map, IfOk, OnOk};
 ghost use Rattle.client.specs.State.{stopped};
+ghost use Rattle.geo_base.specs.Scripted.{IsScripted};
 ghost use Rattle.state_file.specs.Known.{IsKnownBehind, IsKnownState};
 ghost use Rattle.state_file.specs.State.{state_of};
 ghost use Rattle.state_items.specs.Fitting.{AllFit};
 ghost use Rattle.state_brokers.specs.Known.{IsKnownNode};
 ghost use Rattle.state_brokers.specs.Nodes.{broker_of};
-ghost use Rattle.world.specs.Saving.{AreRevived, IsRevived};
+ghost use Rattle.world.specs.Saving.{AreRevived, IsResumed, IsRevived};
 ghost use Rattle.state_laws.specs.Saved.{world_from};
 ghost use Rattle.world.specs.World.{IsAt, kept_of};
 ghost use Rattle.world_laws.specs.Starts.{most_at_start};
 ghost use Rattle.world_kept.specs.Reached.{Reached};
 ghost use Rattle.world_kept.specs.Standing.{Stands};
 
+use crate::opening::Unused;
 use crate::world::World;
 use broker::Broker;
 use broker_state::Plan;
 use client::{Client, ClientState};
 use geo_base::{Entry, Memory};
-use links::Links;
 use node_starts::{new_site, sub_names};
 use script_text::Scenario;
-use state_brokers::NodeParts;
+use state_brokers::{Counts, NodeParts};
 use state_file::Saved;
 use std::alloc::Global;
 
@@ -42,24 +43,35 @@ impl World {
             nodes,
             clients,
         } = saved;
-        let brokers = scenario.topics().len() * scenario.clusters().len();
-        let declared = scenario.clients().len();
-        let world = World {
-            nodes: revived_nodes(alloc, &scenario, nodes)?,
-            clients: resumed_clients(alloc, clients)?,
-            links: Links::new(
-                alloc,
-                scenario.topics().len(),
-                scenario.clusters().len(),
-                declared,
-            )?,
-            broker_clocks: vec![in alloc; 0; brokers]?,
-            client_clocks: vec![in alloc; 0; declared]?,
-            counts,
-            plan: None,
-        };
+        let world = resumed_world(alloc, &scenario, counts, nodes, clients)?;
         Ok((scenario, world))
     }
+}
+
+/// The world that goes on from such a state, by its parts.
+fn resumed_world(
+    alloc: Global,
+    scenario: &Scenario,
+    counts: Counts,
+    parts: Vec<NodeParts>,
+    states: Vec<ClientState>,
+) -> Result<World, Memory>
+    requires { IsKnownState (state_of (record { scenario = scenario.now; counts = counts; nodes = parts; clients = states })) }
+    ensures resumed { IfOk result (IsResumed (state_of (record { scenario = scenario.now; counts = counts; nodes = parts; clients = states }))) }
+    ensures known { OnOk result (IsScripted scenario.now.setup) }
+{
+    let nodes = revived_nodes(alloc, scenario, parts)?;
+    let clients = resumed_clients(alloc, states)?;
+    let unused = Unused::of(alloc, scenario)?;
+    Ok(World {
+        nodes,
+        clients,
+        links: unused.links,
+        broker_clocks: unused.broker_clocks,
+        client_clocks: unused.client_clocks,
+        counts,
+        plan: None,
+    })
 }
 
 /// The brokers of all topics, by topic and then by cluster, from what is durable of each.

@@ -1,5 +1,5 @@
 //! What a file holds of a world: the state that a stop of everything would leave.
-ghost use Rattle.std.specs.Prelude.{◌≡◌, ◌+◌, ◌<◌, ◌^◌, All, IfOk, map};
+ghost use Rattle.std.specs.Prelude.{◌≡◌, ℕ, ◌+◌, ◌<◌, ◌^◌, All, Err, IfOk, None, OnOk, Some, map};
 ghost use Rattle.client.specs.State.{stopped};
 ghost use Rattle.geo_base.specs.Broker.{Broker as MachineBroker};
 ghost use Rattle.geo_base.specs.Client.{unconnected};
@@ -8,9 +8,10 @@ ghost use Rattle.state_file.specs.State.{state_of};
 ghost use Rattle.state_file.specs.Writing.{CanSave};
 ghost use Rattle.state_brokers.specs.Nodes.{broker_of};
 ghost use Rattle.state_brokers.specs.Writing.{HaveRests};
+ghost use Rattle.world.specs.declared.fault.RunFault.TheVariants as fault;
 ghost use Rattle.world.specs.Saving.{Saves, behind_stop};
-ghost use Rattle.world.specs.World.{IsAt, brokers_of, kept_of};
-ghost use Rattle.world_kept.specs.Standing.{Stands};
+ghost use Rattle.world.specs.World.{IsAt, IsWithin, brokers_of, kept_of};
+ghost use Rattle.world_kept.specs.Standing.{Stands, limit_of};
 
 use crate::fault::RunFault;
 use crate::world::World;
@@ -22,6 +23,14 @@ use state_brokers::{Counts, NodeParts};
 use state_file::Saved;
 use std::alloc::Global;
 
+/// What a stop of everything leaves of a world: the counts with the stop counted, what is durable of each broker, each client.
+#[derive(Drop)]
+struct StopParts {
+    counts: Counts,
+    nodes: Vec<NodeParts>,
+    clients: Vec<ClientState>,
+}
+
 impl World {
     /// The state that a stop of everything would leave, as a file holds it: the declarations without the schedule, the counts with
     /// the stop counted, what is durable of each broker, each client. The world stays as it is. An `Err` is a limit of the run that
@@ -31,11 +40,29 @@ impl World {
         ensures saves { (w : Machine) → Stands scenario.setup (kept_of self.now) w → Saves scenario w result }
         ensures can { IfOk result (λ v. CanSave (state_of v)) }
     {
+        let parts = self.parts_behind_stop(alloc)?;
+        Ok(Saved {
+            scenario: scenario.without_steps(alloc),
+            counts: parts.counts,
+            nodes: parts.nodes,
+            clients: parts.clients,
+        })
+    }
+
+    /// What that stop would leave, but for the declarations.
+    fn parts_behind_stop(&self, alloc: Global) -> Result<StopParts, RunFault>
+        requires { IsWithin self.now }
+        ensures counts { IfOk result (λ v. v.counts ≡ record { events = self.now.events + 1; idle = self.now.idle; rounds = self.now.rounds; frame_bytes = self.now.frame_bytes }) }
+        ensures nodes { IfOk result (λ v. map broker_of v.nodes.items ≡ map behind_stop (brokers_of self.now.nodes)) }
+        ensures rests { IfOk result (λ v. All (λ (b : MachineBroker). HaveRests b.entries) (map broker_of v.nodes.items)) }
+        ensures clients { IfOk result (λ v. map stopped v.clients.items ≡ map unconnected self.now.clients) }
+        ensures within { OnOk result (limit_of (self.now.events + 1) self.now.idle self.now.frame_bytes ≡ None) }
+        ensures large { (n : ℕ) → result ≡ Err (fault.TooLarge n) → limit_of (self.now.events + 1) self.now.idle self.now.frame_bytes ≡ Some n }
+    {
         self.one_more()?;
         let nodes = saved_nodes(alloc, self.nodes.as_slice())?;
         let clients = saved_clients(alloc, self.clients.as_slice())?;
-        Ok(Saved {
-            scenario: scenario.without_steps(alloc),
+        Ok(StopParts {
             counts: self.counts_behind_stop(),
             nodes,
             clients,
