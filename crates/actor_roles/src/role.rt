@@ -5,7 +5,7 @@ ghost use Rattle.geo_base.specs.declared.event.Event.TheVariants as event;
 use geo_base::{Event, Fate};
 
 /// A link of replication: the topic, and the clusters at its two ends, by number.
-#[derive(Clone, Copy, Debug, Drop, PartialEq, Eq)]
+#[derive(Clone, Copy, Drop, PartialEq, Eq)]
 pub struct Link {
     pub topic: u32,
     pub source: u32,
@@ -62,7 +62,7 @@ impl Link {
 
 /// What an actor of a run on threads tries to do, each at nodes of its own (own: in Pulsar these are threads of brokers and of
 /// clients). The numbers are those of topics, clusters, subscription names and clients.
-#[derive(Clone, Copy, Debug, Drop, PartialEq, Eq)]
+#[derive(Clone, Copy, Drop, PartialEq, Eq)]
 pub enum Role {
     /// Begins sessions at the source of a link, takes their receipts, and reads the topic.
     Sender(Link),

@@ -15,7 +15,7 @@ use script_text::Scenario;
 use std::alloc::Global;
 
 /// An update's subscription, and the positions that it names.
-#[derive(Clone, Copy, Debug, Drop)]
+#[derive(Clone, Copy, Drop)]
 struct UpdateOf<'a> {
     sub: &'a Text,
     remote: &'a [ClusterPosition],

@@ -19,7 +19,7 @@ use trace_lines::{Line, Written};
 
 /// All topics, topic by topic and in each cluster by cluster, and the number of the last event. Beside each topic stands what the
 /// others need of it.
-#[derive(Debug, Drop)]
+#[derive(Drop)]
 pub(crate) struct AllMirrors {
     topics: Vec<TopicMirror>,
     covers: Vec<CoverList>,
@@ -38,7 +38,7 @@ impl Model for AllMirrors {
 }
 
 /// A topic and a cluster, by their numbers.
-#[derive(Clone, Copy, Debug, Drop, PartialEq, Eq)]
+#[derive(Clone, Copy, Drop, PartialEq, Eq)]
 pub(crate) struct At {
     pub(crate) topic: u32,
     pub(crate) cluster: u32,

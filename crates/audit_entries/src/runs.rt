@@ -13,7 +13,7 @@ use std::marker::Model;
 
 /// What passes over an entry: a marker's acknowledgement over markers alone, and that of an update of a cluster over markers and over
 /// what was meant for the cluster.
-#[derive(Clone, Copy, Debug, Drop, PartialEq, Eq)]
+#[derive(Clone, Copy, Drop, PartialEq, Eq)]
 pub enum Passed {
     Markers,
     By(u32),
@@ -33,7 +33,7 @@ impl Passed {
 
 /// For each of a topic's first entries the least index from which on, up to the entry, all may be passed over; the next index where
 /// the entry itself may not. So one look says whether all entries of a range may.
-#[derive(Debug, Drop)]
+#[derive(Drop)]
 pub struct Runs {
     what: Passed,
     starts: Vec<u64>,

@@ -19,7 +19,7 @@ pub fn unless_broken(rule: u32, holds: bool) -> Option<u32>
 }
 
 /// An acknowledgement on a subscription, and its cause.
-#[derive(Clone, Copy, Debug, Drop)]
+#[derive(Clone, Copy, Drop)]
 pub struct Acked<'a> {
     pub sub: &'a Text,
     pub ranges: &'a AckedRanges,
@@ -27,7 +27,7 @@ pub struct Acked<'a> {
 }
 
 /// An update of another cluster that an acknowledgement follows: its cluster, and the index here that it names.
-#[derive(Clone, Copy, Debug, Drop, PartialEq, Eq)]
+#[derive(Clone, Copy, Drop, PartialEq, Eq)]
 pub(crate) struct Followed {
     pub(crate) cluster: u32,
     pub(crate) index: u64,

@@ -12,7 +12,7 @@ use std::marker::Model;
 
 /// For each of the first entries of another cluster's topic how many entries here those up to it need: so many that each message
 /// among them that is meant for this cluster stands here. A snapshot then costs one look; the entries are gone over once.
-#[derive(Debug, Drop)]
+#[derive(Drop)]
 pub(crate) struct Needed {
     own: u32,
     there: usize,
@@ -28,7 +28,7 @@ impl Model for Needed {
 }
 
 /// A cluster with its topic, and the topic at another cluster, by their numbers.
-#[derive(Clone, Copy, Debug, Drop, PartialEq, Eq)]
+#[derive(Clone, Copy, Drop, PartialEq, Eq)]
 pub struct Pair {
     pub own: u32,
     pub here: usize,
@@ -130,7 +130,7 @@ impl Needed {
 }
 
 /// What the other topics need of one, each topic that was asked for once.
-#[derive(Debug, Drop)]
+#[derive(Drop)]
 pub struct CoverList {
     covers: Vec<Needed>,
 }

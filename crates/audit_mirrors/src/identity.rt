@@ -12,7 +12,7 @@ use std::alloc::Global;
 use std::hash::{Hash, Hasher};
 
 /// The cluster that stored an entry first, its producer there, and the sequence id.
-#[derive(Debug, Drop)]
+#[derive(Drop)]
 pub(crate) struct Identity {
     pub(crate) origin: u32,
     pub(crate) producer: ProducerName,

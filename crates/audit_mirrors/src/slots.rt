@@ -15,7 +15,7 @@ use trace_lines::AckedRanges;
 
 /// Subscriptions in slots, in the order in which they were created; the slot of one that was deleted stays empty. A table finds the
 /// slot of a name.
-#[derive(Debug, Drop)]
+#[derive(Drop)]
 pub(crate) struct SubSlots {
     slots: Vec<Option<SubMirror>>,
     places: IndexMap<String, usize>,

@@ -18,7 +18,7 @@ use std::marker::Model;
 
 /// The entries of a topic with their positions, which ascend. A table by origin and producer tells duplicates, and one by identity
 /// where an entry stands.
-#[derive(Debug, Drop)]
+#[derive(Drop)]
 pub struct Stored {
     entries: Vec<Entry>,
     positions: Vec<Position>,

@@ -12,7 +12,7 @@ use std::marker::Model;
 use trace_lines::AckedRanges;
 
 /// A subscription with its cursor.
-#[derive(Debug, Drop)]
+#[derive(Drop)]
 pub struct SubMirror {
     name: Text,
     cursor: Cursor,

@@ -15,7 +15,7 @@ use std::marker::Model;
 use trace_lines::AckedRanges;
 
 /// The subscriptions of a topic in the order in which they were created. One of a name is found by a table.
-#[derive(Debug, Drop)]
+#[derive(Drop)]
 pub(crate) struct Subs {
     slots: SubSlots,
 }

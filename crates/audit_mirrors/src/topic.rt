@@ -22,7 +22,7 @@ use trace_lines::{AckedRanges, Written};
 
 /// A topic at one cluster, as the lines of a trace make it: its entries, and its subscriptions with their cursors. Beside them stands
 /// what an acknowledgement may pass over, for each cause that was asked for.
-#[derive(Debug, Drop)]
+#[derive(Drop)]
 pub struct TopicMirror {
     stored: Stored,
     subs: Subs,

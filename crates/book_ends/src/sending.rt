@@ -13,7 +13,7 @@ use std::vec::IntoIter;
 use wire_ends::{End, Parcel};
 
 /// A parcel, and the peer that it goes to.
-#[derive(Debug, Drop)]
+#[derive(Drop)]
 pub struct Addressed {
     pub to: Peer,
     pub parcel: Parcel,

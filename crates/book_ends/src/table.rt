@@ -8,7 +8,7 @@ use geo_base::{Memory, Peer};
 use wire_ends::{End, Parcel, WirePacket};
 
 /// A peer of a node, the end that takes what the peer sent, and the end that sends to it.
-#[derive(Debug, Drop)]
+#[derive(Drop)]
 pub struct EndRow<E: End> {
     pub peer: Peer,
     pub take: E,
@@ -16,7 +16,7 @@ pub struct EndRow<E: End> {
 }
 
 /// The peers of a node and the ends of the links to them and from them.
-#[derive(Debug, Drop)]
+#[derive(Drop)]
 pub struct EndTable<E: End> {
     pub rows: Vec<EndRow<E>>,
 }

@@ -13,7 +13,7 @@ use std::marker::Model;
 use topic_ledger::TopicLedger;
 
 /// A topic's number, the names of the topic's subscriptions by their numbers in events, and the broker's state. All that is kept can be written again as a frame.
-#[derive(Debug, Drop)]
+#[derive(Drop)]
 pub struct Broker {
     pub(crate) topic: u32,
     pub(crate) names: Vec<SubName>,

@@ -15,7 +15,7 @@ use std::alloc::Global;
 use wire_ends::WirePacket;
 
 /// What an event did: whether it was not enabled, and the packets to send.
-#[derive(Debug, Drop)]
+#[derive(Drop)]
 pub struct Acted {
     pub idle: bool,
     pub sent: Vec<WireOut>,

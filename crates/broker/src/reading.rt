@@ -47,7 +47,7 @@ pub(crate) fn usual_send(packet: &WirePacket) -> Option<Came<'_>>
 }
 
 /// The receipt of a SEND.
-#[derive(Clone, Copy, Debug, Drop)]
+#[derive(Clone, Copy, Drop)]
 pub(crate) struct Receipt {
     pub id: u64,
     pub seq: u64,

@@ -12,7 +12,7 @@ use frame_values::is_within_limit;
 use geo_base::{Entry, Frame, Place, Text};
 
 /// What a packet of a forward link does.
-#[derive(Debug, Drop)]
+#[derive(Drop)]
 pub(crate) enum TakeAct {
     /// It can't be read: the session closes.
     Unreadable,

@@ -9,7 +9,7 @@ use geo_base::{Frame, Memory, Peer, Position};
 use std::alloc::Global;
 
 /// The session of the link from a cluster in which a packet came, and whether it is acted on two times in a row.
-#[derive(Clone, Copy, Debug, Drop)]
+#[derive(Clone, Copy, Drop)]
 pub(crate) struct Arrival {
     pub(crate) source: u32,
     pub(crate) session: u64,
@@ -17,7 +17,7 @@ pub(crate) struct Arrival {
 }
 
 /// The answer to a packet in a session of the link from a cluster, and the one to its second coming.
-#[derive(Debug, Drop)]
+#[derive(Drop)]
 struct Answer {
     source: u32,
     session: u64,

@@ -31,7 +31,7 @@ const SHORT: usize = 128;
 const META_BYTES: u64 = 512;
 
 /// A SEND of the usual form, in a session.
-#[derive(Clone, Copy, Debug)]
+#[derive(Clone, Copy)]
 pub struct Came<'a> {
     pub session: u64,
     pub id: u64,
@@ -40,7 +40,7 @@ pub struct Came<'a> {
 }
 
 /// Who sent a SEND, and its session, producer and number, which its receipt names.
-#[derive(Clone, Copy, Debug, Drop)]
+#[derive(Clone, Copy, Drop)]
 pub struct Answered {
     pub to: Peer,
     pub session: u64,

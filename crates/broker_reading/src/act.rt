@@ -10,14 +10,14 @@ use broker_state::{BookChange, BookWrite, BrokerState, Plan};
 use geo_base::{Memory, SubName};
 
 /// The sender to a cluster reads the entry at an index.
-#[derive(Clone, Copy, Debug, Drop)]
+#[derive(Clone, Copy, Drop)]
 pub(crate) struct ReadAt {
     pub remote: u32,
     pub index: u64,
 }
 
 /// What a sender does with what it reads.
-#[derive(Debug, Drop)]
+#[derive(Drop)]
 pub(crate) enum ReadAct {
     /// All of it is prepared.
     Ready,

@@ -22,7 +22,7 @@ use geo_base::{AckKind, Memory, Position, Sequence, SubKind};
 use std::alloc::Global;
 
 /// What ACK names.
-#[derive(Debug, Drop)]
+#[derive(Drop)]
 pub(crate) struct Acked {
     pub id: u64,
     pub kind: AckKind,

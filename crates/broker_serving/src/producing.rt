@@ -21,7 +21,7 @@ use geo_base::{AttachedProducer, Frame, Memory, Sequence, Session, Text};
 use std::alloc::Global;
 
 /// What PRODUCER asks for.
-#[derive(Debug, Drop)]
+#[derive(Drop)]
 pub(crate) struct Attaching {
     pub topic: Text,
     pub id: u64,

@@ -22,7 +22,7 @@ use geo_base::{Content, Entry, Frame, Memory, Place, Text};
 use std::alloc::Global;
 
 /// What SEND publishes.
-#[derive(Debug, Drop)]
+#[derive(Drop)]
 pub(crate) struct Publish {
     pub id: u64,
     pub seq: u64,

@@ -22,7 +22,7 @@ use geo_base::{Consumer, Frame, Memory, NameFault, SubKind, SubName, Text, name_
 use std::alloc::Global;
 
 /// What SUBSCRIBE asks for.
-#[derive(Debug, Drop)]
+#[derive(Drop)]
 pub(crate) struct Joining {
     pub topic: Text,
     pub sub: Text,

@@ -8,7 +8,7 @@ use std::boxed::Box;
 use std::marker::Model;
 
 /// A snapshot that is being made, in memory of its own, so that a change is not as large as the largest of all. It is the snapshot.
-#[derive(Debug, Drop)]
+#[derive(Drop)]
 pub struct BoxedBuilder {
     builder: Box<Builder>,
 }

@@ -5,7 +5,7 @@ use broker_subs::SubChange;
 use geo_base::Session;
 
 /// One change in memory, with all the memory that it takes. The subscription that it is of is the prepared event's.
-#[derive(Debug, Drop)]
+#[derive(Drop)]
 pub enum BookChange {
     /// The session that is open on the forward link from a cluster.
     Receiver {

@@ -13,7 +13,7 @@ use std::marker::Model;
 
 /// An event that is prepared: its writes, changes and packets hold all the memory that it takes. `sub` is the place of the
 /// subscription that it is about.
-#[derive(Debug, Drop)]
+#[derive(Drop)]
 pub struct Plan {
     idle: bool,
     pub(crate) sub: usize,

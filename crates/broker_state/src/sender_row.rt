@@ -12,7 +12,7 @@ use std::alloc::Global;
 use std::marker::Model;
 
 /// What an event does to a sender: a durable write of its cursor or of its session's number, or a change in memory.
-#[derive(Clone, Copy, Debug, Drop)]
+#[derive(Clone, Copy, Drop)]
 pub enum SenderStep {
     /// One more index is acknowledged.
     Acknowledge(u64),
@@ -32,7 +32,7 @@ pub enum SenderStep {
 
 /// The sender to a cluster, and what that cluster has acknowledged. `room` is how many more steps find memory that take a place:
 /// an index that is acknowledged, or one that is sent.
-#[derive(Debug, Drop)]
+#[derive(Drop)]
 pub struct SenderRow {
     cursor: Cursor,
     sender: Sender,

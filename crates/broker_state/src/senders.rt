@@ -13,7 +13,7 @@ use std::marker::Model;
 const AHEAD: usize = 16;
 
 /// The senders by cluster. `room` is how many more steps that take a place were asked for, `spare` how many find room at each.
-#[derive(Debug, Drop)]
+#[derive(Drop)]
 pub struct SenderTable {
     pub(crate) senders: Vec<SenderRow>,
     room: usize,

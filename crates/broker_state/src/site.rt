@@ -11,7 +11,7 @@ use std::marker::Model;
 
 /// Its cluster's number, all clusters' names, its topic's name, and how many entries a ledger takes. Contracts see the machine's
 /// site.
-#[derive(Debug, Drop)]
+#[derive(Drop)]
 pub struct Site {
     own: u32,
     clusters: Vec<ClusterName>,

@@ -23,7 +23,7 @@ use topic_ledger::TopicLedger;
 
 /// What a broker knows of the setup; its topic, with the table of its duplicates and the sequence id of the cluster's next marker;
 /// the senders and receivers by cluster; the subscriptions; the clients' sessions; and the snapshot that is being made.
-#[derive(Debug, Drop)]
+#[derive(Drop)]
 pub struct BrokerState {
     pub(crate) site: Site,
     pub(crate) store: TopicLedger,

@@ -5,7 +5,7 @@ use dedup_table::Stream;
 use geo_base::Entry;
 
 /// One durable write, with all the memory that it takes. The subscription that it is of is the prepared event's.
-#[derive(Debug, Drop)]
+#[derive(Drop)]
 pub enum BookWrite {
     /// An entry is stored; `stream` is that of its identity.
     Append { entry: Entry, stream: Stream },

@@ -10,7 +10,7 @@ use crate::sub::Sub;
 use geo_base::{CachedSnapshot, Consumer};
 
 /// A change in memory of a subscription, with all the memory that it takes.
-#[derive(Debug, Drop)]
+#[derive(Drop)]
 pub enum SubChange {
     /// A consumer joins, last in order.
     Attach(Consumer),

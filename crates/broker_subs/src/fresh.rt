@@ -11,7 +11,7 @@ use key_shared::KeyPick;
 
 /// Which indexes the last write of a cursor added, that may still be out or due: an acknowledgement is forgotten at the cost of
 /// what it names, and not by going over all that is out.
-#[derive(Debug, Drop)]
+#[derive(Drop)]
 pub(crate) enum Fresh {
     /// Nothing that is out or due is acknowledged.
     Nothing,

@@ -20,7 +20,7 @@ use std::marker::Model;
 
 /// A subscription: its durable part, its consumers with what is out and due again, and its snapshots. Contracts see the machine's
 /// subscription, how many more consumers or given indexes find memory (`room`), and how many more acknowledged indexes (`acks`).
-#[derive(Debug, Drop)]
+#[derive(Drop)]
 pub struct Sub {
     pub(crate) durable: DurableSub,
     pub(crate) dispatcher: Dispatcher<KeyPick>,

@@ -18,7 +18,7 @@ use std::marker::Model;
 
 /// The subscriptions in order of creation, each with a name of its own, and how many more find memory. They are found by a search,
 /// since there are at most 32 of them.
-#[derive(Debug, Drop)]
+#[derive(Drop)]
 pub struct SubTable {
     pub(crate) subs: Vec<Sub>,
     pub(crate) room: usize,

@@ -13,7 +13,7 @@ use cursor_acks::Cursor;
 use geo_base::{EntryStore, Sequence, SubKind};
 
 /// A durable write of a subscription that is here, with all the memory that it takes.
-#[derive(Debug, Drop)]
+#[derive(Drop)]
 pub enum SubWrite {
     /// The cursor gains some indexes.
     Acks(Sequence<u64>),

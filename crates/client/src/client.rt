@@ -37,7 +37,7 @@ const COUNTS: u64 = 9_223_372_036_854_775_808;
 /// The connection to the current cluster, how many lines are done, the indexes of the lines in force, the indexes of the
 /// publishes that wait for their receipts, what receipts came, the messages that came on this subscription and were not
 /// acknowledged, and all that came.
-#[derive(Debug, Drop)]
+#[derive(Drop)]
 pub struct Client {
     cluster: u32,
     connection: u64,

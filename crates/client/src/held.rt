@@ -18,7 +18,7 @@ use std::alloc::Global;
 use std::marker::Model;
 
 /// Messages in order of receipt. An identity may be held more than once.
-#[derive(Debug, Drop)]
+#[derive(Drop)]
 pub struct HeldTable {
     slots: HeldSlots,
 }

@@ -12,7 +12,7 @@ use std::marker::Model;
 
 /// The clusters' and topics' names by their numbers, and what is declared of the client: its name, which is its producer's too,
 /// the numbers of its topic and of the cluster that it is at first, and its lines.
-#[derive(Debug, Drop)]
+#[derive(Drop)]
 pub struct ClientSite<'a> {
     clusters: &'a [ClusterName],
     topics: &'a [TopicName],

@@ -14,7 +14,7 @@ use std::alloc::Global;
 use std::marker::Model;
 
 /// The compacted view of the entries below a horizon: the index of the last message of each key among them.
-#[derive(Debug, Drop)]
+#[derive(Drop)]
 pub struct Compacted {
     last: IndexMap<String, u64>,
     horizon: u64,

@@ -15,7 +15,7 @@ pub(crate) const MOST: usize = 64;
 pub(crate) const HALF: usize = 32;
 
 /// Ranges in order, with room for `MOST`. Contracts see their list.
-#[derive(Debug, Drop)]
+#[derive(Drop)]
 pub(crate) struct RangeBlock {
     items: Vec<IndexRange>,
 }

@@ -11,7 +11,7 @@ use std::alloc::Global;
 use std::marker::Model;
 
 /// Blocks of ranges, none of which is empty. Contracts see their lists, and beside these how many more blocks find room.
-#[derive(Debug, Drop)]
+#[derive(Drop)]
 pub(crate) struct Blocks {
     items: Vec<RangeBlock>,
     /// How many ranges the blocks have above half of what they have room for.

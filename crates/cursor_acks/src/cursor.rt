@@ -22,7 +22,7 @@ pub struct PastEnd {
 /// The acknowledged indexes of a topic (Pulsar manual: mark-delete and individual acknowledgements). Contracts see the
 /// ascending list of the indexes, as the written machine has it, and beside it how many more acknowledgements need no
 /// memory.
-#[derive(Debug, Drop)]
+#[derive(Drop)]
 pub struct Cursor {
     ranges: RangeList,
 }

@@ -16,7 +16,7 @@ use std::marker::Model;
 /// Ranges in order. They stand in blocks of at most `MOST`, so that a change moves those of one block alone: all ranges of a
 /// short list in the last block, which grows as they come, and those before in blocks with room for `MOST`. Contracts see
 /// the list, its blocks, and how many more ranges find room without memory.
-#[derive(Debug, Drop)]
+#[derive(Drop)]
 pub struct RangeList {
     before: Blocks,
     last: Vec<IndexRange>,

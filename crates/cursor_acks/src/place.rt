@@ -1,7 +1,7 @@
 //! Where a range stands.
 
 /// A block, and how many of its ranges stand before.
-#[derive(Clone, Copy, Debug, Drop, PartialEq, Eq)]
+#[derive(Clone, Copy, Drop, PartialEq, Eq)]
 pub(crate) struct Place {
     pub(crate) block: usize,
     pub(crate) offset: usize,

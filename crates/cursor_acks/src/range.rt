@@ -1,7 +1,7 @@
 //! Ranges of indexes.
 
 /// The indexes from `first` to `last`, both included.
-#[derive(Clone, Copy, Debug, Drop, PartialEq, Eq)]
+#[derive(Clone, Copy, Drop, PartialEq, Eq)]
 pub struct IndexRange {
     pub first: u64,
     pub last: u64,

@@ -12,7 +12,7 @@ use std::alloc::Global;
 use std::hash::{Hash, Hasher};
 
 /// The messages of one origin and producer, in whose order sequence ids rise.
-#[derive(Debug, Drop)]
+#[derive(Drop)]
 pub struct Stream {
     pub origin: u32,
     pub producer: ProducerName,

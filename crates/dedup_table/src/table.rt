@@ -10,7 +10,7 @@ use std::alloc::Global;
 use std::marker::Model;
 
 /// What a table says of a sequence id.
-#[derive(Clone, Copy, Debug, Drop, PartialEq, Eq)]
+#[derive(Clone, Copy, Drop, PartialEq, Eq)]
 pub enum Verdict {
     /// It is above all of its stream.
     New,
@@ -20,7 +20,7 @@ pub enum Verdict {
 
 /// The highest sequence id of each stream, in the order in which the streams came first. `room` counts the streams that still
 /// find memory.
-#[derive(Debug, Drop)]
+#[derive(Drop)]
 pub struct DedupTable {
     highest: IndexMap<Stream, u64>,
     room: usize,

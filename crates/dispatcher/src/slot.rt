@@ -5,7 +5,7 @@ ghost use Rattle.dispatcher.specs.Slots.{emptiness, is_open, is_out, is_with_oth
 use cursor_acks::Cursor;
 
 /// An index, and the client that it is out with; none where it is out no more.
-#[derive(Clone, Copy, Debug, Drop)]
+#[derive(Clone, Copy, Drop)]
 pub(crate) struct Slot {
     pub(crate) index: u64,
     pub(crate) client: Option<u32>,

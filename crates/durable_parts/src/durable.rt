@@ -15,7 +15,7 @@ use std::alloc::Global;
 use topic_ledger::TopicLedger;
 
 /// What is durable of a subscription. `seeks` counts how often an operator reset the cursor.
-#[derive(Debug, Drop)]
+#[derive(Drop)]
 pub struct DurableSub {
     pub name: SubName,
     pub kind: SubKind,
@@ -81,7 +81,7 @@ fn copy_name(alloc: Global, name: &SubName) -> Result<SubName, Memory>
 }
 
 /// What one durable write changes of a subscription: kind and replication, the cursor, or the cursor with the count of seeks.
-#[derive(Debug, Drop)]
+#[derive(Drop)]
 pub(crate) enum SubPart {
     Kind { kind: SubKind, replicated: bool },
     Acks(Cursor),
@@ -89,7 +89,7 @@ pub(crate) enum SubPart {
 }
 
 /// What is durable of the replicator to a cluster: the number of its session, and what that cluster has acknowledged.
-#[derive(Debug, Drop)]
+#[derive(Drop)]
 pub struct DurableSender {
     pub session: u64,
     pub cursor: Cursor,
@@ -119,7 +119,7 @@ impl DurableSender {
 
 /// What is durable of a broker, which owns one topic at the cluster `own`: the entries and their ledgers, the subscriptions in
 /// order of creation, and the replicators by the number of the cluster that they send to, the own one unused.
-#[derive(Debug, Drop)]
+#[derive(Drop)]
 pub struct Durable {
     pub own: u32,
     pub store: TopicLedger,

@@ -10,7 +10,7 @@ use geo_base::{EntryStore, Memory};
 use std::alloc::Global;
 
 /// What a broker keeps in memory about the entries that its topic stores.
-#[derive(Debug, Drop)]
+#[derive(Drop)]
 pub struct Recovered {
     /// What the topic would refuse as a duplicate.
     pub dedup: DedupTable,

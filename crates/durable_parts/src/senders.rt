@@ -11,7 +11,7 @@ use std::marker::Model;
 
 /// Replicators by the number of the cluster that they send to, the own one unused. Contracts see the machine's senders, with
 /// nothing in memory.
-#[derive(Debug, Drop)]
+#[derive(Drop)]
 pub struct DurableSenders {
     senders: Vec<DurableSender>,
 }

@@ -15,7 +15,7 @@ use std::alloc::Global;
 use std::marker::Model;
 
 /// Subscriptions in order of creation, no two of one name. Contracts see the machine's subscriptions, with nothing in memory.
-#[derive(Debug, Drop)]
+#[derive(Drop)]
 pub struct DurableSubs {
     subs: Vec<DurableSub>,
 }

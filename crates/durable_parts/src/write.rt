@@ -4,7 +4,7 @@ use geo_base::{Entry, SubKind, SubName};
 
 /// One durable write. Those of cursors carry the whole cursor as it is then, as a managed ledger of Pulsar writes it; `Seek`
 /// carries the subscription's count of seeks too.
-#[derive(Debug, Drop)]
+#[derive(Drop)]
 pub enum Write {
     /// An entry is stored.
     Append(Entry),

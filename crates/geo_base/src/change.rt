@@ -5,7 +5,7 @@ use crate::snapshot::{Builder, CachedSnapshot};
 use crate::text::Text;
 
 /// One change in memory.
-#[derive(Debug, Drop)]
+#[derive(Drop)]
 pub enum Change {
     /// The session that is open on the forward link from a cluster.
     Receiver {

@@ -6,7 +6,7 @@ use crate::position::Position;
 use crate::text::Text;
 
 /// One line of a client, in the words of a script.
-#[derive(Debug, Drop)]
+#[derive(Drop)]
 pub enum Line {
     Produce,
     Pub {
@@ -41,7 +41,7 @@ pub enum Line {
 }
 
 /// A message that came to a client and that it has not acknowledged, with the position under which it came.
-#[derive(Debug, Drop)]
+#[derive(Drop)]
 pub struct Held {
     pub ident: Ident,
     pub position: Position,

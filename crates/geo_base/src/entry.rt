@@ -8,7 +8,7 @@ use crate::metadata::Metadata;
 use crate::name::ProducerName;
 
 /// What names an entry: the cluster that stored it first, its producer there, and the producer's sequence id for it.
-#[derive(Debug, Drop)]
+#[derive(Drop)]
 pub struct Ident {
     pub origin: u32,
     pub producer: ProducerName,
@@ -51,7 +51,7 @@ fn is_bit_set(mask: u8, bit: u32) -> bool
 }
 
 /// What an entry is: a message, a marker, or a marker of a type or a payload that has no reading.
-#[derive(Debug, Drop)]
+#[derive(Drop)]
 pub enum Content {
     Data,
     Marked(BoxedMarker),
@@ -59,7 +59,7 @@ pub enum Content {
 }
 
 /// An entry as a topic stores it. The payload of a marker is empty where it is the marker's one canonical text.
-#[derive(Debug, Drop)]
+#[derive(Drop)]
 pub struct Entry {
     pub ident: Ident,
     pub content: Content,

@@ -2,7 +2,7 @@
 use crate::position::Position;
 
 /// What becomes of a packet that is taken: acted on, taken without effect, or acted on two times in a row.
-#[derive(Clone, Copy, Debug, Drop, PartialEq, Eq)]
+#[derive(Clone, Copy, Drop, PartialEq, Eq)]
 pub enum Fate {
     Good,
     Lost,
@@ -11,7 +11,7 @@ pub enum Fate {
 
 /// One action at one node. The numbers are those of topics, clusters, clients and subscription names, from 0;
 /// `source` and `target` are the two ends of the forward link.
-#[derive(Clone, Copy, Debug, Drop, PartialEq, Eq)]
+#[derive(Clone, Copy, Drop, PartialEq, Eq)]
 pub enum Event {
     Go {
         client: u32,
@@ -74,7 +74,7 @@ pub enum Event {
 }
 
 /// One line of a schedule. `Halt(k, e)` stops the node after the first `k` durable writes of `e`.
-#[derive(Clone, Copy, Debug, Drop, PartialEq, Eq)]
+#[derive(Clone, Copy, Drop, PartialEq, Eq)]
 pub enum Step {
     Plain(Event),
     Halt(u32, Event),

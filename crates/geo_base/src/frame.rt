@@ -6,7 +6,7 @@ use crate::sequence::Sequence;
 use crate::text::Text;
 
 /// How the consumers of a subscription share its messages (subType of CommandSubscribe).
-#[derive(Clone, Copy, Debug, Drop, PartialEq, Eq)]
+#[derive(Clone, Copy, Drop, PartialEq, Eq)]
 pub enum SubKind {
     Exclusive,
     Shared,
@@ -15,14 +15,14 @@ pub enum SubKind {
 }
 
 /// What an acknowledgement covers: the positions that it names, or all up to the one that it names (ack_type of CommandAck).
-#[derive(Clone, Copy, Debug, Drop, PartialEq, Eq)]
+#[derive(Clone, Copy, Drop, PartialEq, Eq)]
 pub enum AckKind {
     Individual,
     Cumulative,
 }
 
 /// A command as a value. `id` is a producer's or a consumer's id, `request` a request id, `source` the entry's `replicated_from`.
-#[derive(Debug, Drop)]
+#[derive(Drop)]
 pub enum Frame {
     Connect,
     Connected,

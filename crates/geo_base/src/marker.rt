@@ -10,21 +10,21 @@ use std::boxed::Box;
 use std::marker::Model;
 
 /// What a cluster's name in a marker or in `replicated_from` means: a cluster by its number, or a name that no cluster has.
-#[derive(Debug, Drop)]
+#[derive(Drop)]
 pub enum Place {
     Known(u32),
     Stranger(Text),
 }
 
 /// A cluster and a position in its topic (ClusterMessageId).
-#[derive(Debug, Drop)]
+#[derive(Drop)]
 pub struct ClusterPosition {
     pub cluster: Place,
     pub position: Position,
 }
 
 /// What a marker says. `id` names a snapshot.
-#[derive(Debug, Drop)]
+#[derive(Drop)]
 pub enum Marker {
     Request {
         id: Text,
@@ -46,7 +46,7 @@ pub enum Marker {
 }
 
 /// A marker in memory of its own, so that a message, which has none, is not as large as one. It is the marker.
-#[derive(Debug, Drop)]
+#[derive(Drop)]
 pub struct BoxedMarker {
     marker: Box<Marker>,
 }

@@ -11,7 +11,7 @@ use std::boxed::Box;
 use std::marker::Model;
 
 /// What few messages have: the names of `replicate_to` as they stand, and the bytes of the fields that nobody reads.
-#[derive(Debug, Drop)]
+#[derive(Drop)]
 struct Others {
     names: Sequence<Text>,
     rest: Blob,
@@ -20,7 +20,6 @@ struct Others {
 /// The metadata that neither names an entry nor says what it is (MessageMetadata in PulsarApi.proto): when it was published, in
 /// milliseconds since 1970, its key, the names of `replicate_to` as they stand, and the bytes of the fields that nobody reads. The
 /// names and those bytes stand in memory of their own, and only where there are any: a message has neither.
-#[derive(Debug)]
 pub struct Metadata {
     publish_time: u64,
     key: Option<Text>,

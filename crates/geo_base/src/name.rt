@@ -24,7 +24,7 @@ pub enum NameFault {
 }
 
 /// A name: 1 to 16 bytes, each of `a` to `z`, `0` to `9` and `_` (own: the words of a script). `K` says of what.
-#[derive(Debug, Drop)]
+#[derive(Drop)]
 pub struct Name<K> {
     text: Text,
     of: PhantomData<K>,
@@ -43,19 +43,19 @@ impl<K> Model for Name<K> {
 }
 
 /// What a `ClusterName` names.
-#[derive(Debug, Drop)]
+#[derive(Drop)]
 pub struct Cluster;
 
 /// What a `TopicName` names.
-#[derive(Debug, Drop)]
+#[derive(Drop)]
 pub struct Topic;
 
 /// What a `SubName` names.
-#[derive(Debug, Drop)]
+#[derive(Drop)]
 pub struct Subscription;
 
 /// What a script's client names: its producer.
-#[derive(Debug, Drop)]
+#[derive(Drop)]
 pub struct Producer;
 
 /// The name of a cluster.
@@ -131,7 +131,7 @@ fn is_name_byte(byte: u8) -> bool
 }
 
 /// The name of a producer, which a client of Pulsar may choose freely: any text.
-#[derive(Debug, Drop)]
+#[derive(Drop)]
 pub struct ProducerName {
     text: Text,
 }

@@ -38,7 +38,7 @@ impl Stamp {
 }
 
 /// A frame with the session, or a client's connection, that it was sent in.
-#[derive(Debug, Drop)]
+#[derive(Drop)]
 pub struct Packet {
     pub session: u64,
     pub stamp: Stamp,
@@ -47,7 +47,7 @@ pub struct Packet {
 
 /// The other end of a link, as its node names it. At a broker `Forward(y)` is the link that it replicates to `y` on,
 /// with the back link that answers it, and `Back(x)` the link from `x`; at a client `Broker(x)` is the broker at `x`.
-#[derive(Clone, Copy, Debug, Drop, PartialEq, Eq)]
+#[derive(Clone, Copy, Drop, PartialEq, Eq)]
 pub enum Peer {
     Forward(u32),
     Back(u32),
@@ -56,7 +56,7 @@ pub enum Peer {
 }
 
 /// What a node sends in an event; the event gives it its stamp.
-#[derive(Debug, Drop)]
+#[derive(Drop)]
 pub struct Out {
     pub to: Peer,
     pub session: u64,
@@ -64,7 +64,7 @@ pub struct Out {
 }
 
 /// What a node sends in an event, as links carry it: the bytes of a frame.
-#[derive(Debug, Drop)]
+#[derive(Drop)]
 pub struct WireOut {
     pub to: Peer,
     pub session: u64,

@@ -1,7 +1,7 @@
 //! The parts of a replicator's sending side that code and definitions share.
 
 /// Whether the other side has opened the sender's session.
-#[derive(Clone, Copy, Debug, Drop, PartialEq, Eq)]
+#[derive(Clone, Copy, Drop, PartialEq, Eq)]
 pub enum SenderState {
     /// No session was begun since the broker started.
     Closed,
@@ -12,7 +12,7 @@ pub enum SenderState {
 }
 
 /// An entry that was sent and whose receipt is awaited: its number within the session, from 0, and its index.
-#[derive(Clone, Copy, Debug, Drop, PartialEq, Eq)]
+#[derive(Clone, Copy, Drop, PartialEq, Eq)]
 pub struct Pending {
     pub number: u64,
     pub index: u64,

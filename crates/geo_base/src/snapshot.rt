@@ -4,21 +4,21 @@ use crate::sequence::Sequence;
 use crate::text::Text;
 
 /// A position in the own topic, and one in the topic of each remote cluster, by the cluster's number.
-#[derive(Debug, Drop)]
+#[derive(Drop)]
 pub struct Cut {
     pub local: Position,
     pub remote: Sequence<Option<Position>>,
 }
 
 /// A snapshot in the cache of a subscription, with the index of its local position.
-#[derive(Debug, Drop)]
+#[derive(Drop)]
 pub struct CachedSnapshot {
     pub index: u64,
     pub cut: Cut,
 }
 
 /// A snapshot that is being made. `id` is that of its first round, `heard` are the clusters that answered in this round.
-#[derive(Debug, Drop)]
+#[derive(Drop)]
 pub struct Builder {
     pub id: Text,
     pub own: u32,
@@ -30,7 +30,7 @@ pub struct Builder {
 }
 
 /// What a response does to a builder: nothing, it is counted, a second round begins, the snapshot is made.
-#[derive(Clone, Copy, Debug, Drop, PartialEq, Eq)]
+#[derive(Clone, Copy, Drop, PartialEq, Eq)]
 pub enum Progress {
     Ignored,
     Kept,

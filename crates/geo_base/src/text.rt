@@ -13,7 +13,7 @@ const SHORT: usize = NAME_BYTES;
 /// A text in UTF-8, which contracts see as the list of its bytes. A short one takes no memory of its own: it stands in `short`, and
 /// `long` is empty; a long one stands in `long`. There are no two forms by cases, since a proof goes through the cases of all that is
 /// dropped.
-#[derive(Debug, Drop)]
+#[derive(Drop)]
 pub struct Text {
     short: ArrayString<SHORT>,
     long: String,

@@ -5,7 +5,7 @@ use crate::sequence::Sequence;
 use crate::text::Text;
 
 /// One durable write. `Acks` and `SenderAck` say which indexes a cursor gains, `Seek` that a cursor becomes all below an index.
-#[derive(Debug, Drop)]
+#[derive(Drop)]
 pub enum Write {
     Append(Entry),
     Create {

@@ -13,7 +13,7 @@ use std::marker::Model;
 
 /// A sink in memory, which takes a stated number of bytes at most in a call and fails at stated
 /// calls, and where it finds no memory. It always tells the bytes that it holds.
-#[derive(Debug, Drop)]
+#[derive(Drop)]
 pub struct MemSink {
     bytes: Vec<u8>,
     most: usize,

@@ -14,7 +14,7 @@ use std::marker::Model;
 
 /// A source in memory, which moves a stated number of bytes at most in a call and fails at stated
 /// calls. It always tells the bytes that it has left.
-#[derive(Debug, Drop)]
+#[derive(Drop)]
 pub struct MemSource {
     bytes: Vec<u8>,
     taken: usize,

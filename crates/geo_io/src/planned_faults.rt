@@ -7,7 +7,7 @@ use std::alloc::Global;
 use std::marker::Model;
 
 /// Which calls of a store in memory fail, and how many were made and failed so far. Both counts stop at `u64::MAX`.
-#[derive(Debug, Drop)]
+#[derive(Drop)]
 pub struct PlannedFaults {
     fails: Vec<u64>,
     calls: u64,

@@ -15,7 +15,7 @@ use std::marker::Model;
 /// A source over a reader of std, such as the standard input. It tells the bytes that it has left where
 /// the reader tells them, as one over memory does (`remaining` of `std::io::Read`), and counts each error
 /// of the reader, an interrupted call among them. The count stops at `u64::MAX`.
-#[derive(Debug, Drop)]
+#[derive(Drop)]
 pub struct StdSource<T: Read> {
     input: T,
     faults: u64,
@@ -78,7 +78,7 @@ impl<T: Read> Source for StdSource<T> {
 ///
 /// It does not flush: give it a writer without a buffer, since an error in what a buffer keeps
 /// until it is dropped is never seen here.
-#[derive(Debug, Drop)]
+#[derive(Drop)]
 pub struct StdSink<T: Write> {
     output: T,
     faults: u64,

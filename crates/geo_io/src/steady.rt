@@ -13,7 +13,7 @@ use crate::source::{Source, copy_front};
 use std::marker::Model;
 
 /// A source over a slice, which never fails. Contracts see the bytes that are left.
-#[derive(Debug, Drop)]
+#[derive(Drop)]
 pub struct SteadySource<'a> {
     left: &'a [u8],
 }
@@ -68,7 +68,7 @@ impl<'a> Source for SteadySource<'a> {
 
 /// A sink over a fixed buffer, which never fails: it takes every piece whole, and keeps the first
 /// bytes that fit. It tells its bytes while all of them fit.
-#[derive(Debug, Drop)]
+#[derive(Drop)]
 pub struct SteadySink<'a> {
     buffer: &'a mut [u8],
     filled: usize,

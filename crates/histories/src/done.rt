@@ -5,7 +5,7 @@ use std::marker::Model;
 use wire_ends::WirePacket;
 
 /// A packet that an event sent, and to which peer.
-#[derive(Debug, Drop)]
+#[derive(Drop)]
 pub struct Sent {
     pub to: Peer,
     pub packet: WirePacket,
@@ -21,7 +21,7 @@ impl Model for Sent {
 }
 
 /// An event of a node with the packet that it took, those that it sent, in order, and its stamp.
-#[derive(Debug, Drop)]
+#[derive(Drop)]
 pub struct Done {
     pub event: Event,
     pub taken: Option<WirePacket>,

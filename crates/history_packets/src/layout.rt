@@ -6,21 +6,21 @@ use geo_base::Peer;
 use std::marker::Model;
 
 /// The topic of a client, and the cluster that it is declared at.
-#[derive(Clone, Copy, Debug, Drop, PartialEq, Eq)]
+#[derive(Clone, Copy, Drop, PartialEq, Eq)]
 pub struct Home {
     pub topic: u32,
     pub cluster: u32,
 }
 
 /// The other end of what a node shares with a peer: the peer's number, and as what it knows the node.
-#[derive(Clone, Copy, Debug, Drop, PartialEq, Eq)]
+#[derive(Clone, Copy, Drop, PartialEq, Eq)]
 pub struct FarEnd {
     pub node: usize,
     pub peer: Peer,
 }
 
 /// How many clusters and brokers there are, and where clients are declared.
-#[derive(Debug, Drop)]
+#[derive(Drop)]
 pub struct Layout {
     clusters: u32,
     brokers: usize,

@@ -14,7 +14,7 @@ use std::alloc::Global;
 use wire_ends::WirePacket;
 
 /// The packets of a difference: the one that was sent, where one was, and the one that was taken.
-#[derive(Debug, Drop)]
+#[derive(Drop)]
 pub struct Packets {
     pub sent: Option<WirePacket>,
     pub taken: WirePacket,

@@ -11,7 +11,7 @@ use wire_ends::{End, PART_BYTES, PieceEnd, WirePacket};
 
 /// The packets that are not taken yet, in the order in which they were sent. A packet of several parts has come in pieces, which are
 /// gathered as it is sent: no event stands between its pieces, so that none of them is lost. One of a single part has come as it is.
-#[derive(Debug, Drop)]
+#[derive(Drop)]
 pub(crate) struct Link {
     end: PieceEnd,
 }

@@ -17,7 +17,7 @@ use wire_ends::WirePacket;
 
 /// All links between so many clusters. Those between brokers stand by the number of the broker that sends on the forward one
 /// and the other cluster, those of a client by client and cluster. Where a name is of no link, nothing is sent and nothing comes.
-#[derive(Debug, Drop)]
+#[derive(Drop)]
 pub struct Links {
     clusters: usize,
     forward: LinkTable,

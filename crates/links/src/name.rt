@@ -5,7 +5,7 @@ ghost use Rattle.links.specs.Names.{broker_sends_on, client_sends_on, sends_on};
 use geo_base::Peer;
 
 /// A node of the world: the broker of a topic at a cluster, or a client.
-#[derive(Clone, Copy, Debug, Drop, PartialEq, Eq)]
+#[derive(Clone, Copy, Drop, PartialEq, Eq)]
 pub enum Node {
     Broker { topic: u32, cluster: u32 },
     Client { client: u32 },
@@ -13,7 +13,7 @@ pub enum Node {
 
 /// A link by its ends. `Forward` carries what the broker of a topic at `source` replicates to the one at `target`, and `Back`
 /// what that one answers.
-#[derive(Clone, Copy, Debug, Drop, PartialEq, Eq)]
+#[derive(Clone, Copy, Drop, PartialEq, Eq)]
 pub enum LinkName {
     Forward {
         topic: u32,

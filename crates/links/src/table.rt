@@ -10,7 +10,7 @@ use std::marker::Model;
 use wire_ends::WirePacket;
 
 /// The links of one end.
-#[derive(Debug, Drop)]
+#[derive(Drop)]
 struct LinkRow {
     links: Vec<Link>,
 }
@@ -100,7 +100,7 @@ fn discard_links(links: &mut [Link])
 }
 
 /// A table of links.
-#[derive(Debug, Drop)]
+#[derive(Drop)]
 pub(crate) struct LinkTable {
     rows: Vec<LinkRow>,
 }

@@ -14,7 +14,7 @@ use pb_fields::message::{MessageFault, Row};
 use std::alloc::Global;
 
 /// What a marker is.
-#[derive(Clone, Copy, Debug, PartialEq, Eq)]
+#[derive(Clone, Copy, PartialEq, Eq)]
 pub enum MarkerKind {
     /// ReplicatedSubscriptionsSnapshotRequest, number 10.
     Request,

@@ -7,7 +7,7 @@ use crate::kind::MarkerKind;
 use geo_base::{Position, Sequence, Text};
 
 /// A cluster by its name, and a position in its topic (ClusterMessageId in PulsarMarkers.proto).
-#[derive(Debug, Drop)]
+#[derive(Drop)]
 pub struct ClusterMessageId {
     /// The cluster's name.
     pub cluster: Text,
@@ -19,7 +19,7 @@ pub struct ClusterMessageId {
 pub type ClusterMessageIds = Sequence<ClusterMessageId>;
 
 /// A marker of replicated subscriptions (PIP-33). Its fields have the names that PulsarMarkers.proto gives them.
-#[derive(Debug, Drop)]
+#[derive(Drop)]
 pub enum Marker {
     /// A cluster asks the others where they stand (ReplicatedSubscriptionsSnapshotRequest).
     Request {

@@ -15,7 +15,7 @@ const COMMON_BYTES: usize = 64;
 
 /// The fields of metadata that the table names, each where it stands, so that a stored message is written without a copy
 /// of it.
-#[derive(Clone, Copy, Debug)]
+#[derive(Clone, Copy)]
 pub struct KnownMeta<'a> {
     /// The name of the producer that published the message.
     pub producer: &'a str,

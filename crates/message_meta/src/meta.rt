@@ -13,7 +13,7 @@ pub type TextList = Sequence<Text>;
 
 /// The metadata of a message. `rest` holds no field that the table names: the others are kept in their order and
 /// written again (own).
-#[derive(Debug, Drop)]
+#[derive(Drop)]
 pub struct Meta {
     /// The name of the producer that published the message.
     pub producer: Text,

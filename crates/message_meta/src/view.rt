@@ -19,7 +19,7 @@ use pb_fields::{
 };
 
 /// Metadata of the usual form, each part where it stands.
-#[derive(Clone, Copy, Debug)]
+#[derive(Clone, Copy)]
 pub struct MetaView<'a> {
     /// The name of the producer that published the message.
     pub producer: &'a str,

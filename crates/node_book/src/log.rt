@@ -3,7 +3,7 @@ use geo_base::Stamp;
 use histories::Done;
 
 /// The events of a node in order, and the stamp of the last one, 0 before any.
-#[derive(Debug, Drop)]
+#[derive(Drop)]
 pub(crate) struct Log {
     pub history: Vec<Done>,
     pub clock: Stamp,

@@ -17,7 +17,7 @@ use wire_ends::{End, WirePacket};
 pub(crate) const STAMPS: u64 = 9_223_372_036_854_775_808;
 
 /// The packets of an event of a stamp, as the history keeps them, and their parcels.
-#[derive(Debug, Drop)]
+#[derive(Drop)]
 pub(crate) struct Packed {
     pub stamp: Stamp,
     pub sent: Vec<Sent>,

@@ -3,14 +3,14 @@ use broker::Broker;
 use client::Client;
 
 /// A client and its number.
-#[derive(Debug, Drop)]
+#[derive(Drop)]
 pub struct NumberedClient {
     pub number: u32,
     pub client: Client,
 }
 
 /// The state of a broker, or of a client.
-#[derive(Debug, Drop)]
+#[derive(Drop)]
 pub enum NodeState {
     Broker(Broker),
     Client(NumberedClient),

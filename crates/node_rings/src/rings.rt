@@ -15,14 +15,14 @@ use std::marker::Model;
 use wire_ends::PART_BYTES;
 
 /// Where the ends to a peer stand: the number of a node, and how it names the peer.
-#[derive(Clone, Copy, Debug, Drop, PartialEq, Eq)]
+#[derive(Clone, Copy, Drop, PartialEq, Eq)]
 struct Place {
     node: usize,
     peer: Peer,
 }
 
 /// A broker: its number among the nodes, its topic and its cluster.
-#[derive(Clone, Copy, Debug, Drop, PartialEq, Eq)]
+#[derive(Clone, Copy, Drop, PartialEq, Eq)]
 struct BrokerAt {
     node: usize,
     topic: u32,

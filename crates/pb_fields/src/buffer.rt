@@ -16,7 +16,7 @@ use std::marker::Model;
 const LONG_VARINTS: u64 = 0x80;
 
 /// Bytes, and room for more. Contracts see the bytes, and how many more find room.
-#[derive(Debug, Drop)]
+#[derive(Drop)]
 pub struct Buffer {
     bytes: Vec<u8>,
 }

@@ -31,7 +31,7 @@ pub trait Embedded {
 }
 
 /// What an embedded message holds is not looked at.
-#[derive(Clone, Copy, Debug)]
+#[derive(Clone, Copy)]
 pub struct Unread;
 
 impl Embedded for Unread {
@@ -171,7 +171,7 @@ fn last_content(fields: &[Field], number: u32) -> Option<&[u8]>
 }
 
 /// Each embedded message is of this table, and what it holds in turn is judged by `embedded`.
-#[derive(Clone, Copy, Debug)]
+#[derive(Clone, Copy)]
 pub struct OfTable<'a, E> {
     /// The fields of an embedded message.
     pub rows: &'a [Row],

@@ -12,7 +12,7 @@ use std::fmt;
 
 /// Why the bytes at a place are no field. A field is judged in this order: its tag as a varint, the tag's wire
 /// type, its number, its value; and in a value its length, as a varint, before its content.
-#[derive(Clone, Copy, Debug, PartialEq, Eq)]
+#[derive(Clone, Copy, PartialEq, Eq)]
 pub enum FieldFault {
     /// The bytes end within the tag, the value, the length or the content.
     Truncated,
@@ -39,7 +39,7 @@ impl FieldFault {
 }
 
 /// Why a field was not read.
-#[derive(Clone, Copy, Debug, PartialEq, Eq)]
+#[derive(Clone, Copy, PartialEq, Eq)]
 pub(crate) enum FieldError {
     Fault(FieldFault),
     /// No memory was left for the field's content.

@@ -12,7 +12,7 @@ use std::marker::Model;
 
 /// How a value stands in the bytes (Protocol Buffers encoding, "Message Structure"). The two types of groups,
 /// which are deprecated there, are not read.
-#[derive(Clone, Copy, Debug, PartialEq, Eq)]
+#[derive(Clone, Copy, PartialEq, Eq)]
 pub enum WireType {
     /// Groups of seven bits, number 0 in a tag.
     Varint,
@@ -52,7 +52,7 @@ impl WireType {
 }
 
 /// A value as it stands in the bytes. What it means is the message's affair.
-#[derive(Debug, Drop)]
+#[derive(Drop)]
 pub enum Value {
     /// A number in groups of seven bits.
     Varint(u64),
@@ -109,7 +109,7 @@ impl Value {
 }
 
 /// A field of a message. Its number is 1 to 536870911, as `FieldList` keeps it and `write_field` requires it.
-#[derive(Debug, Drop)]
+#[derive(Drop)]
 pub struct Field {
     /// What the message's table calls the field by, 1 to 536870911.
     pub number: u32,
@@ -121,7 +121,7 @@ pub struct Field {
 const COMMON_FIELDS: usize = 8;
 
 /// Fields in order, each with a number from 1 to 536870911.
-#[derive(Debug, Drop)]
+#[derive(Drop)]
 pub struct FieldList {
     pub(crate) fields: Vec<Field>,
 }

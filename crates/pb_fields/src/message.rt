@@ -22,7 +22,7 @@ use std::error::Error;
 use std::fmt;
 
 /// What the values of a field are.
-#[derive(Clone, Copy, Debug, PartialEq, Eq)]
+#[derive(Clone, Copy, PartialEq, Eq)]
 pub enum Form {
     /// A varint.
     Varint,
@@ -45,7 +45,7 @@ impl Form {
 }
 
 /// A field that a message has. A number stands in one row of a table at most: a later row of it is not looked at.
-#[derive(Clone, Copy, Debug, PartialEq, Eq)]
+#[derive(Clone, Copy, PartialEq, Eq)]
 pub struct Row {
     /// The field's number.
     pub number: u32,

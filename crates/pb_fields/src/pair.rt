@@ -10,7 +10,7 @@ use crate::field::WireType;
 use crate::read::{content_at, number_and_type, varint_at};
 
 /// A field with a varint, and a field with a length behind it. They take no memory.
-#[derive(Clone, Copy, Debug)]
+#[derive(Clone, Copy)]
 pub struct FieldPair<'a> {
     /// The number of the first field.
     pub first: u32,

@@ -105,7 +105,7 @@ fn front_id(bytes: &[u8]) -> Option<(Position, &[u8])>
 }
 
 /// An ACK, its positions where they stand.
-#[derive(Clone, Copy, Debug)]
+#[derive(Clone, Copy)]
 pub struct AckView<'a> {
     /// The number of the consumer.
     pub consumer_id: u64,

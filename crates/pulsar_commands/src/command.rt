@@ -11,7 +11,7 @@ pub type PositionList = Sequence<Position>;
 
 /// A command of the binary protocol, with the field names of PulsarApi.proto in lower case. Numbers are 64-bit varints
 /// as they came; a field that need not be there is an `Option` where its absence has no value.
-#[derive(Debug, Drop)]
+#[derive(Drop)]
 pub enum Command {
     Connect {
         client_version: Text,

@@ -25,7 +25,7 @@ use pb_fields::{Buffer, Field, front_varint, varint_field_size, write_head, writ
 use std::alloc::Global;
 
 /// The embedded messages of a command are ids.
-#[derive(Clone, Copy, Debug)]
+#[derive(Clone, Copy)]
 pub(crate) struct Ids;
 
 impl Embedded for Ids {

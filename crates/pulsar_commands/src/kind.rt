@@ -11,7 +11,7 @@ use crate::table::{
 use pb_fields::message::Row;
 
 /// The type of a command (BaseCommand.Type in PulsarApi.proto). Those of other numbers are refused (own).
-#[derive(Clone, Copy, Debug, Drop, PartialEq, Eq)]
+#[derive(Clone, Copy, Drop, PartialEq, Eq)]
 pub enum Kind {
     Connect,
     Connected,

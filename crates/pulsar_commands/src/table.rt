@@ -3,7 +3,7 @@
 use pb_fields::message::{Form, Row};
 
 /// A field that holds a value of an enumeration.
-#[derive(Clone, Copy, Debug, Drop)]
+#[derive(Clone, Copy, Drop)]
 pub(crate) struct Choice {
     /// The field's number.
     pub number: u32,

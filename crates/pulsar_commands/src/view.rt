@@ -26,7 +26,7 @@ use pb_fields::{Buffer, SHORT_HEAD, front_bytes, front_varint, varint_field_size
 const TYPE_BYTES: usize = 2;
 
 /// A command of the usual form, with the field names of PulsarApi.proto.
-#[derive(Clone, Copy, Debug)]
+#[derive(Clone, Copy)]
 pub enum CommandView {
     Send {
         producer_id: u64,

@@ -5,7 +5,7 @@ use message_meta::Meta;
 use pulsar_commands::Command;
 
 /// A frame: a command, and what it carries. SEND and MESSAGE carry a message, the others nothing (Pulsar binary protocol).
-#[derive(Debug, Drop)]
+#[derive(Drop)]
 pub struct Frame {
     /// The command.
     pub command: Command,
@@ -14,7 +14,7 @@ pub struct Frame {
 }
 
 /// A message in a frame.
-#[derive(Debug, Drop)]
+#[derive(Drop)]
 pub struct Body {
     /// Its metadata.
     pub meta: Meta,

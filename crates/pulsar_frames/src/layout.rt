@@ -14,7 +14,7 @@ const CHECKSUM: [u8; 2] = [0x0e, 0x01];
 pub(crate) const SIZE_BYTES: usize = 4;
 
 /// The parts of a frame.
-#[derive(Clone, Copy, Debug)]
+#[derive(Clone, Copy)]
 pub(crate) struct FrameParts<'a> {
     pub command: &'a [u8],
     /// What follows the command, if anything does.
@@ -22,7 +22,7 @@ pub(crate) struct FrameParts<'a> {
 }
 
 /// What follows the command in a payload frame.
-#[derive(Clone, Copy, Debug)]
+#[derive(Clone, Copy)]
 pub(crate) struct BodyParts<'a> {
     pub meta: &'a [u8],
     pub payload: &'a [u8],

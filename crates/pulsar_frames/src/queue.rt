@@ -8,7 +8,7 @@ use std::collections::VecDeque;
 use std::marker::Model;
 
 /// Items in order, which contracts see as a list.
-#[derive(Debug, Drop)]
+#[derive(Drop)]
 pub(crate) struct Queue<T> {
     items: VecDeque<T>,
 }

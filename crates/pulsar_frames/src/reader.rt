@@ -17,7 +17,7 @@ use std::marker::Model;
 /// What a stream of frames has come to, however it is cut into pieces. It keeps the frames that were read and not yet
 /// taken, and the bytes after the last whole frame, in a buffer that is filled at its end and cut at its front. No byte of
 /// a frame is read again once its sizes are known, until the frame is whole; no frame is parsed twice.
-#[derive(Debug, Drop)]
+#[derive(Drop)]
 pub struct FrameReader {
     alloc: Global,
     waiting: Queue<Frame>,

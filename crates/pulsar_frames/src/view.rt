@@ -15,7 +15,7 @@ use message_meta::{MetaView, usual_meta};
 use pulsar_commands::{CommandView, usual_command};
 
 /// A frame of the usual form, each part where it stands. It takes no memory.
-#[derive(Clone, Copy, Debug)]
+#[derive(Clone, Copy)]
 pub struct FrameView<'a> {
     /// The command.
     pub command: CommandView,
@@ -24,7 +24,7 @@ pub struct FrameView<'a> {
 }
 
 /// A message in a frame of the usual form.
-#[derive(Clone, Copy, Debug)]
+#[derive(Clone, Copy)]
 pub struct MessageView<'a> {
     /// Its metadata.
     pub meta: MetaView<'a>,

@@ -13,7 +13,7 @@ use std::marker::Model;
 
 /// Entries that await a receipt, ascending by number. One is found by binary search, and taking it out moves at most those on
 /// the shorter side of it. Contracts see beside them how many more find room.
-#[derive(Debug, Drop)]
+#[derive(Drop)]
 pub(crate) struct PendingTable {
     items: VecDeque<Pending>,
 }

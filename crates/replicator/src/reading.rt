@@ -9,7 +9,7 @@ use cursor_acks::Cursor;
 use geo_base::{Content, Entry, EntryStore, SenderState};
 
 /// What a sender does with the entry that it reads next.
-#[derive(Clone, Copy, Debug, Drop, PartialEq, Eq)]
+#[derive(Clone, Copy, Drop, PartialEq, Eq)]
 pub enum ReadOut {
     /// There is nothing to read, or the session is not open.
     Idle,

@@ -5,7 +5,7 @@ ghost use Rattle.replicator.specs.Taking.{open_after, taken};
 use std::marker::Model;
 
 /// What a packet's session makes of the packet.
-#[derive(Clone, Copy, Debug, Drop, PartialEq, Eq)]
+#[derive(Clone, Copy, Drop, PartialEq, Eq)]
 pub enum Taken {
     /// It opens its session, and any earlier one ends.
     Opened,
@@ -17,7 +17,7 @@ pub enum Taken {
 
 /// The number of the session that is open, or none: what comes in another one is discarded, so that nothing is stored out of
 /// order after a loss (own). Contracts see it as the machine has it.
-#[derive(Debug, Drop)]
+#[derive(Drop)]
 pub struct Receiver {
     session: Option<u64>,
 }

@@ -13,7 +13,7 @@ use std::marker::Model;
 /// over the topic is its owner's, who keeps it durably, as the session's number.
 ///
 /// Contracts see it as the machine has it, and beside it how many more entries may await a receipt without memory.
-#[derive(Debug, Drop)]
+#[derive(Drop)]
 pub struct Sender {
     own: u32,
     remote: u32,

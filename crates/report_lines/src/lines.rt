@@ -7,7 +7,7 @@ use geo_base::{Memory, SenderState, SubKind};
 use std::alloc::Global;
 
 /// What a subscription's line shows of it. `mark` is its mark-delete, `backlog` counts messages, `seeks` how often it was sought.
-#[derive(Clone, Copy, Debug, Drop)]
+#[derive(Clone, Copy, Drop)]
 pub struct SubShown {
     pub kind: SubKind,
     pub is_replicated: bool,
@@ -17,7 +17,7 @@ pub struct SubShown {
 }
 
 /// What a client has done of its lines, and what came: receipts, receipts of duplicates, errors.
-#[derive(Clone, Copy, Debug, Drop)]
+#[derive(Clone, Copy, Drop)]
 pub struct ClientCounts {
     pub done: usize,
     pub lines: usize,

@@ -35,7 +35,7 @@ const RECONNECTS_EACH: u32 = 1_000;
 const RESTARTS_EACH: u32 = 2_500;
 
 /// Kinds of event that are drawn.
-#[derive(Clone, Copy, Debug, Drop, PartialEq, Eq)]
+#[derive(Clone, Copy, Drop, PartialEq, Eq)]
 pub enum Row {
     Go,
     Serve,
@@ -68,7 +68,7 @@ fn row_at(weight: u32) -> Row
 }
 
 /// An ordered pair of clusters.
-#[derive(Clone, Copy, Debug, Drop, PartialEq, Eq)]
+#[derive(Clone, Copy, Drop, PartialEq, Eq)]
 pub(crate) struct Pair {
     pub(crate) source: u32,
     pub(crate) target: u32,

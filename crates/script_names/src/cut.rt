@@ -25,7 +25,7 @@ fn place_of(bytes: &[u8], byte: u8) -> Option<usize>
 }
 
 /// What is left of the parts between the separators of a text.
-#[derive(Debug, Drop)]
+#[derive(Drop)]
 pub struct Parts<'a> {
     rest: Option<&'a [u8]>,
     at: u8,

@@ -13,7 +13,7 @@ use std::alloc::Global;
 use std::marker::Model;
 
 /// The names of a list that are left.
-#[derive(Debug, Drop)]
+#[derive(Drop)]
 pub struct NameList<'a> {
     parts: Parts<'a>,
 }

@@ -10,7 +10,7 @@ use std::alloc::Global;
 use std::marker::Model;
 
 /// A word that has a name's bytes. It may be longer than a name.
-#[derive(Debug, Drop)]
+#[derive(Drop)]
 pub struct NameWord<'a> {
     text: &'a str,
 }

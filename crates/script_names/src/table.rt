@@ -14,7 +14,7 @@ use std::marker::Model;
 const FEW_NAMES: usize = 8;
 
 /// Names that stand in a text. Contracts see them as a list; a name is found without a walk.
-#[derive(Debug, Drop)]
+#[derive(Drop)]
 pub struct NameTable<'a> {
     names: IndexSet<&'a [u8]>,
 }

@@ -6,7 +6,7 @@ use crate::column::{Column, Menu, Role};
 use script_names::is_word;
 
 /// The kind of a client's line, by the words after `do C`.
-#[derive(Clone, Copy, Debug, Drop, PartialEq, Eq)]
+#[derive(Clone, Copy, Drop, PartialEq, Eq)]
 pub enum ActKind {
     /// `produce`
     Produce,

@@ -6,7 +6,7 @@ use crate::words::Words;
 use std::marker::Model;
 
 /// The words that are left, one of them perhaps moved to the front.
-#[derive(Debug, Drop)]
+#[derive(Drop)]
 pub struct Cells<'a> {
     front: Option<&'a [u8]>,
     words: Words<'a>,

@@ -1,7 +1,7 @@
 //! The columns of a row: what may stand at each place of a line.
 
 /// A choice among words.
-#[derive(Clone, Copy, Debug, Drop, PartialEq, Eq)]
+#[derive(Clone, Copy, Drop, PartialEq, Eq)]
 pub enum Menu {
     /// the version of a script: `1`
     Version,
@@ -16,7 +16,7 @@ pub enum Menu {
 }
 
 /// What a client's line makes of its client: a producer does not move.
-#[derive(Clone, Copy, Debug, Drop, PartialEq, Eq)]
+#[derive(Clone, Copy, Drop, PartialEq, Eq)]
 pub enum Role {
     Plain,
     Producer,
@@ -24,7 +24,7 @@ pub enum Role {
 }
 
 /// What stands at one place of a line.
-#[derive(Clone, Copy, Debug, Drop, PartialEq, Eq)]
+#[derive(Clone, Copy, Drop, PartialEq, Eq)]
 pub enum Column {
     /// a declared topic; the line is about it
     Topic,

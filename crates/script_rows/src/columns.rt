@@ -7,7 +7,7 @@ use crate::kind::Kind;
 use std::marker::Model;
 
 /// The columns that are left, one of them perhaps put before the others.
-#[derive(Debug, Drop)]
+#[derive(Drop)]
 pub(crate) struct Columns {
     front: Option<Column>,
     rest: &'static [Column],

@@ -6,7 +6,7 @@ use crate::column::{Column, Menu};
 use script_names::is_word;
 
 /// The kind of an event.
-#[derive(Clone, Copy, Debug, Drop, PartialEq, Eq)]
+#[derive(Clone, Copy, Drop, PartialEq, Eq)]
 pub enum EventKind {
     /// `go C`
     Go,

@@ -6,7 +6,7 @@ use geo_base::Memory;
 use std::alloc::AllocFailed;
 
 /// A rule that a line may break; `number` gives the number under which a refusal names it.
-#[derive(Clone, Copy, Debug, Drop, PartialEq, Eq)]
+#[derive(Clone, Copy, Drop, PartialEq, Eq)]
 pub enum Rule {
     /// Each byte is printable, and a line feed ends the line.
     Bytes,
@@ -78,7 +78,7 @@ impl Rule {
 }
 
 /// Why a line is not taken in.
-#[derive(Clone, Copy, Debug, Drop, PartialEq, Eq)]
+#[derive(Clone, Copy, Drop, PartialEq, Eq)]
 pub enum LineFault {
     Broken(Rule),
     Memory,

@@ -16,7 +16,7 @@ use script_names::is_word;
 const IS_HALT_BUILT: bool = true;
 
 /// What the first words of a line are.
-#[derive(Debug, Drop)]
+#[derive(Drop)]
 pub enum Heading<'a> {
     /// words of no row that is read
     Unknown,

@@ -9,7 +9,7 @@ use crate::line_kind::LineKind;
 use crate::progress::Stage;
 
 /// The kind of a line.
-#[derive(Clone, Copy, Debug, Drop, PartialEq, Eq)]
+#[derive(Clone, Copy, Drop, PartialEq, Eq)]
 pub enum Kind {
     /// a line of declarations, `settle` or `stop`
     Other(LineKind),

@@ -11,7 +11,7 @@ use std::alloc::Global;
 use std::marker::Model;
 
 /// What is known of a client: the number of its topic, and whether it has a `produce` or a `move` line.
-#[derive(Clone, Copy, Debug, Drop, PartialEq, Eq)]
+#[derive(Clone, Copy, Drop, PartialEq, Eq)]
 pub struct Member {
     pub topic: u32,
     pub produces: bool,
@@ -19,7 +19,7 @@ pub struct Member {
 }
 
 /// What the lines so far declare by name. The subscriptions are those of each topic.
-#[derive(Debug, Drop)]
+#[derive(Drop)]
 pub struct Names<'a> {
     clusters: NameTable<'a>,
     topics: NameTable<'a>,

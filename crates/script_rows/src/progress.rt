@@ -8,7 +8,7 @@ use crate::kind::Kind;
 use crate::line_kind::LineKind;
 
 /// The parts of a script, which come in this order.
-#[derive(Clone, Copy, Debug, Drop, PartialEq, Eq)]
+#[derive(Clone, Copy, Drop, PartialEq, Eq)]
 pub enum Stage {
     Geo,
     /// `ledger` and `chance`
@@ -38,7 +38,7 @@ impl Stage {
 }
 
 /// Which kinds of line came: the part of the last one, and whether those came that come once.
-#[derive(Clone, Copy, Debug, Drop, PartialEq, Eq)]
+#[derive(Clone, Copy, Drop, PartialEq, Eq)]
 pub struct Progress {
     pub begun: bool,
     pub last: Stage,

@@ -9,7 +9,7 @@ use std::marker::Model;
 pub(crate) const COLUMNS: usize = 5;
 
 /// What the words of a line say in its columns, one value a word.
-#[derive(Debug, Drop)]
+#[derive(Drop)]
 pub struct Row<'a> {
     values: ArrayVec<Value<'a>, COLUMNS>,
 }

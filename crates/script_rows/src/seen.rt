@@ -15,7 +15,7 @@ use std::marker::Model;
 pub(crate) const THOUSAND: u32 = 1_000;
 
 /// What the words before in a line named: the number of its topic, a cluster, and how many packets of a thousand are lost.
-#[derive(Debug, Drop)]
+#[derive(Drop)]
 pub(crate) struct Seen<'a> {
     topic: u32,
     cluster: &'a [u8],

@@ -6,7 +6,7 @@ use script_names::NameWord;
 use std::marker::Model;
 
 /// A text of a line.
-#[derive(Debug, Drop)]
+#[derive(Drop)]
 pub struct TextWord<'a> {
     text: &'a [u8],
 }
@@ -36,7 +36,7 @@ impl<'a> TextWord<'a> {
 }
 
 /// What a word says in its column.
-#[derive(Debug, Drop)]
+#[derive(Drop)]
 pub enum Value<'a> {
     /// the number of something declared, a choice, or a number
     Item(u32),

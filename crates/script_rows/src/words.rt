@@ -6,7 +6,7 @@ use script_names::cut_at;
 use std::marker::Model;
 
 /// The words that are left, each between spaces.
-#[derive(Debug, Drop)]
+#[derive(Drop)]
 pub(crate) struct LineWords<'a> {
     rest: Option<&'a [u8]>,
 }
@@ -65,7 +65,7 @@ impl<'a> LineWords<'a> {
 }
 
 /// The words of a line that are left, of which the last may be all that is left.
-#[derive(Debug, Drop)]
+#[derive(Drop)]
 pub(crate) struct Words<'a> {
     words: LineWords<'a>,
     /// How many words there are at most.

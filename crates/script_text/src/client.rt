@@ -9,7 +9,7 @@ use std::marker::Model;
 
 /// A client of a script: its name, which is its producer's, the topic that it works on, the cluster that it is at
 /// first, and its lines.
-#[derive(Debug, Drop)]
+#[derive(Drop)]
 pub struct ClientDecl {
     name: ProducerName,
     topic: u32,

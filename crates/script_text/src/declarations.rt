@@ -15,7 +15,7 @@ use std::alloc::Global;
 use std::marker::Model;
 
 /// What the lines before the first event declare, with the names of the subscriptions in the order of their numbers.
-#[derive(Debug, Drop)]
+#[derive(Drop)]
 pub(crate) struct Declarations {
     progress: Progress,
     chance: Option<Chance>,

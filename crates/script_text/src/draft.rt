@@ -24,7 +24,7 @@ use std::marker::Model;
 use std::mem;
 
 /// What the lines so far declare, and their names in tables.
-#[derive(Debug, Drop)]
+#[derive(Drop)]
 pub(crate) struct Draft<'a> {
     names: Names<'a>,
     progress: Progress,

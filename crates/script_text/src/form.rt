@@ -8,7 +8,7 @@ use std::marker::Model;
 
 /// A step in 16 bytes, the small fields first. What does not fit, a seek or a stop in the midst of an event, stands apart, and
 /// its form is its place there.
-#[derive(Clone, Copy, Debug, Drop)]
+#[derive(Clone, Copy, Drop)]
 pub(crate) enum Form {
     Go(u32),
     Get(u32),
@@ -78,7 +78,7 @@ impl Form {
 }
 
 /// A step whose form is all of it.
-#[derive(Debug, Drop)]
+#[derive(Drop)]
 pub(crate) struct Short {
     form: Form,
 }

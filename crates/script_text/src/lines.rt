@@ -10,7 +10,7 @@ use memchr::memchr;
 use std::marker::Model;
 
 /// A line of a script.
-#[derive(Debug, Drop)]
+#[derive(Drop)]
 pub(crate) struct TextLine<'a> {
     bytes: &'a [u8],
     ended: bool,
@@ -71,7 +71,7 @@ fn is_printable_byte(byte: u8) -> bool
 }
 
 /// The lines of a script that are left.
-#[derive(Debug, Drop)]
+#[derive(Drop)]
 pub(crate) struct Lines<'a> {
     rest: &'a [u8],
 }

@@ -21,7 +21,7 @@ const PLACE_SHIFT: u32 = 52;
 const SPREAD: u64 = 0x9e37_79b9_7f4a_7c15;
 
 /// A line without its line feed, and the step that it schedules; none where no line was noted.
-#[derive(Debug, Drop)]
+#[derive(Drop)]
 struct Place<'a> {
     line: &'a [u8],
     step: Option<Short>,
@@ -49,7 +49,7 @@ impl<'a> Place<'a> {
 }
 
 /// The lines that were read last.
-#[derive(Debug, Drop)]
+#[derive(Drop)]
 pub(crate) struct Recent<'a> {
     places: Vec<Place<'a>>,
 }

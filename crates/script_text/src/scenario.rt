@@ -23,7 +23,7 @@ use std::marker::Model;
 
 /// What a scenario that no text said is made of: how many entries a ledger takes, clusters, topics and clients, each
 /// numbered from 0 in its order, and the schedule. Contracts see it as a script without chances and without lines.
-#[derive(Debug, Drop)]
+#[derive(Drop)]
 pub struct ScenarioParts {
     pub per_ledger: u64,
     pub clusters: Sequence<ClusterName>,
@@ -42,7 +42,7 @@ impl Model for ScenarioParts {
 
 /// An accepted script, or what one could declare and schedule: clusters, topics and clients, each numbered from 0 in the script's order, and the schedule.
 /// Contracts see it as the definition's script.
-#[derive(Debug, Drop)]
+#[derive(Drop)]
 pub struct Scenario {
     declared: Declarations,
     steps: Steps,

@@ -7,7 +7,7 @@ use geo_base::{ClusterName, Sequence, TopicName};
 use std::marker::Model;
 
 /// Entries of a ledger, clusters, topics and clients, each numbered from 0 in its order.
-#[derive(Debug, Drop)]
+#[derive(Drop)]
 pub(crate) struct SetupParts {
     per_ledger: u64,
     clusters: Sequence<ClusterName>,

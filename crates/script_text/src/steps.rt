@@ -20,7 +20,7 @@ use std::alloc::Global;
 use std::marker::Model;
 
 /// Steps in the order of their lines, and the number of the first one's line.
-#[derive(Debug, Drop)]
+#[derive(Drop)]
 pub(crate) struct Steps {
     first: Option<u64>,
     list: StepList,

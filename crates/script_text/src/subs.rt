@@ -11,7 +11,7 @@ use std::alloc::Global;
 use std::marker::Model;
 
 /// The names of a topic's subscriptions, each once.
-#[derive(Debug, Drop)]
+#[derive(Drop)]
 pub(crate) struct SubNames {
     names: Sequence<SubName>,
 }

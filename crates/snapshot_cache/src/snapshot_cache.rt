@@ -14,7 +14,7 @@ use std::marker::Model;
 pub const MOST_SNAPSHOTS: usize = 10;
 
 /// Snapshots, oldest first, at most ten, each with the index of its local position. Contracts see their list.
-#[derive(Debug, Drop)]
+#[derive(Drop)]
 pub struct SnapshotCache {
     items: VecDeque<CachedSnapshot>,
 }

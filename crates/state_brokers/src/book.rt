@@ -12,7 +12,7 @@ use std::alloc::Global;
 use std::marker::Model;
 
 /// Entries of the topic of the cluster `own`, each of which was in turn. `last` is the sequence id of its last own marker.
-#[derive(Debug, Drop)]
+#[derive(Drop)]
 pub(crate) struct EntryBook {
     own: u32,
     entries: Vec<Entry>,

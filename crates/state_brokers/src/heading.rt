@@ -16,7 +16,7 @@ use state_items::{ItemFault, Rule};
 use std::alloc::Global;
 
 /// Metadata, and the cluster that stored the message first.
-#[derive(Debug, Drop)]
+#[derive(Drop)]
 pub(crate) struct Heading {
     pub(crate) meta: Meta,
     pub(crate) origin: u32,

@@ -17,7 +17,7 @@ use std::alloc::Global;
 
 /// The lengths of a broker's ledgers, their entries, its subscriptions in order of creation, and its replicators by the number of the
 /// cluster that they send to, the own one unused.
-#[derive(Debug, Drop)]
+#[derive(Drop)]
 pub struct NodeParts {
     pub ledgers: Vec<u64>,
     pub entries: Vec<Entry>,
@@ -52,7 +52,7 @@ pub fn node_at<'a>(
 }
 
 /// The lengths of ledgers, and their entries.
-#[derive(Debug, Drop)]
+#[derive(Drop)]
 struct LedgerParts {
     ledgers: Vec<u64>,
     entries: Vec<Entry>,

@@ -11,7 +11,7 @@ use std::collections::BTreeMap;
 use std::marker::Model;
 
 /// A tier in memory, which fails at stated calls, and where it finds no memory for what is put.
-#[derive(Debug, Drop)]
+#[derive(Drop)]
 pub struct MemTier {
     alloc: Global,
     kept: BTreeMap<u64, Blob>,

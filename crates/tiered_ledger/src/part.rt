@@ -2,14 +2,14 @@
 use geo_base::{Entry, Sequence};
 
 /// A ledger of a topic: its entries, or nothing but that the tier has them.
-#[derive(Debug, Drop)]
+#[derive(Drop)]
 pub enum Part {
     Here(Sequence<Entry>),
     Away,
 }
 
 /// A ledger as it was read from the tier.
-#[derive(Debug, Drop)]
+#[derive(Drop)]
 pub struct Recalled {
     pub ledger: u64,
     pub entries: Sequence<Entry>,

@@ -9,7 +9,7 @@ use std::alloc::Global;
 use std::marker::Model;
 
 /// A topic's entries, the first index of each of its ledgers, and how many messages there are up to each entry.
-#[derive(Debug, Drop)]
+#[derive(Drop)]
 pub struct TopicLedger {
     entries: Vec<Entry>,
     firsts: Vec<u64>,

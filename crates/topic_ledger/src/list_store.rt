@@ -10,7 +10,7 @@ use std::marker::Model;
 
 /// A topic's entries and its ledgers' lengths, searched from the first on. `TopicLedger` answers the same, faster; this one is for
 /// tests and small topics.
-#[derive(Debug, Drop)]
+#[derive(Drop)]
 pub struct ListStore {
     entries: Vec<Entry>,
     ledgers: Vec<u64>,

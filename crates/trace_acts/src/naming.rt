@@ -5,7 +5,7 @@ use geo_base::ClusterName;
 use std::marker::Model;
 
 /// A topic at a cluster by their names, with the names of all clusters by their numbers.
-#[derive(Debug, Drop)]
+#[derive(Drop)]
 pub struct Naming<'a> {
     clusters: &'a [ClusterName],
     topic: &'a str,

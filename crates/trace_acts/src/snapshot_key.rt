@@ -15,7 +15,7 @@ use std::marker::Model;
 
 /// Whose snapshot it is, which positions it names for each cluster, and how many in all, as numbers: the same for two markers exactly
 /// where an update that names what one of them names tells the other as well.
-#[derive(Debug, Drop)]
+#[derive(Drop)]
 pub(crate) struct SnapshotKey {
     numbers: Vec<u64>,
 }

@@ -14,7 +14,7 @@ use std::marker::Model;
 use topic_ledger::or_first;
 
 /// A snapshot by its local position and its index in the topic.
-#[derive(Debug, Drop)]
+#[derive(Drop)]
 pub(crate) struct SnapshotAt {
     local: Position,
     index: usize,
@@ -30,7 +30,7 @@ impl Model for SnapshotAt {
 
 /// Of the snapshot markers among the first `seen` entries of a topic, for each key the one with the least local position, and the first
 /// of these. So an update's snapshot is told by one look-up, and each entry is seen once, however many updates there are.
-#[derive(Debug, Drop)]
+#[derive(Drop)]
 pub(crate) struct SnapshotTable {
     least: IndexMap<SnapshotKey, SnapshotAt>,
     seen: usize,

@@ -9,7 +9,7 @@ use std::alloc::Global;
 use std::marker::Model;
 
 /// What is known of the snapshots in the topic of each broker, by the broker's number among all.
-#[derive(Debug, Drop)]
+#[derive(Drop)]
 pub struct SnapshotTables {
     tables: Vec<SnapshotTable>,
 }

@@ -3,7 +3,7 @@ use crate::ranges::AckedRanges;
 use geo_base::{Blob, Cause, ClusterPosition, Content, Entry, Position, Sequence, Text};
 
 /// What was written of a topic at a cluster. The indexes of an acknowledgement are ranges, which may be long.
-#[derive(Debug, Drop)]
+#[derive(Drop)]
 pub enum Written {
     Appends {
         position: Position,
@@ -29,7 +29,7 @@ pub enum Written {
 }
 
 /// One line: an event begins, or something was written of a topic at a cluster.
-#[derive(Debug, Drop)]
+#[derive(Drop)]
 pub enum Line {
     Begins(u64),
     Writes {
@@ -40,7 +40,7 @@ pub enum Line {
 }
 
 /// What an entry is, and behind an update of its own cluster the position of the snapshot that it tells.
-#[derive(Debug, Drop)]
+#[derive(Drop)]
 pub(crate) struct What {
     pub(crate) content: Content,
     pub(crate) key: Option<Text>,
@@ -49,7 +49,7 @@ pub(crate) struct What {
 }
 
 /// The positions that an update of the own cluster names, and that of the snapshot that it tells.
-#[derive(Debug, Drop)]
+#[derive(Drop)]
 pub(crate) struct ToldPositions {
     pub(crate) remote: Sequence<ClusterPosition>,
     pub(crate) by: Position,

@@ -16,7 +16,7 @@ use std::alloc::Global;
 use std::marker::Model;
 
 /// The names that a script declares, in tables.
-#[derive(Debug, Drop)]
+#[derive(Drop)]
 pub struct Names<'a> {
     names: &'a [ClusterName],
     clusters: NameTable<'a>,

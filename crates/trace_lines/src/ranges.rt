@@ -9,7 +9,7 @@ use std::alloc::Global;
 use std::marker::Model;
 
 /// Ranges of indexes that ascend, with a gap between each two.
-#[derive(Debug, Drop)]
+#[derive(Drop)]
 pub struct AckedRanges {
     ranges: Vec<IndexRange>,
 }

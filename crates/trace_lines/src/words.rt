@@ -6,7 +6,7 @@ use script_names::cut_at;
 use std::marker::Model;
 
 /// The words of a line that are left: they stand between spaces, and two spaces in a row have an empty word between them.
-#[derive(Debug, Drop)]
+#[derive(Drop)]
 pub(crate) struct LineWords<'a> {
     rest: Option<&'a [u8]>,
 }

@@ -8,7 +8,7 @@ use trace_acts::{SnapshotTables, Telling};
 
 /// The lines so far with what is known of snapshots, and a plan, in which events are foreseen one after another: its queues keep their
 /// memory.
-#[derive(Debug, Drop)]
+#[derive(Drop)]
 pub struct Trace {
     pub(crate) telling: Telling,
     pub(crate) plan: Plan,

@@ -14,7 +14,7 @@ use std::marker::Model;
 
 /// A packet that is cut into parts, and the number of places that it takes where it is sent. Its first part is the frame itself
 /// where that is short enough: no byte is copied then.
-#[derive(Debug, Drop)]
+#[derive(Drop)]
 pub struct Parcel {
     session: u64,
     stamp: Stamp,
@@ -181,7 +181,7 @@ fn parts(alloc: Global, bytes: &[u8], most: usize) -> Result<VecDeque<Blob>, Mem
 }
 
 /// The pieces of a parcel that are left, in order.
-#[derive(Debug, Drop)]
+#[derive(Drop)]
 pub struct Pieces {
     head: Option<Piece>,
     first: Option<Blob>,

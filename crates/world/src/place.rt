@@ -11,7 +11,7 @@ use links::{LinkName, Node};
 use script_text::Scenario;
 
 /// The broker of a topic at a cluster, and the link that its event takes from, if it takes from one.
-#[derive(Clone, Copy, Debug, Drop)]
+#[derive(Clone, Copy, Drop)]
 pub struct Place {
     pub topic: u32,
     pub cluster: u32,

@@ -10,7 +10,7 @@ use std::alloc::Global;
 
 /// The reset of every link, and one round: for each ordered pair of clusters of each topic, by topic, source and target, a take, a
 /// receipt and a read.
-#[derive(Debug, Drop)]
+#[derive(Drop)]
 pub struct SettlingEvents {
     pub resets: Sequence<Event>,
     pub round: Sequence<Event>,

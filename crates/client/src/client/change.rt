@@ -2,7 +2,7 @@
 use geo_base::{Ident, Position};
 
 /// What an event changes at a client. All but the last do its next line.
-#[derive(Debug, Drop)]
+#[derive(Drop)]
 pub enum ClientChange {
     /// The line is done, and nothing else changes.
     Passes,

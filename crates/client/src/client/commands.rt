@@ -25,7 +25,7 @@ use pulsar_frames::{MessageView, write_usual_message};
 use std::alloc::Global;
 
 /// What a `pub` line says, where it stands.
-#[derive(Clone, Copy, Debug)]
+#[derive(Clone, Copy)]
 pub struct PubLine<'a> {
     seq: u64,
     to: Targets,

@@ -9,7 +9,7 @@ use std::alloc::Global;
 use std::marker::Model;
 
 /// What a client sends, which has a text.
-#[derive(Debug, Drop)]
+#[derive(Drop)]
 pub struct ClientOut {
     out: Out,
 }
@@ -40,7 +40,7 @@ impl ClientOut {
 }
 
 /// A connection of a client: the cluster that it leads to, and its number, from 1.
-#[derive(Clone, Copy, Debug, Drop, PartialEq, Eq)]
+#[derive(Clone, Copy, Drop, PartialEq, Eq)]
 pub struct Connection {
     pub cluster: u32,
     pub number: u64,

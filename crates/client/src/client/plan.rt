@@ -8,7 +8,7 @@ use std::alloc::Global;
 use std::marker::Model;
 
 /// What the client changes, nothing where the event is idle, and what it sends.
-#[derive(Debug, Drop)]
+#[derive(Drop)]
 pub struct Plan {
     pub(super) change: Option<ClientChange>,
     pub(super) sent: Vec<ClientOut>,

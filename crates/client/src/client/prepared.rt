@@ -11,7 +11,7 @@ use std::collections::VecDeque;
 use std::marker::Model;
 
 /// What the client changes, nothing where the event is idle, and the packets that it sends, in order.
-#[derive(Debug, Drop)]
+#[derive(Drop)]
 pub struct Prepared {
     change: Option<ClientChange>,
     sent: Vec<WireOut>,

@@ -11,7 +11,7 @@ use std::alloc::Global;
 /// A client as a report and a state file read it: the cluster that it is at, the number of its connection and whether it has
 /// it, how many lines are done, the indexes of the lines in force, those of the publishes that wait for their receipts, what it
 /// holds, its counts, and the identities of all messages that came, in order of receipt.
-#[derive(Clone, Copy, Debug, Drop)]
+#[derive(Clone, Copy, Drop)]
 pub struct ClientView<'a> {
     pub cluster: u32,
     pub connection: u64,
@@ -29,7 +29,7 @@ pub struct ClientView<'a> {
 }
 
 /// What a stop leaves of a client: all but its connection and what it holds. The fields are those of a view.
-#[derive(Debug, Drop)]
+#[derive(Drop)]
 pub struct ClientState {
     pub cluster: u32,
     pub connection: u64,

@@ -9,7 +9,7 @@ use std::collections::BTreeSet;
 use std::marker::Model;
 
 /// A slot under two numbers; keys are ordered by these, and then by the slot.
-#[derive(Clone, Copy, Debug, Drop, PartialEq, Eq, PartialOrd, Ord)]
+#[derive(Clone, Copy, Drop, PartialEq, Eq, PartialOrd, Ord)]
 pub(super) struct SlotKey {
     pub major: u64,
     pub minor: u64,
@@ -17,7 +17,7 @@ pub(super) struct SlotKey {
 }
 
 /// Keys, each once. All calls but `clear` take time logarithmic in their number.
-#[derive(Debug, Drop)]
+#[derive(Drop)]
 pub(super) struct SlotIndex {
     keys: BTreeSet<SlotKey>,
 }

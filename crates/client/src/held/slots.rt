@@ -19,7 +19,7 @@ const RECENT: usize = 64;
 
 /// The messages in the slots in which they came, how many there are, where the first one stands, how many slots are indexed, and
 /// an index of these by identity and one by position.
-#[derive(Debug, Drop)]
+#[derive(Drop)]
 pub(super) struct HeldSlots {
     slots: Vec<Option<Held>>,
     count: usize,

@@ -8,7 +8,7 @@ use geo_base::{Blob, Memory};
 use std::alloc::Global;
 
 /// How the program is to end, and what goes out.
-#[derive(Debug, Drop)]
+#[derive(Drop)]
 pub struct Answer {
     pub status: Status,
     pub bytes: Blob,

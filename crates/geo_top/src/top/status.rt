@@ -3,7 +3,7 @@ ghost use Rattle.std.specs.Prelude.{◌≡◌};
 ghost use Rattle.geo_top.specs.Statuses.{status_number};
 
 /// How the program ends: with its output, or with a refusal.
-#[derive(Clone, Copy, Debug, Drop, PartialEq, Eq)]
+#[derive(Clone, Copy, Drop, PartialEq, Eq)]
 pub enum Status {
     /// The whole output went out.
     Ok,

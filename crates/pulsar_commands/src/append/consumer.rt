@@ -61,7 +61,7 @@ pub(super) fn append_of_consumer(out: &mut Blob, command: &Command) -> Result<()
 }
 
 /// The parts of a SUBSCRIBE, where they stand.
-#[derive(Clone, Copy, Debug)]
+#[derive(Clone, Copy)]
 struct Subscribe<'a> {
     topic: &'a Text,
     subscription: &'a Text,
