@@ -89,6 +89,7 @@ const ROWS: [(usize, Event); 14] = [
 fn a_run_is_that_of_its_number(rt: HostRuntime) -> Result<(), Fail> {
     let run = generate(rt.alloc(), NUMBER)?;
     have_rows(&rt, &run.steps);
+    drop(run);
     Ok(())
 }
 
