@@ -56,6 +56,13 @@ fn position(entry: u64) -> Position {
     Position { ledger: 0, entry }
 }
 
+fn forget(alloc: Global, held: &mut HeldTable, seq: u64) -> Result<(), Memory> {
+    let ident = ident(alloc, seq)?;
+    held.forget(&ident);
+    drop(ident);
+    Ok(())
+}
+
 /// A call is done.
 fn calls(alloc: Global, held: &mut HeldTable, call: Call) -> Result<(), Memory> {
     match call {
@@ -63,7 +70,7 @@ fn calls(alloc: Global, held: &mut HeldTable, call: Call) -> Result<(), Memory> 
             ident: ident(alloc, seq)?,
             position: position(entry),
         })?,
-        Forget(seq) => held.forget(&ident(alloc, seq)?),
+        Forget(seq) => forget(alloc, held, seq)?,
         ForgetFirst(most) => held.forget_first(most),
         ForgetTo(entry) => held.forget_to(position(entry)),
         Clear => held.clear(),
@@ -74,24 +81,32 @@ fn calls(alloc: Global, held: &mut HeldTable, call: Call) -> Result<(), Memory> 
 /// Whether these entries are held, in this order.
 fn holds(alloc: Global, held: &HeldTable, entries: &[u64]) -> Result<bool, Memory> {
     let positions = held.positions(alloc, usize::MAX)?;
-    let positions = positions.as_slice();
-    if positions.len() != entries.len() || held.len() != entries.len() {
-        return Ok(false);
-    }
-    Ok(
-        positions
+    let are_same = are_of(positions.as_slice(), entries);
+    drop(positions);
+    Ok(are_same && held.len() == entries.len())
+}
+
+/// Whether positions are those of these entries.
+fn are_of(positions: &[Position], entries: &[u64]) -> bool {
+    positions.len() == entries.len()
+        && positions
             .iter()
             .zip(entries.iter())
-            .all(|(found, entry)| *found == position(*entry)),
-    )
+            .all(|(found, entry)| *found == position(*entry))
 }
 
 /// Whether what is held is at each row what the row says.
 fn follows(alloc: Global) -> Result<bool, Memory> {
     let mut held = HeldTable::new(alloc);
-    for (call, entries) in ROWS {
-        calls(alloc, &mut held, call)?;
-        if !holds(alloc, &held, entries)? {
+    let followed = follows_rows(alloc, &mut held);
+    drop(held);
+    followed
+}
+
+fn follows_rows(alloc: Global, held: &mut HeldTable) -> Result<bool, Memory> {
+    for (call, entries) in ROWS.iter() {
+        calls(alloc, held, *call)?;
+        if !holds(alloc, held, entries)? {
             return Ok(false);
         }
     }

@@ -7,10 +7,12 @@ ghost use Rattle.client.specs.Changing.{ClientFits};
 ghost use Rattle.client.specs.Counted.{CanConnect, CanCount};
 ghost use Rattle.client.specs.Site.{is_short_line};
 
-use crate::story::{Act, ROWS, Row, lines};
+use crate::story::{Act, ROWS, State, add_lines};
 use client::{Client, ClientSite, Prepared};
 use geo_base::limits::{CLUSTERS, TEXT_BYTES};
-use geo_base::{Blob, ClusterName, Line, Memory, ProducerName, Stamp, Text, TopicName, name_text};
+use geo_base::{
+    Blob, ClusterName, Line, Memory, ProducerName, Sequence, Stamp, Text, TopicName, name_text,
+};
 use std::alloc::Global;
 use std::test::Fail;
 use wire_ends::WirePacket;
@@ -83,18 +85,18 @@ fn happens(alloc: Global, site: &ClientSite, client: &mut Client, act: Act) -> R
                 stamp: Stamp::new(1),
                 frame: Blob::from_slice(alloc, bytes)?,
             };
-            client.get(alloc, site, Some(&packet))?;
+            let got = client.get(alloc, site, Some(&packet));
+            drop(packet);
+            got?;
             Ok(0)
         }
     }
 }
 
 /// The client as a row has it.
-fn row_of(client: &Client, act: Act, sent: usize) -> Row {
+fn state_of(client: &Client) -> State {
     let view = client.view();
     (
-        act,
-        sent,
         view.done,
         [view.produce, view.sub, view.flow],
         [view.unanswered.len(), view.held.len(), view.got.len()],
@@ -108,8 +110,10 @@ fn follows(alloc: Global, site: &ClientSite, client: &mut Client) -> Result<bool
         if !client.can_connect() || !client.can_count() {
             return Ok(false);
         }
-        let sent = happens(alloc, site, client, row.0)?;
-        if row_of(client, row.0, sent) != *row {
+        let (act, sent, done, in_force, lists, counts) = *row;
+        if happens(alloc, site, client, act)? != sent
+            || state_of(client) != (done, in_force, lists, counts)
+        {
             return Ok(false);
         }
     }
@@ -131,19 +135,65 @@ fn tells(
     }
     let site = ClientSite::new(clusters, topics, name, 0, 0, lines);
     let mut client = Client::new(alloc, &site)?;
-    follows(alloc, &site, &mut client)
+    let told = follows(alloc, &site, &mut client);
+    drop(client);
+    told
+}
+
+/// The same of client c.
+fn tells_named(
+    alloc: Global,
+    clusters: &[ClusterName],
+    topics: &[TopicName],
+    lines: &[Line],
+) -> Result<bool, Memory> {
+    let Ok(name) = ProducerName::read(alloc, "c") else {
+        return Ok(false);
+    };
+    let told = tells(alloc, clusters, topics, &name, lines);
+    drop(name);
+    told
+}
+
+/// The same of topic t.
+fn tells_of_topic(alloc: Global, clusters: &[ClusterName], lines: &[Line]) -> Result<bool, Memory> {
+    let Ok(topic) = TopicName::read(alloc, "t") else {
+        return Ok(false);
+    };
+    let topics = [topic];
+    let told = tells_named(alloc, clusters, &topics, lines);
+    drop(topics);
+    told
+}
+
+/// The same at clusters a and b.
+fn tells_at_clusters(alloc: Global, lines: &[Line]) -> Result<bool, Memory> {
+    let Ok(first) = ClusterName::read(alloc, "a") else {
+        return Ok(false);
+    };
+    let Ok(second) = ClusterName::read(alloc, "b") else {
+        drop(first);
+        return Ok(false);
+    };
+    let clusters = [first, second];
+    let told = tells_of_topic(alloc, &clusters, lines);
+    drop(clusters);
+    told
+}
+
+/// The same of the lines of the story.
+fn tells_story(alloc: Global) -> Result<bool, Memory> {
+    let mut lines = Sequence::new(alloc);
+    let added = add_lines(alloc, &mut lines);
+    let told = tells_at_clusters(alloc, lines.as_slice());
+    drop(lines);
+    added?;
+    told
 }
 
 #[test]
 fn a_client_does_lines_of_all_kinds(rt: HostRuntime) -> Result<(), Fail> {
-    let clusters = [
-        ClusterName::read(rt.alloc(), "a")?,
-        ClusterName::read(rt.alloc(), "b")?,
-    ];
-    let topics = [TopicName::read(rt.alloc(), "t")?];
-    let name = ProducerName::read(rt.alloc(), "c")?;
-    let lines = lines(rt.alloc())?;
-    let told = tells(rt.alloc(), &clusters, &topics, &name, lines.as_slice())?;
+    let told = tells_story(rt.alloc())?;
     assert!(rt; told);
     Ok(())
 }

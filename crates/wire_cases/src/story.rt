@@ -3,7 +3,7 @@ use geo_base::{Blob, Ident, Line, Memory, ProducerName, Sequence, SubKind, Targe
 use std::alloc::Global;
 
 /// What happens to the client.
-#[derive(Clone, Copy, Debug, Drop, PartialEq, Eq)]
+#[derive(Clone, Copy, Drop)]
 pub enum Act {
     Go,
     Reconnect,
@@ -52,6 +52,9 @@ const MESSAGE_TO_9: &[u8] =
 /// What the client does or gets, how many packets it sends, and what it is then: how many lines are done, the `produce`, `sub`
 /// and `flow` lines in force, publishes without receipt, messages held and got, and receipts, duplicates and errors.
 pub type Row = (Act, usize, usize, [Option<usize>; 3], [usize; 3], [u64; 3]);
+
+/// A row behind what happens and what is sent.
+pub type State = (usize, [Option<usize>; 3], [usize; 3], [u64; 3]);
 
 pub const ROWS: [Row; 33] = [
     // No line is done before the client is connected.
@@ -226,14 +229,12 @@ fn subscribe(alloc: Global, kind: SubKind) -> Result<Line, Memory> {
     })
 }
 
-/// The client's lines.
-pub fn lines(alloc: Global) -> Result<Sequence<Line>, Memory> {
-    let mut lines = Sequence::new(alloc);
-    add_producer(alloc, &mut lines)?;
-    add_consumer(alloc, &mut lines)?;
-    add_acks(alloc, &mut lines)?;
-    add_ends(alloc, &mut lines)?;
-    Ok(lines)
+/// Adds the client's lines.
+pub fn add_lines(alloc: Global, lines: &mut Sequence<Line>) -> Result<(), Memory> {
+    add_producer(alloc, lines)?;
+    add_consumer(alloc, lines)?;
+    add_acks(alloc, lines)?;
+    add_ends(alloc, lines)
 }
 
 fn add_producer(alloc: Global, lines: &mut Sequence<Line>) -> Result<(), Memory> {

@@ -1,11 +1,10 @@
 //! A ring between two threads: what the one sends comes to the other, in order.
-use crate::frames::{SEND, is_packet, packet};
+use crate::packets::{SEND, send_packet, take_packet};
 use geo_base::Memory;
 use link_rings::{RingSend, RingTake, ring};
 use std::alloc::Global;
 use std::test::Fail;
 use std::thread;
-use wire_ends::End;
 
 /// How many packets cross. The ring has places for two of them, so that each thread waits for the other.
 const PACKETS: u64 = 2000;
@@ -16,17 +15,21 @@ const TRIES: u64 = 100_000_000;
 /// Sends the packets by their stamps, each as soon as there is room, and answers how many were sent.
 fn send_all(alloc: Global, end: RingSend) -> Result<u64, Memory> {
     let mut end = end;
+    let sent = send_each(alloc, &mut end);
+    drop(end);
+    sent
+}
+
+fn send_each(alloc: Global, end: &mut RingSend) -> Result<u64, Memory> {
     let mut sent = 0u64;
     for _ in 0..TRIES {
         if sent >= PACKETS {
             break;
         }
-        let parcel = end.pack(packet(alloc, sent, &SEND)?)?;
-        if end.free() < parcel.places() {
-            thread::yield_now();
-        } else {
-            end.send(parcel);
+        if send_packet(alloc, end, sent, &SEND)? {
             sent += 1;
+        } else {
+            thread::yield_now();
         }
     }
     Ok(sent)
@@ -35,18 +38,21 @@ fn send_all(alloc: Global, end: RingSend) -> Result<u64, Memory> {
 /// Takes packets while each is the next one, and answers how many were taken.
 fn take_all(end: RingTake) -> Result<u64, Memory> {
     let mut end = end;
+    let taken = take_each(&mut end);
+    drop(end);
+    taken
+}
+
+fn take_each(end: &mut RingTake) -> Result<u64, Memory> {
     let mut taken = 0u64;
     for _ in 0..TRIES {
         if taken >= PACKETS {
             break;
         }
-        end.gather()?;
-        if end.peek().is_none() {
-            thread::yield_now();
-        } else if is_packet(end.take(), taken, &SEND) {
-            taken += 1;
-        } else {
-            break;
+        match take_packet(end, taken, &SEND)? {
+            None => thread::yield_now(),
+            Some(true) => taken += 1,
+            Some(false) => break,
         }
     }
     Ok(taken)

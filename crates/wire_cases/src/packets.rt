@@ -1,7 +1,8 @@
-//! Two frames, and packets that have them.
+//! Two frames, packets that have them, and what a ring does with them.
 use geo_base::{Blob, Memory, Stamp};
+use link_rings::{RingSend, RingTake};
 use std::alloc::Global;
-use wire_ends::WirePacket;
+use wire_ends::{End, WirePacket};
 
 /// The message `hi` of producer p, replicated from cluster a, as producer 1 sends it.
 pub const SEND: [u8; 34] = [
@@ -25,12 +26,39 @@ pub fn packet(alloc: Global, stamp: u64, frame: &[u8]) -> Result<WirePacket, Mem
 
 /// Whether it is such a packet.
 pub fn is_packet(packet: Option<WirePacket>, stamp: u64, frame: &[u8]) -> bool {
-    match packet {
+    let is_such = match &packet {
         Some(packet) => {
             packet.session == 1
                 && packet.stamp.number() == stamp
                 && packet.frame.as_slice() == frame
         }
         None => false,
+    };
+    drop(packet);
+    is_such
+}
+
+/// Sends a packet into a ring; `false` where it has too few places for it.
+pub fn send_packet(
+    alloc: Global,
+    sends: &mut RingSend,
+    stamp: u64,
+    frame: &[u8],
+) -> Result<bool, Memory> {
+    let parcel = sends.pack(packet(alloc, stamp, frame)?)?;
+    if sends.free() < parcel.places() {
+        drop(parcel);
+        return Ok(false);
     }
+    sends.send(parcel);
+    Ok(true)
+}
+
+/// Takes the packet that comes out of a ring, and says whether it is such a one; `None` where none is shown.
+pub fn take_packet(takes: &mut RingTake, stamp: u64, frame: &[u8]) -> Result<Option<bool>, Memory> {
+    takes.gather()?;
+    if takes.peek().is_none() {
+        return Ok(None);
+    }
+    Ok(Some(is_packet(takes.take(), stamp, frame)))
 }

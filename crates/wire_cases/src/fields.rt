@@ -1,31 +1,65 @@
 //! Protobuf fields.
-use geo_base::Blob;
+
+ghost use Rattle.std.specs.List.{AllByRecursion};
+ghost use Rattle.pb_fields.specs.Field.{HasNumber};
+
+use crate::texts::is_told;
+use geo_base::{Blob, Memory};
 use pb_fields::embedded::{OfTable, Unread, optional_message, read_message_with};
-use pb_fields::message::{Form, Row};
+use pb_fields::message::{Form, MessageFault, Row};
 use pb_fields::*;
 use std::alloc::{AllocError, Global};
 use std::test::Fail;
 
-/// The fields that are read, one after another, or the fault.
-fn described(alloc: Global, bytes: &[u8]) -> Result<String, AllocError> {
-    let fields = match read_fields(alloc, bytes) {
-        Ok(fields) => fields,
-        Err(fault) => return format!(in alloc; "{fault}"),
-    };
-    let mut text = String::new(alloc);
-    for field in fields.as_slice() {
-        let number = field.number;
-        match &field.value {
-            Value::Varint(value) => write!(&mut text, "{number} varint {value};")?,
-            Value::Fixed64(value) => write!(&mut text, "{number} fixed64 {value};")?,
-            Value::Bytes(content) => {
-                let content = content.as_slice();
-                write!(&mut text, "{number} bytes {content:?};")?;
-            }
-            Value::Fixed32(value) => write!(&mut text, "{number} fixed32 {value};")?,
-        }
+/// Tells a field that is a number.
+fn tell_number(text: &mut String, number: u32, wire: &str, value: u64) -> Result<(), AllocError> {
+    write!(text, "{number} {wire} {value};")
+}
+
+/// Tells a field that is bytes.
+fn tell_bytes(text: &mut String, number: u32, content: &[u8]) -> Result<(), AllocError> {
+    write!(text, "{number} bytes {content:?};")
+}
+
+/// Tells a field.
+fn tell_field(text: &mut String, field: &Field) -> Result<(), AllocError> {
+    let number = field.number;
+    match &field.value {
+        Value::Varint(value) => tell_number(text, number, "varint", *value),
+        Value::Fixed64(value) => tell_number(text, number, "fixed64", *value),
+        Value::Bytes(content) => tell_bytes(text, number, content.as_slice()),
+        Value::Fixed32(value) => tell_number(text, number, "fixed32", u64::from(*value)),
     }
-    Ok(text)
+}
+
+/// Tells fields, one after another.
+fn tell(text: &mut String, fields: &[Field]) -> Result<(), AllocError> {
+    for field in fields {
+        tell_field(text, field)?;
+    }
+    Ok(())
+}
+
+/// Tells the fields that are read, or the fault.
+fn tell_read(text: &mut String, alloc: Global, bytes: &[u8]) -> Result<(), AllocError> {
+    match read_fields(alloc, bytes) {
+        Ok(fields) => {
+            let told = tell(text, fields.as_slice());
+            drop(fields);
+            told
+        }
+        Err(fault) => write!(text, "{fault}"),
+    }
+}
+
+/// Whether a text tells the fields that are read, one after another, or the fault.
+fn is_said(alloc: Global, bytes: &[u8], text: &str) -> Result<bool, AllocError> {
+    let mut said = String::new(alloc);
+    let told = tell_read(&mut said, alloc, bytes);
+    let is_said = said.as_str() == text;
+    drop(said);
+    told?;
+    Ok(is_said)
 }
 
 /// What stands in the Protocol Buffers encoding, at its bounds. A row is bytes, and what they say.
@@ -130,45 +164,69 @@ const TABLE: [(&[u8], &str); 33] = [
 #[test]
 fn bytes_say_their_fields(rt: HostRuntime) -> Result<(), Fail> {
     for (bytes, wanted) in TABLE.iter() {
-        let said = described(rt.alloc(), bytes)?;
-        assert_eq!(rt; said.as_str(), *wanted, "at {bytes:?}");
+        assert!(rt; is_said(rt.alloc(), bytes, wanted)?, "at {bytes:?}");
     }
     Ok(())
 }
 
-/// The fields that are read, written one after another.
-fn written(alloc: Global, bytes: &[u8]) -> Result<Blob, Fail> {
-    let fields = read_fields(alloc, bytes)?;
-    let mut out = Blob::new(alloc);
-    for field in fields.as_slice() {
-        write_field(&mut out, field)?;
+/// Writes fields, one after another.
+fn write_all(out: &mut Blob, fields: &[Field]) -> Result<(), Memory>
+    requires { AllByRecursion HasNumber fields.now }
+{
+    for field in fields {
+        write_field(out, field)?;
     }
-    Ok(out)
+    Ok(())
+}
+
+/// Writes the fields that are read, one after another.
+fn rewrite(out: &mut Blob, alloc: Global, bytes: &[u8]) -> Result<(), PbFault> {
+    let fields = read_fields(alloc, bytes)?;
+    let written = write_all(out, fields.as_slice());
+    drop(fields);
+    Ok(written?)
+}
+
+/// Whether fields that are read are written as these bytes.
+fn are_written(alloc: Global, bytes: &[u8], wanted: &[u8]) -> Result<bool, PbFault> {
+    let mut out = Blob::new(alloc);
+    let written = rewrite(&mut out, alloc, bytes);
+    let is_wanted = out.as_slice() == wanted;
+    drop(out);
+    written?;
+    Ok(is_wanted)
 }
 
 #[test]
 fn fields_are_written_shortest(rt: HostRuntime) -> Result<(), Fail> {
-    let alloc = rt.alloc();
     let bytes = [
         0x88, 0x80, 0x00, 0x96, 0x81, 0x80, 0x00, 0x12, 0x82, 0x00, 0x41, 0x42, 0x0d, 1, 2, 3, 4,
         0x19, 1, 2, 3, 4, 5, 6, 7, 8,
     ];
-    let out = written(alloc, &bytes)?;
     let shortest = [
         0x08, 0x96, 0x01, 0x12, 0x02, 0x41, 0x42, 0x0d, 1, 2, 3, 4, 0x19, 1, 2, 3, 4, 5, 6, 7, 8,
     ];
-    assert_eq!(rt; out.as_slice(), shortest.as_slice());
+    assert!(rt; are_written(rt.alloc(), &bytes, &shortest)?);
     Ok(())
+}
+
+/// How many fields a list of one field has.
+fn listed(alloc: Global) -> Result<usize, Memory> {
+    let content = Blob::from_slice(alloc, b"AB")?;
+    let mut list = FieldList::new(alloc);
+    let pushed = list.push(Field {
+        number: 1,
+        value: Value::Bytes(content),
+    });
+    let len = list.len();
+    drop(list);
+    pushed?;
+    Ok(len)
 }
 
 #[test]
 fn fields_are_listed(rt: HostRuntime) -> Result<(), Fail> {
-    let mut list = FieldList::new(rt.alloc());
-    list.push(Field {
-        number: 1,
-        value: Value::Bytes(Blob::from_slice(rt.alloc(), b"AB")?),
-    })?;
-    assert_eq!(rt; list.len(), 1);
+    assert!(rt; listed(rt.alloc())? == 1);
     Ok(())
 }
 
@@ -199,22 +257,25 @@ const INNER: [Row; 2] = [
     },
 ];
 
-/// How many bytes the last embedded message has, or the fault.
-fn described_outer(alloc: Global, bytes: &[u8]) -> Result<String, AllocError> {
+/// How many bytes the last embedded message has, if there is one.
+fn size_of_inner(alloc: Global, bytes: &[u8]) -> Result<Option<usize>, MessageFault> {
     let inner = OfTable {
         rows: &INNER,
         embedded: Unread,
     };
-    let fields = match read_message_with(alloc, &OUTER, &inner, bytes) {
-        Ok(fields) => fields,
-        Err(fault) => return format!(in alloc; "{fault}"),
-    };
-    match optional_message(&OUTER, &inner, fields.as_slice(), 2) {
-        Some(content) => {
-            let size = content.len();
-            format!(in alloc; "{size}")
-        }
-        None => format!(in alloc; "none"),
+    let fields = read_message_with(alloc, &OUTER, &inner, bytes)?;
+    let content = optional_message(&OUTER, &inner, fields.as_slice(), 2);
+    let size = content.map(|content| content.len());
+    drop(fields);
+    Ok(size)
+}
+
+/// Whether a text tells that number, or the fault.
+fn is_inner(alloc: Global, bytes: &[u8], text: &str) -> Result<bool, AllocError> {
+    match size_of_inner(alloc, bytes) {
+        Ok(Some(size)) => is_told(alloc, &size, text),
+        Ok(None) => Ok(text == "none"),
+        Err(fault) => is_told(alloc, &fault, text),
     }
 }
 
@@ -255,8 +316,7 @@ const EMBEDDED: [(&[u8], &str); 11] = [
 #[test]
 fn embedded_messages_are_judged_in_their_place(rt: HostRuntime) -> Result<(), Fail> {
     for (bytes, wanted) in EMBEDDED.iter() {
-        let said = described_outer(rt.alloc(), bytes)?;
-        assert_eq!(rt; said.as_str(), *wanted, "at {bytes:?}");
+        assert!(rt; is_inner(rt.alloc(), bytes, wanted)?, "at {bytes:?}");
     }
     Ok(())
 }

@@ -1,22 +1,21 @@
 //! Markers.
-use geo_base::{Memory, Position, Text};
+use crate::texts::is_answer;
+use geo_base::{Blob, Memory, Position, Text};
 use marker_codec::*;
 use std::alloc::{AllocError, Global};
 use std::test::Fail;
 
-/// The canonical bytes of what is read, or the fault.
-fn described(alloc: Global, kind: u64, bytes: &[u8]) -> Result<String, AllocError> {
-    let marker = match Marker::read(alloc, kind, bytes) {
-        Ok(marker) => marker,
-        Err(fault) => return format!(in alloc; "{fault}"),
-    };
-    match marker.write(alloc) {
-        Ok(out) => {
-            let written = out.as_slice();
-            format!(in alloc; "{written:?}")
-        }
-        Err(memory) => format!(in alloc; "{memory}"),
-    }
+/// The canonical bytes of what is read.
+fn rewritten(alloc: Global, kind: u64, bytes: &[u8]) -> Result<Blob, MarkerFault> {
+    let marker = Marker::read(alloc, kind, bytes)?;
+    let written = marker.write(alloc);
+    drop(marker);
+    Ok(written?)
+}
+
+/// Whether a text lists these bytes, or tells the fault.
+fn is_said(alloc: Global, kind: u64, bytes: &[u8], text: &str) -> Result<bool, AllocError> {
+    is_answer(alloc, rewritten(alloc, kind, bytes), text)
 }
 
 /// Rows are a kind, bytes, and their canonical text or their fault.
@@ -123,23 +122,29 @@ const TABLE: [(u64, &[u8], &str); 22] = [
 
 #[test]
 fn markers_are_judged_in_order(rt: HostRuntime) -> Result<(), Fail> {
-    for (kind, bytes, expected) in TABLE {
-        let found = described(rt.alloc(), kind, bytes)?;
-        assert_eq!(rt; found.as_str(), expected);
+    for (kind, bytes, wanted) in TABLE.iter() {
+        assert!(rt; is_said(rt.alloc(), *kind, bytes, wanted)?, "at {bytes:?}");
     }
     Ok(())
 }
 
-/// The snapshot i at 1:2, b at 3:4.
-fn snapshot(alloc: Global) -> Result<Marker, Memory> {
+/// The position 3:4 of b.
+fn of_b(alloc: Global) -> Result<ClusterMessageIds, Memory> {
+    let cluster = Text::from_str(alloc, "b")?;
     let mut clusters = ClusterMessageIds::new(alloc);
     clusters.push(ClusterMessageId {
-        cluster: Text::from_str(alloc, "b")?,
+        cluster,
         message_id: Position {
             ledger: 3,
             entry: 4,
         },
     })?;
+    Ok(clusters)
+}
+
+/// The snapshot i at 1:2, b at 3:4.
+fn snapshot(alloc: Global) -> Result<Marker, Memory> {
+    let clusters = of_b(alloc)?;
     Ok(Marker::Snapshot {
         snapshot_id: Text::from_str(alloc, "i")?,
         local_message_id: Position {
@@ -150,16 +155,23 @@ fn snapshot(alloc: Global) -> Result<Marker, Memory> {
     })
 }
 
+/// Its kind, and whether it is written as these bytes.
+fn is_written(alloc: Global, wanted: &[u8]) -> Result<(MarkerKind, bool), Memory> {
+    let marker = snapshot(alloc)?;
+    let kind = marker.kind();
+    let written = marker.write(alloc);
+    drop(marker);
+    Ok((kind, written?.as_slice() == wanted))
+}
+
 #[test]
 fn fields_keep_their_places(rt: HostRuntime) -> Result<(), Fail> {
-    let marker = snapshot(rt.alloc())?;
-    let kind = marker.kind();
-    let written = marker.write(rt.alloc())?;
-    assert!(rt; kind == MarkerKind::Snapshot && kind.number() == 12);
     let wanted = [
         0x0a, 0x01, 0x69, 0x12, 0x04, 0x08, 0x01, 0x10, 0x02, 0x1a, 0x09, 0x0a, 0x01, 0x62, 0x12,
         0x04, 0x08, 0x03, 0x10, 0x04,
     ];
-    assert_eq!(rt; written.as_slice(), wanted.as_slice());
+    let (kind, is_written) = is_written(rt.alloc(), &wanted)?;
+    assert!(rt; kind == MarkerKind::Snapshot && kind.number() == 12);
+    assert!(rt; is_written);
     Ok(())
 }
