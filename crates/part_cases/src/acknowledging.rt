@@ -1,10 +1,10 @@
 //! Cursors.
+use crate::telling::{add_number, add_ranges};
 use cursor_acks::*;
 use geo_base::Memory;
 use rand_core::utils::NextWord;
 use rand_pcg::Pcg32;
-use std::alloc::{AllocError, Global};
-use std::test::Fail;
+use std::alloc::Global;
 
 /// A call: an acknowledgement of one index, or of all up to one, or a seek.
 enum Call {
@@ -20,9 +20,8 @@ struct Row {
     said: &'static str,
 }
 
-/// A cursor after calls.
-fn after(alloc: Global, len: u64, calls: &[Call]) -> Result<Cursor, Memory> {
-    let mut cursor = Cursor::none(alloc);
+/// Makes calls on a cursor.
+fn make_calls(cursor: &mut Cursor, len: u64, calls: &[Call]) -> Result<(), Memory> {
     for call in calls {
         cursor.reserve(1)?;
         let _answer = match call {
@@ -31,23 +30,53 @@ fn after(alloc: Global, len: u64, calls: &[Call]) -> Result<Cursor, Memory> {
             Call::Seek(index) => cursor.seek_to(*index, len),
         };
     }
-    cursor.copy(alloc)
+    Ok(())
 }
 
-/// A cursor's ranges, its mark-delete, and the next open indexes from 0, 2 and 4.
-fn said(alloc: Global, cursor: &Cursor) -> Result<String, AllocError> {
+/// Adds a cursor's ranges, its mark-delete, and the next open indexes from 0, 2 and 4.
+fn add_said(text: &mut String, cursor: &Cursor) -> Result<(), Memory> {
+    add_ranges(text, cursor, "", " ")?;
+    add_number(text, "mark ", cursor.mark_delete(), " open")?;
+    add_number(text, " ", cursor.next_open(0), "")?;
+    add_number(text, " ", cursor.next_open(2), "")?;
+    add_number(text, " ", cursor.next_open(4), "")
+}
+
+/// Whether a cursor says this.
+fn is_told(alloc: Global, cursor: &Cursor, told: &str) -> Result<bool, Memory> {
     let mut text = String::new(alloc);
-    for range in cursor.ranges().iter() {
-        let first = range.first;
-        let last = range.last;
-        write!(&mut text, "{first}-{last} ")?;
+    let added = add_said(&mut text, cursor);
+    let is_told = text.as_str() == told;
+    drop(text);
+    added?;
+    Ok(is_told)
+}
+
+/// Whether a copy of a cursor says after calls what it is to say.
+fn is_said_after(alloc: Global, cursor: &mut Cursor, row: &Row) -> Result<bool, Memory> {
+    make_calls(cursor, row.len, row.calls)?;
+    let copied = cursor.copy(alloc)?;
+    let is_told = is_told(alloc, &copied, row.said);
+    drop(copied);
+    is_told
+}
+
+/// Whether a new cursor says after calls what it is to say.
+fn is_said(alloc: Global, row: &Row) -> Result<bool, Memory> {
+    let mut cursor = Cursor::none(alloc);
+    let is_said = is_said_after(alloc, &mut cursor, row);
+    drop(cursor);
+    is_said
+}
+
+/// The place of the first row that says something else.
+fn first_other(alloc: Global) -> Result<Option<usize>, Memory> {
+    for (place, row) in TABLE.iter().enumerate() {
+        if !is_said(alloc, row)? {
+            return Ok(Some(place));
+        }
     }
-    let mark = cursor.mark_delete();
-    let zero = cursor.next_open(0);
-    let two = cursor.next_open(2);
-    let four = cursor.next_open(4);
-    write!(&mut text, "mark {mark} open {zero} {two} {four}")?;
-    Ok(text)
+    Ok(None)
 }
 
 const TABLE: [Row; 12] = [
@@ -118,29 +147,31 @@ const TABLE: [Row; 12] = [
 ];
 
 #[test]
-fn calls_leave_their_ranges(rt: HostRuntime) -> Result<(), Fail> {
-    for row in TABLE.iter() {
-        let cursor = after(rt.alloc(), row.len, row.calls)?;
-        assert_eq!(rt; said(rt.alloc(), &cursor)?.as_str(), row.said);
-    }
+fn calls_leave_their_ranges(rt: HostRuntime) -> Result<(), Memory> {
+    assert_eq!(rt; first_other(rt.alloc())?, None);
     Ok(())
 }
 
-/// What a cursor that has all of five entries answers to an acknowledgement of index 5, and what it then says.
-fn past_the_end(alloc: Global) -> Result<(Result<(), PastEnd>, String), Memory> {
-    let mut cursor = Cursor::all(alloc, 5)?;
+/// What a cursor answers to an acknowledgement of index 5 of five entries.
+fn past_the_end(cursor: &mut Cursor) -> Result<Result<(), PastEnd>, Memory> {
     cursor.reserve(1)?;
-    let answer = cursor.ack_one(5, 5);
-    Ok((answer, said(alloc, &cursor)?))
+    Ok(cursor.ack_one(5, 5))
+}
+
+/// Whether a cursor that has all of five entries refuses to acknowledge index 5, and then says that it has them.
+fn is_refused(alloc: Global) -> Result<bool, Memory> {
+    let mut cursor = Cursor::all(alloc, 5)?;
+    let answer = past_the_end(&mut cursor);
+    let is_told = is_told(alloc, &cursor, "0-4 mark 5 open 5 5 5");
+    drop(cursor);
+    Ok(answer? == Err(PastEnd { index: 5, len: 5 }) && is_told?)
 }
 
 #[test]
-fn latest_and_past_the_end(rt: HostRuntime) -> Result<(), Fail> {
+fn latest_and_past_the_end(rt: HostRuntime) -> Result<(), Memory> {
     let most = Cursor::all(rt.alloc(), u64::MAX)?.next_open(7);
     assert_eq!(rt; most, u64::MAX);
-    let (answer, said) = past_the_end(rt.alloc())?;
-    assert_eq!(rt; answer, Err(PastEnd { index: 5, len: 5 }));
-    assert_eq!(rt; said.as_str(), "0-4 mark 5 open 5 5 5");
+    assert!(rt; is_refused(rt.alloc())?);
     Ok(())
 }
 
@@ -236,20 +267,31 @@ fn is_same_call(
 }
 
 /// Whether 60 random calls on a cursor and on a plain set have the same answers.
-fn are_same_calls(alloc: Global, seed: u64) -> Result<bool, Memory> {
-    let mut random = Pcg32::new(seed, 7);
-    let mut cursor = Cursor::none(alloc);
-    let mut flags = Flags { acked: [false; 40] };
+fn answer_alike(
+    cursor: &mut Cursor,
+    flags: &mut Flags,
+    random: &mut Pcg32,
+) -> Result<bool, Memory> {
     for _ in 0..60 {
-        if !is_same_call(&mut cursor, &mut flags, &mut random)? {
+        if !is_same_call(cursor, flags, random)? {
             return Ok(false);
         }
     }
     Ok(true)
 }
 
+/// Whether random calls on a new cursor and on a plain set have the same answers.
+fn are_same_calls(alloc: Global, seed: u64) -> Result<bool, Memory> {
+    let mut random = Pcg32::new(seed, 7);
+    let mut cursor = Cursor::none(alloc);
+    let mut flags = Flags { acked: [false; 40] };
+    let are_same = answer_alike(&mut cursor, &mut flags, &mut random);
+    drop(cursor);
+    are_same
+}
+
 #[test]
-fn a_cursor_is_a_plain_set(rt: HostRuntime) -> Result<(), Fail> {
+fn a_cursor_is_a_plain_set(rt: HostRuntime) -> Result<(), Memory> {
     for seed in 0..12 {
         assert!(rt; are_same_calls(rt.alloc(), seed)?);
     }

@@ -1,8 +1,8 @@
 //! The cache of snapshots.
+use crate::telling::{add_number, add_word};
 use geo_base::{Cut, Memory, Position, Sequence};
 use snapshot_cache::*;
 use std::alloc::Global;
-use std::test::Fail;
 
 /// A call: snapshots of these local indexes are added, the mark-delete position comes to an index, or all is forgotten.
 enum Call {
@@ -82,43 +82,85 @@ fn local_of(cut: Option<&Cut>) -> Option<u64> {
     }
 }
 
-/// What the calls answer. Each is made on a copy of the cache, and `passed` answers first what `advance` does.
-fn said(alloc: Global, calls: &[Call]) -> Result<String, Memory> {
-    let mut text = String::new(alloc);
-    let mut cache = SnapshotCache::new(alloc)?;
-    for call in calls {
-        let mut next = cache.copy(alloc)?;
-        match call {
-            Call::Add(first, last) => {
-                for local in *first..=*last {
-                    next.add(local, cut_at(alloc, local));
-                }
-            }
-            Call::Advance(mark) => {
-                let looked = local_of(next.passed(*mark));
-                let passed = match next.advance(*mark) {
-                    Some(cut) => Some(cut.local.entry),
-                    None => None,
-                };
-                if looked != passed {
-                    text.push_str("differs ")?;
-                }
-                match passed {
-                    Some(entry) => write!(&mut text, "{entry} ")?,
-                    None => text.push_str("- ")?,
-                }
-            }
-            Call::Clear => next.clear(),
-        }
-        cache = next;
+/// What `advance` answers, and what `passed` answers before it.
+fn advance(cache: &mut SnapshotCache, mark: u64) -> (Option<u64>, Option<u64>) {
+    let looked = local_of(cache.passed(mark));
+    let passed = cache.advance(mark);
+    (local_of(passed.as_ref()), looked)
+}
+
+/// Adds what `advance` answers, which `passed` answers first.
+fn add_advance(text: &mut String, cache: &mut SnapshotCache, mark: u64) -> Result<(), Memory> {
+    let (passed, looked) = advance(cache, mark);
+    if looked != passed {
+        return add_word(text, "differs ");
     }
-    Ok(text)
+    match passed {
+        Some(entry) => add_number(text, "", entry, " "),
+        None => add_word(text, "- "),
+    }
+}
+
+/// Adds the snapshots of some local indexes.
+fn add_snapshots(alloc: Global, cache: &mut SnapshotCache, first: u64, last: u64) {
+    for local in first..=last {
+        cache.add(local, cut_at(alloc, local));
+    }
+}
+
+/// Makes a call, and adds what it answers.
+fn add_call(
+    alloc: Global,
+    text: &mut String,
+    cache: &mut SnapshotCache,
+    call: &Call,
+) -> Result<(), Memory> {
+    match call {
+        Call::Add(first, last) => add_snapshots(alloc, cache, *first, *last),
+        Call::Advance(mark) => return add_advance(text, cache, *mark),
+        Call::Clear => cache.clear(),
+    }
+    Ok(())
+}
+
+/// Adds what calls answer. Each is made on a copy of the cache, which takes its place.
+fn add_calls(
+    alloc: Global,
+    text: &mut String,
+    cache: &mut SnapshotCache,
+    calls: &[Call],
+) -> Result<(), Memory> {
+    for call in calls {
+        *cache = cache.copy(alloc)?;
+        add_call(alloc, text, cache, call)?;
+    }
+    Ok(())
+}
+
+/// Whether calls on a new cache answer what they are to answer.
+fn is_said(alloc: Global, row: &Row) -> Result<bool, Memory> {
+    let mut cache = SnapshotCache::new(alloc)?;
+    let mut text = String::new(alloc);
+    let added = add_calls(alloc, &mut text, &mut cache, row.calls);
+    drop(cache);
+    let is_said = text.as_str() == row.said;
+    drop(text);
+    added?;
+    Ok(is_said)
+}
+
+/// The place of the first row that says something else.
+fn first_other(alloc: Global) -> Result<Option<usize>, Memory> {
+    for (place, row) in TABLE.iter().enumerate() {
+        if !is_said(alloc, row)? {
+            return Ok(Some(place));
+        }
+    }
+    Ok(None)
 }
 
 #[test]
-fn calls_pass_their_snapshots(rt: HostRuntime) -> Result<(), Fail> {
-    for row in TABLE.iter() {
-        assert_eq!(rt; said(rt.alloc(), row.calls)?.as_str(), row.said);
-    }
+fn calls_pass_their_snapshots(rt: HostRuntime) -> Result<(), Memory> {
+    assert_eq!(rt; first_other(rt.alloc())?, None);
     Ok(())
 }

@@ -1,10 +1,10 @@
 //! The table of duplicates.
+use crate::entries::{entry, ident};
 use dedup_table::*;
-use geo_base::{Blob, Content, Entry, EntryStore, Ident, Memory, Metadata, ProducerName, Targets};
+use geo_base::{Content, EntryStore, Memory, ProducerName, Targets};
 use rand_core::utils::NextWord;
 use rand_pcg::Pcg32;
 use std::alloc::Global;
-use std::test::Fail;
 use topic_ledger::TopicLedger;
 
 fn stream(alloc: Global, origin: u32, producer: &str) -> Result<Stream, Memory> {
@@ -18,22 +18,13 @@ fn stream(alloc: Global, origin: u32, producer: &str) -> Result<Stream, Memory> 
 fn store<S: EntryStore>(
     alloc: Global,
     store: &mut S,
-    stream: Stream,
+    origin: u32,
+    producer: &str,
     seq: u64,
 ) -> Result<(), Memory> {
-    let entry = Entry {
-        ident: Ident {
-            origin: stream.origin,
-            producer: stream.producer,
-            seq,
-        },
-        content: Content::Data,
-        to: Targets::All,
-        meta: Metadata::usual(0, None),
-        payload: Blob::new(alloc),
-    };
     store.reserve(1)?;
-    store.append(entry);
+    let ident = ident(alloc, origin, producer, seq)?;
+    store.append(entry(alloc, ident, Content::Data, Targets::All));
     Ok(())
 }
 
@@ -95,7 +86,9 @@ const TABLE: [Row; 7] = [
 /// What a table says of a row's message.
 fn said(alloc: Global, table: &DedupTable, row: &Row) -> Result<Verdict, Memory> {
     let checked = stream(alloc, row.origin, row.producer)?;
-    Ok(table.check(&checked, row.seq))
+    let said = table.check(&checked, row.seq);
+    drop(checked);
+    Ok(said)
 }
 
 /// A table that has 3 of producer p at cluster 0.
@@ -106,14 +99,21 @@ fn noted(alloc: Global) -> Result<DedupTable, Memory> {
     Ok(table)
 }
 
-/// The table of a topic with 1, 2, 3 of p and 0 of q.
+/// The table of a topic once 1, 2, 3 of p and 0 of q are stored.
+fn rebuilt_of(alloc: Global, topic: &mut TopicLedger) -> Result<DedupTable, Memory> {
+    for seq in 1..4 {
+        store(alloc, topic, 0, "p", seq)?;
+    }
+    store(alloc, topic, 0, "q", 0)?;
+    DedupTable::rebuild(alloc, topic)
+}
+
+/// The table of a new topic with these.
 fn rebuilt(alloc: Global) -> Result<DedupTable, Memory> {
     let mut topic = TopicLedger::new(alloc, 2)?;
-    for seq in 1..4 {
-        store(alloc, &mut topic, stream(alloc, 0, "p")?, seq)?;
-    }
-    store(alloc, &mut topic, stream(alloc, 0, "q")?, 0)?;
-    DedupTable::rebuild(alloc, &topic)
+    let rebuilt = rebuilt_of(alloc, &mut topic);
+    drop(topic);
+    rebuilt
 }
 
 /// Whether a table says of each row what it is to say.
@@ -126,24 +126,32 @@ fn is_as_told(alloc: Global, table: &DedupTable) -> Result<bool, Memory> {
     Ok(true)
 }
 
-#[test]
-fn checks_are_by_origin_and_producer(rt: HostRuntime) -> Result<(), Fail> {
-    let alloc = rt.alloc();
-    let table = noted(alloc)?;
-    let is_noted = is_as_told(alloc, &table);
+/// Whether a table, which ends here, says of each row what it is to say.
+fn is_told(alloc: Global, table: DedupTable) -> Result<bool, Memory> {
+    let is_told = is_as_told(alloc, &table);
     drop(table);
-    assert!(rt; is_noted?);
-    let table = rebuilt(alloc)?;
-    let is_rebuilt = is_as_told(alloc, &table);
-    drop(table);
-    assert!(rt; is_rebuilt?);
-    Ok(())
+    is_told
 }
 
 #[test]
-fn a_new_table_has_nothing(rt: HostRuntime) -> Result<(), Fail> {
-    let says = said(rt.alloc(), &DedupTable::new(rt.alloc()), &TABLE[0])?;
-    assert!(rt; says == Verdict::New);
+fn checks_are_by_origin_and_producer(rt: HostRuntime) -> Result<(), Memory> {
+    let alloc = rt.alloc();
+    assert!(rt; is_told(alloc, noted(alloc)?)?);
+    assert!(rt; is_told(alloc, rebuilt(alloc)?)?);
+    Ok(())
+}
+
+/// What a new table says of the first row's message.
+fn said_by_none(alloc: Global) -> Result<Verdict, Memory> {
+    let table = DedupTable::new(alloc);
+    let said = said(alloc, &table, &TABLE[0]);
+    drop(table);
+    said
+}
+
+#[test]
+fn a_new_table_has_nothing(rt: HostRuntime) -> Result<(), Memory> {
+    assert!(rt; said_by_none(rt.alloc())? == Verdict::New);
     Ok(())
 }
 
@@ -172,65 +180,78 @@ fn random_stream(alloc: Global, random: &mut Pcg32) -> Result<Stream, Memory> {
     stream(alloc, random.next_word() % 3, producer)
 }
 
-/// A topic and its table.
-#[derive(Drop)]
-struct Tables {
-    table: DedupTable,
-    topic: TopicLedger,
+/// Whether a topic's table, one rebuilt and a search of the topic agree on a message.
+fn agree(
+    alloc: Global,
+    table: &DedupTable,
+    topic: &TopicLedger,
+    message: &Stream,
+    seq: u64,
+) -> Result<bool, Memory> {
+    let verdict = table.check(message, seq);
+    let is_new = accepts(topic, message, seq);
+    let again = DedupTable::rebuild(alloc, topic)?.check(message, seq);
+    Ok((verdict == Verdict::New) == is_new && again == verdict)
 }
 
-impl Tables {
-    fn new(alloc: Global) -> Result<Tables, Memory> {
-        Ok(Tables {
-            table: DedupTable::new(alloc),
-            topic: TopicLedger::new(alloc, 3)?,
-        })
+/// Stores and notes a message that is new.
+fn take(
+    alloc: Global,
+    table: &mut DedupTable,
+    topic: &mut TopicLedger,
+    message: Stream,
+    seq: u64,
+) -> Result<(), Memory> {
+    if let Verdict::New = table.check(&message, seq) {
+        store(alloc, topic, message.origin, message.producer.as_str(), seq)?;
+        table.reserve(1)?;
+        table.note(message, seq);
     }
-
-    /// Whether the table, one rebuilt and a search of the topic agree on a message.
-    fn agree(&self, alloc: Global, message: &Stream, seq: u64) -> Result<bool, Memory> {
-        let verdict = self.table.check(message, seq);
-        let is_new = accepts(&self.topic, message, seq);
-        let again = DedupTable::rebuild(alloc, &self.topic)?.check(message, seq);
-        Ok((verdict == Verdict::New) == is_new && again == verdict)
-    }
-
-    /// Notes and stores a message that is new.
-    fn take(&mut self, alloc: Global, message: Stream, seq: u64) -> Result<(), Memory> {
-        if let Verdict::New = self.table.check(&message, seq) {
-            let copy = stream(alloc, message.origin, message.producer.as_str())?;
-            self.table.reserve(1)?;
-            self.table.note(message, seq);
-            store(alloc, &mut self.topic, copy, seq)?;
-        }
-        Ok(())
-    }
-
-    /// Whether they agree on each of 40 random messages.
-    fn agree_on_all(&mut self, alloc: Global, random: Pcg32) -> Result<bool, Memory> {
-        let mut random = random;
-        for _ in 0..40 {
-            let message = random_stream(alloc, &mut random)?;
-            let seq = (random.next_word() % 12) as u64;
-            if !self.agree(alloc, &message, seq)? {
-                return Ok(false);
-            }
-            self.take(alloc, message, seq)?;
-        }
-        Ok(true)
-    }
+    Ok(())
 }
 
-/// Whether a table, one rebuilt and a search of the topic agree on each of 40 random messages.
+/// Whether they agree on a random message, which is then taken.
+fn agree_on_one(
+    alloc: Global,
+    table: &mut DedupTable,
+    topic: &mut TopicLedger,
+    random: &mut Pcg32,
+) -> Result<bool, Memory> {
+    let message = random_stream(alloc, random)?;
+    let seq = (random.next_word() % 12) as u64;
+    let agree = agree(alloc, table, topic, &message, seq);
+    take(alloc, table, topic, message, seq)?;
+    agree
+}
+
+/// Whether they agree on each of 40 random messages.
+fn agree_on_all(
+    alloc: Global,
+    table: &mut DedupTable,
+    topic: &mut TopicLedger,
+    random: &mut Pcg32,
+) -> Result<bool, Memory> {
+    for _ in 0..40 {
+        if !agree_on_one(alloc, table, topic, random)? {
+            return Ok(false);
+        }
+    }
+    Ok(true)
+}
+
+/// Whether a new table, one rebuilt and a search of the topic agree on each of 40 random messages.
 fn are_same_checks(alloc: Global, seed: u64) -> Result<bool, Memory> {
-    let mut tables = Tables::new(alloc)?;
-    let agree = tables.agree_on_all(alloc, Pcg32::new(seed, 7));
-    drop(tables);
+    let mut random = Pcg32::new(seed, 7);
+    let mut topic = TopicLedger::new(alloc, 3)?;
+    let mut table = DedupTable::new(alloc);
+    let agree = agree_on_all(alloc, &mut table, &mut topic, &mut random);
+    drop(table);
+    drop(topic);
     agree
 }
 
 #[test]
-fn a_table_is_a_search_of_the_topic(rt: HostRuntime) -> Result<(), Fail> {
+fn a_table_is_a_search_of_the_topic(rt: HostRuntime) -> Result<(), Memory> {
     for seed in 0..8 {
         assert!(rt; are_same_checks(rt.alloc(), seed)?);
     }

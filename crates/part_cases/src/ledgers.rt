@@ -1,13 +1,12 @@
 //! Stores of a topic.
 ghost use Rattle.std.specs.Prelude.{◌<◌};
 
-use geo_base::{
-    Blob, Content, Entry, EntryStore, Ident, Memory, Metadata, Position, ProducerName, Targets,
-};
+use crate::entries::{entry, ident};
+use crate::telling::{add_number, add_pair, add_word};
+use geo_base::{Content, EntryStore, Memory, Position, Targets};
 use rand_core::utils::NextWord;
 use rand_pcg::Pcg32;
-use std::alloc::{AllocError, Global};
-use std::test::Fail;
+use std::alloc::Global;
 use topic_ledger::*;
 
 /// What is done to a store.
@@ -67,70 +66,61 @@ const TABLE: [Row; 4] = [
     },
 ];
 
-/// A message or a marker that has no reading.
-fn entry(alloc: Global, content: Content) -> Result<Entry, Memory> {
-    Ok(Entry {
-        ident: Ident {
-            origin: 0,
-            producer: ProducerName::any(alloc, "p")?,
-            seq: 0,
-        },
-        content,
-        to: Targets::All,
-        meta: Metadata::usual(0, None),
-        payload: Blob::new(alloc),
-    })
-}
-
-/// A step; the position of an entry more.
+/// A step; the position of an entry more, a message or a marker that has no reading.
 fn done<S: EntryStore>(
     alloc: Global,
     store: &mut S,
     step: Step,
 ) -> Result<Option<Position>, Memory> {
-    let content = match step {
-        Step::Message => Content::Data,
-        Step::Marker => Content::Unread(0),
-        Step::Open => {
-            store.reserve(1)?;
-            store.open_ledger();
-            return Ok(None);
-        }
-    };
-    let entry = entry(alloc, content)?;
     store.reserve(1)?;
-    Ok(Some(store.append(entry)))
+    if let Step::Open = step {
+        store.open_ledger();
+        return Ok(None);
+    }
+    let ident = ident(alloc, 0, "p", 0)?;
+    let content = match step {
+        Step::Marker => Content::Unread(0),
+        _ => Content::Data,
+    };
+    Ok(Some(store.append(entry(alloc, ident, content, Targets::All))))
 }
 
-/// The positions that steps gave, the next and the last one, and the index of 1:1.
-fn said<S: EntryStore>(alloc: Global, store: &mut S, steps: &[Step]) -> Result<String, AllocError> {
-    let mut text = String::new(alloc);
-    for step in steps {
-        match done(alloc, store, *step) {
-            Ok(Some(Position { ledger, entry })) => write!(&mut text, "{ledger}:{entry} ")?,
-            Ok(None) => write!(&mut text, "ledger ")?,
-            Err(_) => return Err(AllocError),
+/// Adds a position, or a word where there is none.
+fn add_position(text: &mut String, position: Option<Position>, none: &str) -> Result<(), Memory> {
+    match position {
+        Some(position) => {
+            add_pair(text, position.ledger, ":", position.entry)?;
+            add_word(text, " ")
         }
+        None => add_word(text, none),
     }
-    add_ends(&mut text, store)?;
-    Ok(text)
 }
 
-fn add_ends<S: EntryStore>(text: &mut String, store: &S) -> Result<(), AllocError> {
-    let Position { ledger, entry } = store.next();
-    write!(text, "next {ledger}:{entry} last ")?;
-    match store.last() {
-        Some(Position { ledger, entry }) => write!(text, "{ledger}:{entry} ")?,
-        None => write!(text, "none ")?,
+/// Adds the positions that steps gave, the next and the last one, and the index of 1:1.
+fn add_steps<S: EntryStore>(
+    alloc: Global,
+    text: &mut String,
+    store: &mut S,
+    steps: &[Step],
+) -> Result<(), Memory> {
+    for step in steps {
+        add_position(text, done(alloc, store, *step)?, "ledger ")?;
     }
+    add_ends(text, store)
+}
+
+fn add_ends<S: EntryStore>(text: &mut String, store: &S) -> Result<(), Memory> {
+    add_word(text, "next ")?;
+    add_position(text, Some(store.next()), "")?;
+    add_word(text, "last ")?;
+    add_position(text, store.last(), "none ")?;
     match store.index_of(Position {
         ledger: 1,
         entry: 1,
     }) {
-        Some(index) => write!(text, "1:1 {index}")?,
-        None => write!(text, "1:1 none")?,
+        Some(index) => add_number(text, "1:1 ", index as u64, ""),
+        None => add_word(text, "1:1 none"),
     }
-    Ok(())
 }
 
 /// The store of what another one is made of.
@@ -139,40 +129,59 @@ fn taken_apart(alloc: Global, per_ledger: u64, ledger: TopicLedger) -> Result<To
     TopicLedger::from_parts(alloc, per_ledger, lengths.as_slice(), entries)
 }
 
-/// What a plain store says behind steps.
-fn plain_said(alloc: Global, per_ledger: u64, steps: &[Step]) -> Result<String, Memory>
-    requires { 0 < per_ledger }
+/// Whether a plain store says behind steps what it is to say.
+fn is_said_by_plain(alloc: Global, row: &Row) -> Result<bool, Memory>
+    requires { 0 < row.now.per_ledger }
 {
-    let mut plain = ListStore::new(alloc, per_ledger)?;
-    Ok(said(alloc, &mut plain, steps)?)
+    let mut plain = ListStore::new(alloc, row.per_ledger)?;
+    let mut text = String::new(alloc);
+    let added = add_steps(alloc, &mut text, &mut plain, row.steps);
+    drop(plain);
+    let is_said = text.as_str() == row.said;
+    drop(text);
+    added?;
+    Ok(is_said)
 }
 
-/// What a ledger says behind steps, where the store of what a copy of it is made of is like it; `differs` where it is not.
-fn ledger_said(alloc: Global, per_ledger: u64, steps: &[Step]) -> Result<String, Memory>
+/// Whether two ledgers have the same ends.
+fn are_same_ends(again: &TopicLedger, ledger: &TopicLedger) -> bool {
+    again.next() == ledger.next()
+        && again.last() == ledger.last()
+        && again.len() == ledger.len()
+        && again.ledgers() == ledger.ledgers()
+}
+
+/// Whether the store of what a copy of a ledger is made of is like it.
+fn is_made_again(alloc: Global, per_ledger: u64, ledger: &TopicLedger) -> Result<bool, Memory>
     requires { 0 < per_ledger }
 {
-    let mut ledger = TopicLedger::new(alloc, per_ledger)?;
-    let mut text = said(alloc, &mut ledger, steps)?;
     let again = taken_apart(alloc, per_ledger, ledger.copy(alloc)?)?;
-    if again.next() != ledger.next()
-        || again.last() != ledger.last()
-        || again.len() != ledger.len()
-        || again.ledgers() != ledger.ledgers()
-    {
-        text.push_str(" differs")?;
-    }
-    Ok(text)
+    let is_same = are_same_ends(&again, ledger);
+    drop(again);
+    Ok(is_same)
+}
+
+/// Whether a ledger says behind steps what it is to say, and the store of what a copy of it is made of is like it.
+fn is_said_by_ledger(alloc: Global, row: &Row) -> Result<bool, Memory>
+    requires { 0 < row.now.per_ledger }
+{
+    let mut ledger = TopicLedger::new(alloc, row.per_ledger)?;
+    let mut text = String::new(alloc);
+    let added = add_steps(alloc, &mut text, &mut ledger, row.steps);
+    let is_made_again = is_made_again(alloc, row.per_ledger, &ledger);
+    drop(ledger);
+    let is_said = text.as_str() == row.said;
+    drop(text);
+    added?;
+    Ok(is_said && is_made_again?)
 }
 
 #[test]
-fn steps_give_their_positions(rt: HostRuntime) -> Result<(), Fail> {
-    let alloc = rt.alloc();
+fn steps_give_their_positions(rt: HostRuntime) -> Result<(), Memory> {
     for row in TABLE.iter() {
         assert!(rt; row.per_ledger > 0);
-        let plain = plain_said(alloc, row.per_ledger, row.steps)?;
-        assert_eq!(rt; plain.as_str(), row.said);
-        let ledger = ledger_said(alloc, row.per_ledger, row.steps)?;
-        assert_eq!(rt; ledger.as_str(), row.said);
+        assert!(rt; is_said_by_plain(rt.alloc(), row)?);
+        assert!(rt; is_said_by_ledger(rt.alloc(), row)?);
     }
     Ok(())
 }
@@ -230,21 +239,34 @@ fn is_same_step(
 }
 
 /// Whether a plain store and a ledger answer alike after each of 40 random steps.
-fn are_same_steps(alloc: Global, seed: u64) -> Result<bool, Memory> {
-    let mut random = Pcg32::new(seed, 7);
-    let per_ledger = (random.next_word() % 3 + 1) as u64;
-    let mut plain = ListStore::new(alloc, per_ledger)?;
-    let mut ledger = TopicLedger::new(alloc, per_ledger)?;
+fn are_same_on(
+    alloc: Global,
+    random: &mut Pcg32,
+    plain: &mut ListStore,
+    ledger: &mut TopicLedger,
+) -> Result<bool, Memory> {
     for _ in 0..40 {
-        if !is_same_step(alloc, &mut random, &mut plain, &mut ledger)? {
+        if !is_same_step(alloc, random, plain, ledger)? {
             return Ok(false);
         }
     }
     Ok(true)
 }
 
+/// Whether a new plain store and a ledger answer alike to random steps.
+fn are_same_steps(alloc: Global, seed: u64) -> Result<bool, Memory> {
+    let mut random = Pcg32::new(seed, 7);
+    let per_ledger = (random.next_word() % 3 + 1) as u64;
+    let mut plain = ListStore::new(alloc, per_ledger)?;
+    let mut ledger = TopicLedger::new(alloc, per_ledger)?;
+    let are_same = are_same_on(alloc, &mut random, &mut plain, &mut ledger);
+    drop(plain);
+    drop(ledger);
+    are_same
+}
+
 #[test]
-fn a_ledger_is_a_plain_store(rt: HostRuntime) -> Result<(), Fail> {
+fn a_ledger_is_a_plain_store(rt: HostRuntime) -> Result<(), Memory> {
     for seed in 0..8 {
         assert!(rt; are_same_steps(rt.alloc(), seed)?);
     }

@@ -12,6 +12,8 @@ mod dispatching;
 #[cfg(test)]
 mod duplicates;
 #[cfg(test)]
+mod entries;
+#[cfg(test)]
 mod keys;
 #[cfg(test)]
 mod ledgers;
@@ -23,5 +25,7 @@ mod replicating;
 mod restarting;
 #[cfg(test)]
 mod subscriptions;
+#[cfg(test)]
+mod telling;
 #[cfg(test)]
 mod updating;

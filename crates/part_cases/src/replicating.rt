@@ -1,16 +1,16 @@
 //! Senders and receivers.
 ghost use Rattle.std.specs.Prelude.{◌<◌};
 
+use crate::entries::{entry, ident};
+use crate::telling::{add_number, add_pair, add_word};
 use cursor_acks::Cursor;
 use geo_base::{
-    Blob, BoxedMarker, Content, Entry, EntryStore, Ident, Marker, Memory, Metadata, Pending, Place,
-    ProducerName, SenderState, Targets, Text,
+    BoxedMarker, Content, EntryStore, Marker, Memory, Pending, Place, SenderState, Targets, Text,
 };
 use rand_core::utils::NextWord;
 use rand_pcg::Pcg32;
 use replicator::*;
 use std::alloc::Global;
-use std::test::Fail;
 use topic_ledger::ListStore;
 
 /// The sending cluster, and the one to which it sends.
@@ -24,6 +24,9 @@ struct Stored {
     marker: bool,
     to: Targets,
 }
+
+/// How many entries the topic of the table has.
+const LEN: u64 = 7;
 
 const TOPIC: [Stored; 7] = [
     Stored {
@@ -192,24 +195,21 @@ fn content(alloc: Global, marker: bool) -> Result<Content, Memory> {
     Ok(Content::Marked(BoxedMarker::new(alloc, marker)?))
 }
 
+/// Appends what is to stand in the topic of the table.
+fn fill(alloc: Global, store: &mut ListStore) -> Result<(), Memory> {
+    for stored in TOPIC.iter() {
+        store.reserve(1)?;
+        let ident = ident(alloc, stored.origin, "p", 0)?;
+        let content = content(alloc, stored.marker)?;
+        store.append(entry(alloc, ident, content, stored.to));
+    }
+    Ok(())
+}
+
 /// The topic of the table.
 fn topic(alloc: Global) -> Result<ListStore, Memory> {
     let mut store = ListStore::new(alloc, 50_000)?;
-    for stored in TOPIC.iter() {
-        let entry = Entry {
-            ident: Ident {
-                origin: stored.origin,
-                producer: ProducerName::any(alloc, "p")?,
-                seq: 0,
-            },
-            content: content(alloc, stored.marker)?,
-            to: stored.to,
-            meta: Metadata::usual(0, None),
-            payload: Blob::new(alloc),
-        };
-        store.reserve(1)?;
-        store.append(entry);
-    }
+    fill(alloc, &mut store)?;
     Ok(store)
 }
 
@@ -223,92 +223,122 @@ enum Answer {
     Restarted,
 }
 
+/// Adds the word of what was read.
+fn say_read(text: &mut String, read: ReadOut) -> Result<(), Memory> {
+    match read {
+        ReadOut::Idle => add_word(text, "idle"),
+        ReadOut::Skip(index) => add_number(text, "skip-", index, ""),
+        ReadOut::Mark(index) => add_number(text, "mark-", index, ""),
+        ReadOut::Send(index, number) => add_pair(text, index, "-as-", number),
+    }
+}
+
+/// The word of a state.
+fn state_word(state: SenderState) -> &'static str {
+    match state {
+        SenderState::Closed => "closed",
+        SenderState::Opening => "opening",
+        SenderState::Open => "open",
+    }
+}
+
 /// Adds the word of an answer to a text.
 fn say(text: &mut String, answer: Answer) -> Result<(), Memory> {
     match answer {
-        Answer::Began(session) => write!(text, "session-{session}")?,
-        Answer::State(SenderState::Closed) => text.push_str("closed")?,
-        Answer::State(SenderState::Opening) => text.push_str("opening")?,
-        Answer::State(SenderState::Open) => text.push_str("open")?,
-        Answer::Receipt(None) => text.push_str("none")?,
-        Answer::Receipt(Some(index)) => write!(text, "acks-{index}")?,
-        Answer::Read(ReadOut::Idle) => text.push_str("idle")?,
-        Answer::Read(ReadOut::Skip(index)) => write!(text, "skip-{index}")?,
-        Answer::Read(ReadOut::Mark(index)) => write!(text, "mark-{index}")?,
-        Answer::Read(ReadOut::Send(index, number)) => write!(text, "{index}-as-{number}")?,
-        Answer::Restarted => text.push_str("restarts")?,
+        Answer::Began(session) => add_number(text, "session-", session, ""),
+        Answer::State(state) => add_word(text, state_word(state)),
+        Answer::Receipt(None) => add_word(text, "none"),
+        Answer::Receipt(Some(index)) => add_number(text, "acks-", index, ""),
+        Answer::Read(read) => say_read(text, read),
+        Answer::Restarted => add_word(text, "restarts"),
+    }
+}
+
+/// Acknowledges an index of the table's topic, where there is one.
+fn acknowledge(cursor: &mut Cursor, index: Option<u64>) -> Result<(), Memory> {
+    if let Some(index) = index {
+        cursor.reserve(1)?;
+        let _acked = cursor.ack_one(index, LEN);
     }
     Ok(())
 }
 
-/// A sender, its cursor and its topic.
-#[derive(Drop)]
-struct Sending {
-    sender: Sender,
-    cursor: Cursor,
-    store: ListStore,
+/// What a sender reads, which is acknowledged where it is not sent.
+fn read(sender: &mut Sender, cursor: &mut Cursor, store: &ListStore) -> Result<ReadOut, Memory> {
+    sender.reserve(1)?;
+    let read = sender.read(store, cursor);
+    if let ReadOut::Skip(index) | ReadOut::Mark(index) = read {
+        acknowledge(cursor, Some(index))?;
+    }
+    Ok(read)
 }
 
-impl Sending {
-    fn new(alloc: Global) -> Result<Sending, Memory> {
-        Ok(Sending {
-            sender: Sender::new(alloc, OWN, REMOTE),
-            cursor: Cursor::none(alloc),
-            store: topic(alloc)?,
-        })
-    }
-
-    /// Does a call, and acknowledges what its answer names, as the sender's owner does.
-    fn answer(&mut self, call: Call) -> Result<Answer, Memory> {
-        match call {
-            Call::Reset if self.sender.session() == u64::MAX => Ok(Answer::Began(u64::MAX)),
-            Call::Reset => Ok(Answer::Began(self.sender.reset())),
-            Call::Success(session) => {
-                self.sender.on_success(session);
-                Ok(Answer::State(self.sender.state()))
-            }
-            Call::Receipt(session, number) => {
-                let index = self.sender.on_receipt(session, number);
-                self.acknowledge(index)?;
-                Ok(Answer::Receipt(index))
-            }
-            Call::Read => Ok(Answer::Read(self.read()?)),
-            Call::Restart => {
-                self.sender.restart();
-                Ok(Answer::Restarted)
-            }
+/// Does a call, and acknowledges what its answer names, as the sender's owner does.
+fn answer_to(
+    sender: &mut Sender,
+    cursor: &mut Cursor,
+    store: &ListStore,
+    call: Call,
+) -> Result<Answer, Memory> {
+    match call {
+        Call::Reset if sender.session() == u64::MAX => Ok(Answer::Began(u64::MAX)),
+        Call::Reset => Ok(Answer::Began(sender.reset())),
+        Call::Success(session) => {
+            sender.on_success(session);
+            Ok(Answer::State(sender.state()))
         }
-    }
-
-    fn read(&mut self) -> Result<ReadOut, Memory> {
-        self.sender.reserve(1)?;
-        let read = self.sender.read(&self.store, &self.cursor);
-        if let ReadOut::Skip(index) | ReadOut::Mark(index) = read {
-            self.acknowledge(Some(index))?;
+        Call::Receipt(session, number) => {
+            let index = sender.on_receipt(session, number);
+            acknowledge(cursor, index)?;
+            Ok(Answer::Receipt(index))
         }
-        Ok(read)
-    }
-
-    fn acknowledge(&mut self, index: Option<u64>) -> Result<(), Memory> {
-        if let Some(index) = index {
-            self.cursor.reserve(1)?;
-            let _acked = self.cursor.ack_one(index, self.store.len() as u64);
+        Call::Read => Ok(Answer::Read(read(sender, cursor, store)?)),
+        Call::Restart => {
+            sender.restart();
+            Ok(Answer::Restarted)
         }
-        Ok(())
     }
 }
 
-/// What a new sender answers to calls, with a space between two words.
-fn said(alloc: Global, calls: &[Call]) -> Result<String, Memory> {
-    let mut sending = Sending::new(alloc)?;
-    let mut text = String::new(alloc);
+/// Adds what a sender answers to calls, with a space between two words.
+fn add_answers(
+    text: &mut String,
+    sender: &mut Sender,
+    cursor: &mut Cursor,
+    store: &ListStore,
+    calls: &[Call],
+) -> Result<(), Memory> {
     for call in calls {
         if !text.is_empty() {
-            text.push_str(" ")?;
+            add_word(text, " ")?;
         }
-        say(&mut text, sending.answer(*call)?)?;
+        say(text, answer_to(sender, cursor, store, *call)?)?;
     }
-    Ok(text)
+    Ok(())
+}
+
+/// Whether a new sender over a topic answers to calls what it is to answer.
+fn is_said(alloc: Global, store: &ListStore, row: &Row) -> Result<bool, Memory> {
+    let mut sender = Sender::new(alloc, OWN, REMOTE);
+    let mut cursor = Cursor::none(alloc);
+    let mut text = String::new(alloc);
+    let added = add_answers(&mut text, &mut sender, &mut cursor, store, row.calls);
+    drop(sender);
+    drop(cursor);
+    let is_said = text.as_str() == row.said;
+    drop(text);
+    added?;
+    Ok(is_said)
+}
+
+/// The place of the first row that says something else.
+fn first_other(alloc: Global, store: &ListStore) -> Result<Option<usize>, Memory> {
+    for (place, row) in TABLE.iter().enumerate() {
+        if !is_said(alloc, store, row)? {
+            return Ok(Some(place));
+        }
+    }
+    Ok(None)
 }
 
 /// A sender over the table's topic that searches plain lists.
@@ -323,6 +353,17 @@ struct Plain {
 }
 
 impl Plain {
+    fn new(alloc: Global) -> Plain {
+        Plain {
+            session: 0,
+            state: SenderState::Closed,
+            read_index: 0,
+            next: 0,
+            pending: Vec::new(alloc),
+            acked: [false; 7],
+        }
+    }
+
     fn begin(&mut self, state: SenderState) {
         self.state = state;
         self.read_index = 0;
@@ -410,27 +451,52 @@ fn random_call(random: &mut Pcg32, session: u64) -> Call {
     }
 }
 
-/// Whether a sender and a plain one answer the same to 60 random calls.
-fn are_same_answers(alloc: Global, seed: u64) -> Result<bool, Memory> {
-    let mut sending = Sending::new(alloc)?;
-    let mut plain = Plain {
-        session: 0,
-        state: SenderState::Closed,
-        read_index: 0,
-        next: 0,
-        pending: Vec::new(alloc),
-        acked: [false; 7],
-    };
-    answer_alike(&mut sending, &mut plain, Pcg32::new(seed, 7))
+/// Whether a sender and a plain one answer the same to a call.
+fn is_same_answer(
+    sender: &mut Sender,
+    cursor: &mut Cursor,
+    store: &ListStore,
+    plain: &mut Plain,
+    call: Call,
+) -> Result<bool, Memory> {
+    let answer = answer_to(sender, cursor, store, call)?;
+    Ok(answer == plain.answer(call)? && sender.pending_len() == plain.pending.len())
 }
 
-fn answer_alike(sending: &mut Sending, plain: &mut Plain, random: Pcg32) -> Result<bool, Memory> {
-    let mut random = random;
+/// Whether a sender and a plain one answer the same to 60 random calls.
+fn answer_alike(
+    sender: &mut Sender,
+    cursor: &mut Cursor,
+    store: &ListStore,
+    plain: &mut Plain,
+    random: &mut Pcg32,
+) -> Result<bool, Memory> {
     for _ in 0..60 {
-        let call = random_call(&mut random, plain.session);
-        if sending.answer(call)? != plain.answer(call)?
-            || sending.sender.pending_len() != plain.pending.len()
-        {
+        let call = random_call(random, plain.session);
+        if !is_same_answer(sender, cursor, store, plain, call)? {
+            return Ok(false);
+        }
+    }
+    Ok(true)
+}
+
+/// Whether a new sender over a topic and a plain one answer the same to random calls.
+fn are_same_answers(alloc: Global, store: &ListStore, seed: u64) -> Result<bool, Memory> {
+    let mut random = Pcg32::new(seed, 7);
+    let mut sender = Sender::new(alloc, OWN, REMOTE);
+    let mut cursor = Cursor::none(alloc);
+    let mut plain = Plain::new(alloc);
+    let alike = answer_alike(&mut sender, &mut cursor, store, &mut plain, &mut random);
+    drop(sender);
+    drop(cursor);
+    drop(plain);
+    alike
+}
+
+/// Whether they do for each of 40 numbers of chance.
+fn are_all_same(alloc: Global, store: &ListStore) -> Result<bool, Memory> {
+    for seed in 0..40 {
+        if !are_same_answers(alloc, store, seed)? {
             return Ok(false);
         }
     }
@@ -438,31 +504,40 @@ fn answer_alike(sending: &mut Sending, plain: &mut Plain, random: Pcg32) -> Resu
 }
 
 #[test]
-fn a_sender_answers_as_in_the_table(rt: HostRuntime) -> Result<(), Fail> {
-    let alloc = rt.alloc();
-    for row in TABLE.iter() {
-        assert_eq!(rt; said(alloc, row.calls)?.as_str(), row.said);
-    }
-    for seed in 0..40 {
-        assert!(rt; are_same_answers(alloc, seed)?);
-    }
+fn a_sender_answers_as_in_the_table(rt: HostRuntime) -> Result<(), Memory> {
+    let store = topic(rt.alloc())?;
+    let other = first_other(rt.alloc(), &store);
+    let are_same = are_all_same(rt.alloc(), &store);
+    drop(store);
+    assert_eq!(rt; other?, None);
+    assert!(rt; are_same?);
     Ok(())
 }
 
 #[test]
-fn a_receiver_takes_its_session_alone(rt: HostRuntime) -> Result<(), Fail> {
+fn a_receiver_takes_its_session_alone(rt: HostRuntime) {
     let mut receiver = Receiver::new();
-    assert!(rt; receiver.on_packet(1, false) == Taken::Discard);
-    assert!(rt; receiver.on_packet(1, true) == Taken::Opened);
-    assert!(rt; receiver.on_packet(1, false) == Taken::Process);
-    assert!(rt; receiver.on_packet(2, false) == Taken::Discard);
+    let first = [
+        receiver.on_packet(1, false),
+        receiver.on_packet(1, true),
+        receiver.on_packet(1, false),
+        receiver.on_packet(2, false),
+    ];
     // a packet was lost: what follows it in the session would be stored without it
     receiver.close();
-    assert!(rt; receiver.on_packet(1, false) == Taken::Discard);
-    assert!(rt; receiver.next_packet(2, true) == Taken::Opened);
-    assert!(rt; receiver.session() == None);
+    let closed = [receiver.on_packet(1, false), receiver.next_packet(2, true)];
+    let session = receiver.session();
     receiver.open(2);
-    assert!(rt; receiver.on_packet(1, false) == Taken::Discard);
-    assert!(rt; receiver.on_packet(2, false) == Taken::Process);
-    Ok(())
+    let opened = [receiver.on_packet(1, false), receiver.on_packet(2, false)];
+    assert!(rt;
+        first
+            == [
+                Taken::Discard,
+                Taken::Opened,
+                Taken::Process,
+                Taken::Discard
+            ]
+    );
+    assert!(rt; closed == [Taken::Discard, Taken::Opened] && session == None);
+    assert!(rt; opened == [Taken::Discard, Taken::Process]);
 }

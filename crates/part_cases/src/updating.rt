@@ -1,11 +1,12 @@
 //! Updates of subscriptions.
+use crate::entries::{entry, ident, sub_name};
+use crate::telling::{add_number, add_ranges};
 use cursor_acks::{Cursor, PastEnd};
 use geo_base::{
-    Blob, Content, Cut, Entry, EntryStore, Ident, Marker, Memory, Metadata, Place, Position,
-    ProducerName, Sequence, SubName, Targets,
+    ClusterPosition, Content, Cut, Entry, EntryStore, Marker, Memory, Place, Position, Sequence,
+    SubName, Targets,
 };
 use std::alloc::Global;
-use std::test::Fail;
 use sub_update::*;
 use topic_ledger::ListStore;
 
@@ -86,131 +87,194 @@ const TABLE: [Row; 6] = [
     },
 ];
 
-fn entry(alloc: Global, stored: &Stored, seq: u64) -> Result<Entry, Memory> {
-    let (origin, content, to) = match stored {
-        Stored::ForAll(origin) => (*origin, Content::Data, Targets::All),
-        Stored::ForSome(origin, clusters) => (*origin, Content::Data, Targets::Only(*clusters)),
-        Stored::Marker(origin) => (*origin, Content::Unread(10), Targets::Only(0)),
+/// What stands in a topic, as an entry of producer p.
+fn stored_entry(alloc: Global, stored: &Stored, seq: u64) -> Result<Entry, Memory> {
+    let (origin, to) = match stored {
+        Stored::ForAll(origin) => (*origin, Targets::All),
+        Stored::ForSome(origin, clusters) => (*origin, Targets::Only(*clusters)),
+        Stored::Marker(origin) => {
+            let ident = ident(alloc, *origin, "p", seq)?;
+            return Ok(entry(alloc, ident, Content::Unread(10), Targets::Only(0)));
+        }
     };
-    Ok(Entry {
-        ident: Ident {
-            origin,
-            producer: ProducerName::any(alloc, "p")?,
-            seq,
-        },
-        content,
-        to,
-        meta: Metadata::usual(0, None),
-        payload: Blob::new(alloc),
-    })
+    let ident = ident(alloc, origin, "p", seq)?;
+    Ok(entry(alloc, ident, Content::Data, to))
+}
+
+/// Appends what is to stand in a topic.
+fn fill(alloc: Global, store: &mut ListStore, stored: &[Stored]) -> Result<(), Memory> {
+    for (seq, one) in stored.iter().enumerate() {
+        store.reserve(1)?;
+        store.append(stored_entry(alloc, one, seq as u64)?);
+    }
+    Ok(())
 }
 
 fn topic(alloc: Global, stored: &[Stored]) -> Result<ListStore, Memory> {
     let mut store = ListStore::new(alloc, 4)?;
-    for (seq, one) in stored.iter().enumerate() {
-        let entry = entry(alloc, one, seq as u64)?;
-        store.reserve(1)?;
-        store.append(entry);
-    }
+    fill(alloc, &mut store, stored)?;
     Ok(store)
 }
 
-/// A cursor that has some indexes of a topic of so many entries.
-fn acked(alloc: Global, indexes: &[u64], len: u64) -> Result<Cursor, Memory> {
-    let mut cursor = Cursor::none(alloc);
+/// Acknowledges some indexes of a topic of so many entries.
+fn acknowledge(cursor: &mut Cursor, indexes: &[u64], len: u64) -> Result<(), Memory> {
     for index in indexes {
         cursor.reserve(1)?;
         let _acked = cursor.ack_one(*index, len);
     }
-    Ok(cursor)
+    Ok(())
 }
 
-/// Updates a cursor, and adds to a text how many places that needs, and whether it names an index past the end.
+/// Updates a cursor: how many places that needs, and what it is answered.
+fn updated(
+    cursor: &mut Cursor,
+    store: &ListStore,
+    index: u64,
+    from: u32,
+) -> Result<(usize, Result<(), PastEnd>), Memory> {
+    let places = runs(cursor, store, index, from);
+    cursor.reserve(places)?;
+    Ok((places, apply(cursor, store, index, from)))
+}
+
+/// Adds how many places an update of a cursor needs, `past` where it names an index past the end, and what the cursor has then.
 fn add_update(
     text: &mut String,
     cursor: &mut Cursor,
     store: &ListStore,
     row: &Row,
 ) -> Result<(), Memory> {
-    let places = runs(cursor, store, row.index, row.from);
-    cursor.reserve(places)?;
-    write!(text, "{places}: ")?;
-    if apply(cursor, store, row.index, row.from).is_err() {
-        text.push_str("past ")?;
-    }
-    Ok(())
+    acknowledge(cursor, row.acked, store.len() as u64)?;
+    let (places, answer) = updated(cursor, store, row.index, row.from)?;
+    let behind = if answer.is_err() { ": past " } else { ": " };
+    add_number(text, "", places as u64, behind)?;
+    add_ranges(text, cursor, "", " ")?;
+    add_number(text, "mark ", cursor.mark_delete(), "")
 }
 
-/// Adds a cursor's ranges and its mark-delete.
-fn add_cursor(text: &mut String, cursor: &Cursor) -> Result<(), Memory> {
-    for range in cursor.ranges().iter() {
-        let first = range.first;
-        let last = range.last;
-        write!(text, "{first}-{last} ")?;
-    }
-    let mark = cursor.mark_delete();
-    write!(text, "mark {mark}")?;
-    Ok(())
-}
-
-/// What an update does, and what the cursor has then.
-fn said(alloc: Global, row: &Row) -> Result<String, Memory> {
-    let mut text = String::new(alloc);
+/// Whether an update of a new cursor says what it is to say.
+fn is_said(alloc: Global, row: &Row) -> Result<bool, Memory> {
     let store = topic(alloc, row.topic)?;
-    let mut cursor = acked(alloc, row.acked, store.len() as u64)?;
-    add_update(&mut text, &mut cursor, &store, row)?;
-    add_cursor(&mut text, &cursor)?;
-    Ok(text)
+    let mut cursor = Cursor::none(alloc);
+    let mut text = String::new(alloc);
+    let added = add_update(&mut text, &mut cursor, &store, row);
+    drop(cursor);
+    drop(store);
+    let is_said = text.as_str() == row.said;
+    drop(text);
+    added?;
+    Ok(is_said)
+}
+
+/// The place of the first row that says something else.
+fn first_other(alloc: Global) -> Result<Option<usize>, Memory> {
+    for (place, row) in TABLE.iter().enumerate() {
+        if !is_said(alloc, row)? {
+            return Ok(Some(place));
+        }
+    }
+    Ok(None)
+}
+
+/// Whether an update of a new cursor that names index 6 of a topic of six entries is past the end.
+fn is_past_the_end(alloc: Global) -> Result<bool, Memory> {
+    let store = topic(alloc, MIXED)?;
+    let mut cursor = Cursor::none(alloc);
+    let updated = updated(&mut cursor, &store, 6, 1);
+    drop(cursor);
+    drop(store);
+    let (_places, answer) = updated?;
+    Ok(answer == Err(PastEnd { index: 6, len: 6 }))
 }
 
 #[test]
-fn updates_pass_over_what_could_be_had(rt: HostRuntime) -> Result<(), Fail> {
-    for row in TABLE.iter() {
-        assert_eq!(rt; said(rt.alloc(), row)?.as_str(), row.said);
-    }
-    let store = topic(rt.alloc(), MIXED)?;
-    let mut cursor = Cursor::none(rt.alloc());
-    cursor.reserve(runs(&cursor, &store, 6, 1))?;
-    assert_eq!(rt;
-        apply(&mut cursor, &store, 6, 1),
-        Err(PastEnd { index: 6, len: 6 })
-    );
+fn updates_pass_over_what_could_be_had(rt: HostRuntime) -> Result<(), Memory> {
+    assert_eq!(rt; first_other(rt.alloc())?, None);
+    assert!(rt; is_past_the_end(rt.alloc())?);
     Ok(())
+}
+
+/// The remote positions of a cut, by cluster.
+const REMOTE: [Option<Position>; 3] = [
+    None,
+    Some(Position {
+        ledger: 0,
+        entry: 1,
+    }),
+    Some(Position {
+        ledger: 2,
+        entry: 0,
+    }),
+];
+
+/// The clusters that an update of that cut names, each with a ledger and an entry.
+const NAMED: [(u32, u64, u64); 2] = [(1, 0, 1), (2, 2, 0)];
+
+/// Adds these remote positions.
+fn add_remote(remote: &mut Sequence<Option<Position>>) -> Result<(), Memory> {
+    for position in REMOTE.iter() {
+        remote.push(*position)?;
+    }
+    Ok(())
+}
+
+/// A cut with these remote positions.
+fn cut(alloc: Global) -> Result<Cut, Memory> {
+    let mut remote = Sequence::new(alloc);
+    add_remote(&mut remote)?;
+    let local = Position {
+        ledger: 0,
+        entry: 7,
+    };
+    Ok(Cut { local, remote })
+}
+
+/// The update of a subscription at that cut.
+fn update(alloc: Global, sub: &SubName) -> Result<Marker, Memory> {
+    let cut = cut(alloc)?;
+    make(alloc, sub, &cut)
+}
+
+/// Whether a marker's cluster and position are those of a row.
+fn is_named(one: &ClusterPosition, row: &(u32, u64, u64)) -> bool {
+    match one.cluster {
+        Place::Known(cluster) => (cluster, one.position.ledger, one.position.entry) == *row,
+        Place::Stranger(_) => false,
+    }
+}
+
+/// Whether a marker's clusters and positions are those of the rows, in their order.
+fn are_named(remote: &[ClusterPosition]) -> bool {
+    for (place, row) in NAMED.iter().enumerate() {
+        if place >= remote.len() || !is_named(&remote[place], row) {
+            return false;
+        }
+    }
+    remote.len() == NAMED.len()
+}
+
+/// Whether a marker is an update of subscription s1 that names the rows.
+fn is_update(marker: &Marker) -> bool {
+    match marker {
+        Marker::Update { sub, remote } => sub.as_str() == "s1" && are_named(remote.as_slice()),
+        _ => false,
+    }
+}
+
+/// Whether the update of a subscription names s1 and the rows.
+fn is_told(alloc: Global, sub: SubName) -> Result<bool, Memory> {
+    let marker = update(alloc, &sub);
+    drop(sub);
+    let marker = marker?;
+    let is_told = is_update(&marker);
+    drop(marker);
+    Ok(is_told)
 }
 
 /// An update names the remote positions of the cut, in cluster order, and no other.
 #[test]
-fn an_update_names_the_cut(rt: HostRuntime) -> Result<(), Fail> {
-    let mut remote: Sequence<Option<Position>> = Sequence::new(rt.alloc());
-    remote.push(None)?;
-    remote.push(Some(Position {
-        ledger: 0,
-        entry: 1,
-    }))?;
-    remote.push(Some(Position {
-        ledger: 2,
-        entry: 0,
-    }))?;
-    let cut = Cut {
-        local: Position {
-            ledger: 0,
-            entry: 7,
-        },
-        remote,
-    };
-    let name = SubName::read(rt.alloc(), "s1")?;
-    let Marker::Update { sub, remote } = make(rt.alloc(), &name, &cut)? else {
-        return Err(Fail::new("no update"));
-    };
-    assert_eq!(rt; sub.as_str(), "s1");
-    let mut named = String::new(rt.alloc());
-    for one in remote.as_slice() {
-        if let Place::Known(cluster) = &one.cluster {
-            let ledger = one.position.ledger;
-            let entry = one.position.entry;
-            write!(&mut named, "{cluster}={ledger}:{entry} ")?;
-        }
-    }
-    assert_eq!(rt; named.as_str(), "1=0:1 2=2:0 ");
+fn an_update_names_the_cut(rt: HostRuntime) -> Result<(), Memory> {
+    let sub = sub_name(rt.alloc(), "s1")?;
+    assert!(rt; is_told(rt.alloc(), sub)?);
     Ok(())
 }
