@@ -2,7 +2,7 @@
 ghost use Rattle.std.specs.Prelude.{◌≡◌};
 ghost use Rattle.hostile_inputs.specs.Setting.{setting};
 
-use crate::hostile::{kept, node, stop, take};
+use crate::hostile::{count, kept, node, stop, take};
 use anyhow::Result;
 use broker::Broker;
 use geo_base::{Content, EntryStore, WireOut};
@@ -25,7 +25,7 @@ const LATER: &[u8] =
     b"\x00\x00\x00\x1b\x00\x00\x00\x08\x08\x06\x32\x04\x08\x01\x10\x0a\x00\x00\x00\x0a\x0a\x01p\x10\x0a\x18\x00\x2a\x01ax";
 
 /// What stands first in a topic.
-#[derive(Clone, Copy, Debug, Drop, PartialEq, Eq)]
+#[derive(Drop)]
 pub enum Stored {
     Nothing,
     Message,
@@ -36,18 +36,18 @@ pub enum Stored {
 
 impl fmt::Display for Stored {
     fn fmt<W: fmt::Write>(&self, f: &mut fmt::Formatter<W>) -> fmt::Result {
-        match self {
-            Stored::Nothing => write!(f, "nothing"),
-            Stored::Message => write!(f, "message"),
-            Stored::Marker => write!(f, "marker"),
-            Stored::UnreadMarker => write!(f, "unread marker"),
-        }
+        f.write_str(match self {
+            Stored::Nothing => "nothing",
+            Stored::Message => "message",
+            Stored::Marker => "marker",
+            Stored::UnreadMarker => "unread marker",
+        })
     }
 }
 
 /// What a broker did with a packet: what it sent and stored, how many packets answered an honest SEND then, and how many entries
 /// were left after a stop.
-#[derive(Debug, Drop)]
+#[derive(Drop)]
 pub enum Told {
     BadLine,
     Done {
@@ -61,7 +61,7 @@ pub enum Told {
 impl fmt::Display for Told {
     fn fmt<W: fmt::Write>(&self, f: &mut fmt::Formatter<W>) -> fmt::Result {
         match self {
-            Told::BadLine => write!(f, "bad line"),
+            Told::BadLine => f.write_str("bad line"),
             Told::Done {
                 answers,
                 stored,
@@ -76,9 +76,9 @@ impl fmt::Display for Told {
 }
 
 fn write_answers<W: fmt::Write>(f: &mut fmt::Formatter<W>, answers: &[WireOut]) -> fmt::Result {
-    write!(f, "answers")?;
+    f.write_str("answers")?;
     if answers.is_empty() {
-        return write!(f, " -");
+        return f.write_str(" -");
     }
     for answer in answers {
         write_hex(f, answer.frame.as_slice())?;
@@ -88,7 +88,7 @@ fn write_answers<W: fmt::Write>(f: &mut fmt::Formatter<W>, answers: &[WireOut]) 
 
 /// A space and the bytes, two digits each.
 fn write_hex<W: fmt::Write>(f: &mut fmt::Formatter<W>, bytes: &[u8]) -> fmt::Result {
-    write!(f, " ")?;
+    f.write_str(" ")?;
     for byte in bytes {
         write!(f, "{byte:02x}")?;
     }
@@ -98,17 +98,25 @@ fn write_hex<W: fmt::Write>(f: &mut fmt::Formatter<W>, bytes: &[u8]) -> fmt::Res
 /// What a broker does with a packet of a session.
 pub fn tell(alloc: Global, session: u64, frame: &[u8]) -> Result<Told> {
     let mut node = node(alloc)?;
-    told_by(alloc, &mut node, session, frame)
+    let told = told_by(alloc, &mut node, session, frame);
+    drop(node);
+    told
 }
 
 /// What this broker does with it, once the session is open.
 fn told_by(alloc: Global, node: &mut Broker, session: u64, frame: &[u8]) -> Result<Told>
     requires { node.old.site ≡ setting }
 {
-    let _opened = take(alloc, node, OPEN, OPENING)?;
+    let _opened = count(alloc, node, OPEN, OPENING)?;
     let answers = take(alloc, node, session, frame)?;
     let stored = first_of(node);
-    let (then, kept) = then_and_kept(alloc, node)?;
+    let (then, kept) = match then_and_kept(alloc, node) {
+        Ok(numbers) => numbers,
+        Err(error) => {
+            drop(answers);
+            return Err(error);
+        }
+    };
     Ok(Told::Done {
         answers,
         stored,
@@ -121,7 +129,7 @@ fn told_by(alloc: Global, node: &mut Broker, session: u64, frame: &[u8]) -> Resu
 fn then_and_kept(alloc: Global, node: &mut Broker) -> Result<(usize, usize)>
     requires { node.old.site ≡ setting }
 {
-    let then = take(alloc, node, OPEN, HONEST)?.len();
+    let then = count(alloc, node, OPEN, HONEST)?;
     stop(alloc, node, OPEN, LATER)?;
     Ok((then, kept(alloc, node)?))
 }

@@ -1,5 +1,5 @@
 //! A broker that takes packets of one link.
-ghost use Rattle.std.specs.Prelude.{◌≡◌, IfOk};
+ghost use Rattle.std.specs.Prelude.{◌≡◌, [], IfOk, OnOk};
 ghost use Rattle.hostile_inputs.specs.Setting.{setting};
 
 use anyhow::{Result, bail};
@@ -23,15 +23,25 @@ const PER_LEDGER: u64 = 8;
 /// How many durable writes of an event a stop lets through.
 const WRITES: u32 = 1;
 
+/// The names of the clusters a, b and c.
+fn add_names(alloc: Global, names: &mut Vec<ClusterName>) -> Result<()>
+    requires { names.old.items ≡ [] }
+    ensures { OnOk result (names.new.items ≡ setting.clusters) }
+{
+    names.push(ClusterName::read(alloc, "a")?)?;
+    names.push(ClusterName::read(alloc, "b")?)?;
+    names.push(ClusterName::read(alloc, "c")?)?;
+    Ok(())
+}
+
 /// What the broker of topic t at cluster b knows, one of a, b and c.
 fn site(alloc: Global) -> Result<Site>
     ensures { IfOk result (λ s. s ≡ setting) }
 {
-    let mut clusters = Vec::new(alloc);
-    clusters.push(ClusterName::read(alloc, "a")?)?;
-    clusters.push(ClusterName::read(alloc, "b")?)?;
-    clusters.push(ClusterName::read(alloc, "c")?)?;
-    Ok(Site::new(1, clusters, TopicName::read(alloc, "t")?, PER_LEDGER))
+    let topic = TopicName::read(alloc, "t")?;
+    let mut names = Vec::new(alloc);
+    add_names(alloc, &mut names)?;
+    Ok(Site::new(1, names, topic, PER_LEDGER))
 }
 
 /// The broker before anything has happened.
@@ -61,8 +71,16 @@ pub fn take(alloc: Global, node: &mut Broker, session: u64, frame: &[u8]) -> Res
         bail!("the broker does not accept the event");
     }
     let packet = packet(alloc, session, frame)?;
-    let acted = node.act(alloc, &TAKE, Some(&packet))?;
-    Ok(acted.sent)
+    let acted = node.act(alloc, &TAKE, Some(&packet));
+    drop(packet);
+    Ok(acted?.sent)
+}
+
+/// How many packets answer a packet of a session.
+pub fn count(alloc: Global, node: &mut Broker, session: u64, frame: &[u8]) -> Result<usize>
+    ensures { node.new.site ≡ node.old.site }
+{
+    Ok(take(alloc, node, session, frame)?.len())
 }
 
 /// The broker stops behind the first durable write of a packet of a session.
@@ -73,16 +91,19 @@ pub fn stop(alloc: Global, node: &mut Broker, session: u64, frame: &[u8]) -> Res
         bail!("the broker does not accept the event");
     }
     let packet = packet(alloc, session, frame)?;
-    node.halt(alloc, WRITES, &TAKE, Some(&packet))?;
-    Ok(())
+    let halted = node.halt(alloc, WRITES, &TAKE, Some(&packet));
+    drop(packet);
+    Ok(halted?)
 }
 
 /// How many entries the broker has after it was saved and loaded.
 pub fn kept(alloc: Global, node: &Broker) -> Result<usize>
     requires { node.now.site ≡ setting }
 {
-    let durable = node.durable(alloc)?;
     let site = site(alloc)?;
+    let durable = node.durable(alloc)?;
     let loaded = Broker::from_durable(alloc, 0, site, Vec::new(alloc), durable, 0)?;
-    Ok(loaded.store().len())
+    let len = loaded.store().len();
+    drop(loaded);
+    Ok(len)
 }

@@ -10,10 +10,18 @@ pub fn answer_line(alloc: Global, line: &[u8]) -> Result<Told> {
     let Some((session, zeros, digits)) = words_of(line) else {
         return Ok(Told::BadLine);
     };
-    match frame_of(alloc, zeros, digits)? {
-        Some(frame) => tell(alloc, session, frame.as_slice()),
+    match bytes_of(alloc, digits)? {
+        Some(mut frame) => tell_with(alloc, session, &mut frame, zeros),
         None => Ok(Told::BadLine),
     }
+}
+
+/// What a broker does with a packet whose frame is these bytes and so many zeros behind them.
+fn tell_with(alloc: Global, session: u64, frame: &mut Vec<u8>, zeros: usize) -> Result<Told> {
+    for _ in 0..zeros {
+        frame.push(0)?;
+    }
+    tell(alloc, session, frame.as_slice())
 }
 
 /// The session, the zeros and the digits of a line.
@@ -24,19 +32,11 @@ fn words_of(line: &[u8]) -> Option<(u64, usize, &str)> {
     Some((session.parse().ok()?, zeros.parse().ok()?, digits))
 }
 
-/// The bytes that hexadecimal digits stand for, two digits each, and zeros behind them.
-fn frame_of(alloc: Global, zeros: usize, digits: &str) -> Result<Option<Vec<u8>>> {
+/// The bytes that hexadecimal digits stand for, two digits each.
+fn bytes_of(alloc: Global, digits: &str) -> Result<Option<Vec<u8>>> {
     match hex::decode(alloc, digits) {
-        Ok(bytes) => Ok(Some(with_zeros(bytes, zeros)?)),
+        Ok(bytes) => Ok(Some(bytes)),
         Err(FromHexError::OutOfMemory) => Err(FromHexError::OutOfMemory.into()),
         Err(_) => Ok(None),
     }
-}
-
-fn with_zeros(bytes: Vec<u8>, zeros: usize) -> Result<Vec<u8>> {
-    let mut bytes = bytes;
-    for _ in 0..zeros {
-        bytes.push(0)?;
-    }
-    Ok(bytes)
 }

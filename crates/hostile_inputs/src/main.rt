@@ -9,16 +9,24 @@ mod hostile;
 mod line;
 
 use anyhow::Result;
+use std::alloc::Global;
 use std::io::{self, BufRead, BufReader, BufWriter, Write};
 
 fn run<R: Input + Print + AllocGlobal>(rt: &R) -> Result<()> {
     let alloc = rt.alloc();
     let mut out = BufWriter::new(alloc, io::writer(rt))?;
     for line in BufReader::new(alloc, rt.reader())?.split(alloc, b'\n') {
-        let told = line::answer_line(alloc, line?.as_slice())?;
-        writeln!(out, "{told}")?;
+        answer(alloc, &mut out, line?)?;
     }
     out.flush()?;
+    Ok(())
+}
+
+/// Writes what the broker does with the packet of a line.
+fn answer<W: Write>(alloc: Global, out: &mut W, line: Vec<u8>) -> Result<()> {
+    let told = line::answer_line(alloc, line.as_slice());
+    drop(line);
+    writeln!(out, "{}", told?)?;
     Ok(())
 }
 
