@@ -7,7 +7,8 @@ file, with the line that refuses it; each script with a `stop` line as `== stop 
 with its report once more; the state files of tools/state_files.py; each script whose messages have keys as `== compact HORIZON
 DIRECTORY/NAME`, at two horizons, with the views that tools/compacted_view.py makes of its report; and each script that tells which of its
 ledgers are closed as `== tiered KEEP DIRECTORY/NAME`, with none and with one to stay, where a ledger moves, with what tools/tiered_view.py
-makes of its report. The program's own output is never read.
+makes of its report; and each case of answers/*.txt as `== ask answers/FILE/LINE WORD..`, by the line that it begins with, with its input in
+hexadecimal, and with its status and its answer. The program's own output is never read.
 
 usage: example_runs.py write     writes crates/geo_examples/stdin and crates/geo_examples/stdout
        example_runs.py check     says whether they are what `write` would write
@@ -83,6 +84,65 @@ def tierings():
                 yield 'tiered %d %s' % (keep, name), script.encode(), tiered_view.tiered(script, report, keep).encode()
 
 
+class Case:
+    """A case of answers/: a command's words, its input, and what it answers. answers/README.md has the form of its lines."""
+
+    def __init__(self, name, line):
+        words, _, given = line.partition(' < ')
+        self.name, self.words = name, words
+        self.saved, self.file = given.startswith('save '), given.rpartition(' ')[2]
+        self.given = entire(self.file) if given else b''
+        self.behind, self.left_out, self.answer = b'', None, b''
+
+    def add(self, line):
+        begins, _, rest = line.partition(b' ')
+        if begins == b'>':
+            self.behind += rest + b'\n'
+        elif begins == b'>>':
+            self.behind += rest
+        elif begins == b'>x':
+            self.behind += bytes.fromhex(rest.decode())
+        elif begins == b'-':
+            self.left_out = rest + b'\n'
+        elif begins == b'+':
+            lines = self.given.splitlines(keepends=True)
+            if lines.count(self.left_out) != 1:
+                sys.exit('%s: no single line is the one that is left out' % self.name)
+            lines[lines.index(self.left_out)] = rest + b'\n'
+            self.given = b''.join(lines)
+        elif begins == b'=':
+            self.answer += entire(rest.decode())
+        else:
+            self.answer += line + b'\n'
+
+    def section(self):
+        if not self.answer.startswith(b'status '):
+            sys.exit('%s has no status' % self.name)
+        text = state_files.in_hex(self.given) + b'stop\n' + state_files.in_hex(self.behind) if self.saved else state_files.in_hex(self.given + self.behind)
+        return 'ask %s %s' % (self.name, self.words), text, self.answer
+
+
+def entire(path):
+    with open(os.path.join(ROOT, path), 'rb') as file:
+        return file.read()
+
+
+def asked():
+    """The cases of answers/*.txt, each as its name with the command's words, its input and what is answered."""
+    for file in sorted(os.listdir(os.path.join(ROOT, 'answers'))):
+        if not file.endswith('.txt'):
+            continue
+        case = None
+        for number, line in enumerate(entire('answers/' + file).split(b'\n'), 1):
+            if line.startswith(HEADING):
+                if case:
+                    yield case.section()
+                case = Case('answers/%s/%d' % (file[:-len('.txt')], number), line[len(HEADING):].decode())
+            elif line and not line.startswith(b'#'):
+                case.add(line)
+        yield case.section()
+
+
 def sections():
     """All that the program is given, in order: a name, a script, and what is to be answered."""
     for name in names():
@@ -94,6 +154,7 @@ def sections():
     yield from state_files.sections(lambda name: content(name, '.report'))
     yield from compactions()
     yield from tierings()
+    yield from asked()
 
 
 def joined(part):

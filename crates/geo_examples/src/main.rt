@@ -5,9 +5,11 @@
 //! back from ledgers that moved; behind `== save NAME` the script's run is saved, and the state file shown in hexadecimal; behind
 //! `== resume NAME` an input of `resume` stands in hexadecimal, of which the report or the refusal is shown, and behind `== cuts NAME`
 //! one of which each beginning is answered; behind `== stop NAME` a script is saved where its first `stop` line stands, and the run goes
-//! on from that file with the lines behind it.
+//! on from that file with the lines behind it. Behind `== ask NAME WORD..` an input of the command of these words stands in hexadecimal,
+//! and the number of its status is shown with what it writes; where a `stop` line parts it, it is the state of the script before that
+//! line, and the bytes behind it.
 //!
-//! The input is made of the repository's examples and runs by `tools/example_runs.py`, and what is expected of their reports.
+//! The input is made of the repository's examples, runs and answers by `tools/example_runs.py`, and what is expected of their reports.
 #![tactic(auto)]
 
 mod section;

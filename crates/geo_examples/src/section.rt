@@ -1,7 +1,8 @@
 //! A section of the input, and what is written for it.
 use anyhow::Result;
+use geo_base::{Blob, Memory};
 use geo_io::{MemSink, MemSource};
-use geo_top::{Status, Word, geo_alone};
+use geo_top::{Answer, Status, Word, answer, geo_alone};
 use std::alloc::Global;
 
 /// What the line begins with that names a section.
@@ -30,6 +31,9 @@ enum Task {
     Stop,
     /// A run is to go on from bytes in hexadecimal, of which the last ones are cut off.
     Cuts,
+    /// A command is asked, by both calls, for an input in hexadecimal; one with a `stop` line begins with the state of the script before
+    /// that line.
+    Ask,
 }
 
 impl Task {
@@ -47,14 +51,34 @@ impl Task {
             Task::Stop
         } else if heading.starts_with(b"== cuts ") {
             Task::Cuts
+        } else if heading.starts_with(b"== ask ") {
+            Task::Ask
         } else {
             Task::Run
         }
     }
+
+    /// Whether a `stop` line parts the lines.
+    fn has_parts(self) -> bool {
+        self == Task::Stop || self == Task::Ask
+    }
+
+    /// Whether the lines are hexadecimal.
+    fn is_in_hex(self) -> bool {
+        self == Task::Resume || self == Task::Cuts || self == Task::Ask
+    }
+
+    /// Adds a line to lines: digits of hexadecimal without a line feed.
+    fn add(self, lines: &mut Vec<u8>, line: &[u8]) -> Result<()> {
+        if self.is_in_hex() {
+            Ok(lines.extend_from_slice(line)?)
+        } else {
+            add_line(lines, line)
+        }
+    }
 }
 
-/// A task with the line that names it and its lines so far; those behind the first `stop` line of a script that is saved there stand
-/// apart.
+/// A task with the line that names it and its lines so far; those behind the `stop` line that parts them stand apart.
 #[derive(Drop)]
 pub struct Section {
     task: Task,
@@ -76,32 +100,31 @@ impl Section {
 
     /// Adds a line.
     pub fn add(&mut self, alloc: Global, line: &[u8]) -> Result<()> {
+        let task = self.task;
         match &mut self.behind {
-            Some(behind) => add_line(behind, line),
-            None if self.task == Task::Stop && line == b"stop".as_slice() => {
+            Some(behind) => task.add(behind, line),
+            None if task.has_parts() && line == b"stop".as_slice() => {
                 self.behind = Some(Vec::new(alloc));
                 Ok(())
             }
-            None if self.task == Task::Resume || self.task == Task::Cuts => {
-                Ok(self.first.extend_from_slice(line)?)
-            }
-            None => add_line(&mut self.first, line),
+            None => task.add(&mut self.first, line),
         }
     }
 
     /// What is written for it.
     pub fn answer(&self, alloc: Global) -> Result<Vec<u8>> {
         match self.task {
-            Task::Run => Ok(answer(alloc, &["run"], self.first.as_slice())?.bytes),
+            Task::Run => Ok(ask(alloc, &["run"], self.first.as_slice())?.bytes),
             Task::Compact => self.numbered(alloc, "compact"),
             Task::Tiered => self.numbered(alloc, "tiered"),
             Task::Save => self.saved(alloc),
             Task::Resume => {
                 let bytes = hex::decode(alloc, self.first.as_slice())?;
-                Ok(answer(alloc, &["resume"], bytes.as_slice())?.bytes)
+                Ok(ask(alloc, &["resume"], bytes.as_slice())?.bytes)
             }
             Task::Stop => self.resumed(alloc),
             Task::Cuts => self.cuts(alloc),
+            Task::Ask => self.asked(alloc),
         }
     }
 
@@ -109,12 +132,12 @@ impl Section {
     fn numbered(&self, alloc: Global, word: &str) -> Result<Vec<u8>> {
         let heading = str::from_utf8(self.heading.as_slice())?;
         let number = heading.split_whitespace().nth(2).unwrap_or("");
-        Ok(answer(alloc, &[word, number], self.first.as_slice())?.bytes)
+        Ok(ask(alloc, &[word, number], self.first.as_slice())?.bytes)
     }
 
     /// The state file in hexadecimal, or the line that refuses the script.
     fn saved(&self, alloc: Global) -> Result<Vec<u8>> {
-        let written = answer(alloc, &["save"], self.first.as_slice())?;
+        let written = ask(alloc, &["save"], self.first.as_slice())?;
         if written.status == Status::Ok {
             in_hex(alloc, written.bytes.as_slice())
         } else {
@@ -124,11 +147,11 @@ impl Section {
 
     /// The report of the run that goes on from the state file.
     fn resumed(&self, alloc: Global) -> Result<Vec<u8>> {
-        let mut input = answer(alloc, &["save"], self.first.as_slice())?.bytes;
+        let mut input = ask(alloc, &["save"], self.first.as_slice())?.bytes;
         if let Some(behind) = &self.behind {
             input.extend_from_slice(behind.as_slice())?;
         }
-        Ok(answer(alloc, &["resume"], input.as_slice())?.bytes)
+        Ok(ask(alloc, &["resume"], input.as_slice())?.bytes)
     }
 
     /// What is answered to the bytes before each of them.
@@ -136,10 +159,52 @@ impl Section {
         let bytes = hex::decode(alloc, self.first.as_slice())?;
         let mut text = Vec::new(alloc);
         for cut in 0..bytes.len() {
-            let written = answer(alloc, &["resume"], &bytes[..cut])?;
+            let written = ask(alloc, &["resume"], &bytes[..cut])?;
             text.extend_from_slice(written.bytes.as_slice())?;
         }
         Ok(text)
+    }
+
+    /// How the command ends whose words stand behind the section's name, and what it writes; and what is answered over bytes, where that
+    /// is something else.
+    fn asked(&self, alloc: Global) -> Result<Vec<u8>> {
+        let words = self.words(alloc)?;
+        let text = self.asked_in_words(alloc, words.as_slice());
+        drop(words);
+        text
+    }
+
+    fn asked_in_words(&self, alloc: Global, words: &[Word]) -> Result<Vec<u8>> {
+        let input = self.input(alloc)?;
+        let mut text = over_source(alloc, words, input.as_slice())?;
+        let other = over_bytes(alloc, words, input.as_slice())?;
+        if text.as_slice() != other.as_slice() {
+            text.extend_from_slice(b"over bytes ")?;
+            text.extend_from_slice(other.as_slice())?;
+        }
+        Ok(text)
+    }
+
+    /// The words behind the section's name.
+    fn words(&self, alloc: Global) -> Result<Vec<Word>> {
+        let heading = str::from_utf8(self.heading.as_slice())?;
+        let mut words = Vec::new(alloc);
+        for word in heading.split_whitespace().skip(3) {
+            words.push(Word::from_str(alloc, word)?)?;
+        }
+        Ok(words)
+    }
+
+    /// The bytes of its lines: where a `stop` line parts them, the state file of the script before it, and the bytes behind it.
+    fn input(&self, alloc: Global) -> Result<Vec<u8>> {
+        let first = hex::decode(alloc, self.first.as_slice())?;
+        let Some(behind) = &self.behind else {
+            return Ok(first);
+        };
+        let mut input = ask(alloc, &["save"], first.as_slice())?.bytes;
+        let bytes = hex::decode(alloc, behind.as_slice())?;
+        input.extend_from_slice(bytes.as_slice())?;
+        Ok(input)
     }
 }
 
@@ -151,20 +216,59 @@ struct Written {
 }
 
 /// What a command writes for an input.
-fn answer(alloc: Global, command: &[&str], input: &[u8]) -> Result<Written> {
+fn ask(alloc: Global, command: &[&str], input: &[u8]) -> Result<Written> {
     let mut words = Vec::new(alloc);
     for word in command {
         words.push(Word::from_str(alloc, word)?)?;
     }
+    let written = ask_in_words(alloc, words.as_slice(), input);
+    drop(words);
+    written
+}
+
+fn ask_in_words(alloc: Global, words: &[Word], input: &[u8]) -> Result<Written> {
     let mut source = MemSource::new(alloc, input, PIECE, &[])?;
     let mut sink = MemSink::new(alloc, PIECE, &[])?;
-    match geo_alone(alloc, words.as_slice(), &mut source, &mut sink) {
-        Status::OutOfMemory => anyhow::bail!("out of memory"),
-        status => Ok(Written {
-            status,
-            bytes: sink.bytes().to_vec(alloc)?,
-        }),
+    let status = end_of(alloc, words, &mut source, &mut sink);
+    drop(source);
+    let bytes = sink.bytes().to_vec(alloc);
+    drop(sink);
+    if status == Status::OutOfMemory {
+        anyhow::bail!("out of memory");
     }
+    Ok(Written {
+        status,
+        bytes: bytes?,
+    })
+}
+
+/// How the program ends: a function of its own, since what the call promises is long, and whoever holds it is slow to prove.
+fn end_of(alloc: Global, words: &[Word], source: &mut MemSource, sink: &mut MemSink) -> Status {
+    geo_alone(alloc, words, source, sink)
+}
+
+/// How the program ends over a source and a sink, and what it writes.
+fn over_source(alloc: Global, words: &[Word], input: &[u8]) -> Result<Vec<u8>> {
+    let written = ask_in_words(alloc, words, input)?;
+    with_number(alloc, written.status.number(), written.bytes.as_slice())
+}
+
+/// What the program answers over bytes.
+fn over_bytes(alloc: Global, words: &[Word], input: &[u8]) -> Result<Vec<u8>> {
+    let shown = answered(alloc, words, Blob::from_slice(alloc, input)?)?;
+    with_number(alloc, shown.status.number(), shown.bytes.as_slice())
+}
+
+fn answered(alloc: Global, words: &[Word], input: Blob) -> Result<Answer, Memory> {
+    answer(alloc, words, input)
+}
+
+/// A line with a status's number, and what comes with it.
+fn with_number(alloc: Global, number: u8, bytes: &[u8]) -> Result<Vec<u8>> {
+    let line = format!(in alloc; "status {number}\n")?;
+    let mut text = line.as_bytes().to_vec(alloc)?;
+    text.extend_from_slice(bytes)?;
+    Ok(text)
 }
 
 /// Bytes in lines of hexadecimal.
