@@ -251,14 +251,9 @@ fn are_same(scenario: &Scenario, world: &World, books: &Books) -> bool
         && is_same_client(scenario, world, 1, books, CONSUMER)
 }
 
-/// What the books and the world came to.
-#[derive(Clone, Copy, Debug, Drop)]
-struct Told {
-    first_wrong: usize,
-    is_same: bool,
-    events: u64,
-    idle: u64,
-}
+/// Whether the books did what the world did at each event of the script, and came to the same; how many events the world did, and how many
+/// were idle.
+type Told = (bool, bool, u64, u64);
 
 /// Does the events of the script at the books and in the world.
 fn compare(
@@ -270,12 +265,25 @@ fn compare(
     requires { IsAt scenario.now.setup world.old }
 {
     let first_wrong = first_wrong(alloc, scenario, world, books)?;
-    Ok(Told {
-        first_wrong,
-        is_same: are_same(scenario, world, books),
-        events: world.events(),
-        idle: world.counts().idle,
-    })
+    Ok((
+        first_wrong == scenario.steps().len(),
+        are_same(scenario, world, books),
+        world.events(),
+        world.counts().idle,
+    ))
+}
+
+/// And in a new world.
+fn compare_new(alloc: Global, scenario: &Scenario, books: &mut Books) -> Result<Told, Memory> {
+    let mut world = World::new(alloc, scenario)?;
+    let told = compare(alloc, scenario, &mut world, books);
+    drop(world);
+    told
+}
+
+fn tell(alloc: Global, scenario: &Arc<Scenario>, books: &mut Books) -> Result<Told, Memory> {
+    open(alloc, scenario, books)?;
+    compare_new(alloc, scenario, books)
 }
 
 #[test]
@@ -283,14 +291,9 @@ fn books_and_a_world_come_to_the_same(rt: HostRuntime) -> Result<(), Fail> {
     let alloc = rt.alloc();
     let scenario = Arc::new(alloc, read_script(alloc, SCRIPT)?)?;
     let mut books = Vec::new(alloc);
-    open(alloc, &scenario, &mut books)?;
-    let mut world = World::new(alloc, &scenario)?;
-    let told = compare(alloc, &scenario, &mut world, &mut books);
-    drop(world);
-    let told = told?;
-    assert_eq!(rt; told.first_wrong, scenario.steps().len());
-    assert!(rt; told.is_same);
-    assert_eq!(rt; told.events, 48);
-    assert_eq!(rt; told.idle, 5);
+    let told = tell(alloc, &scenario, &mut books);
+    drop(books);
+    drop(scenario);
+    assert!(rt; told? == (true, true, 48, 5));
     Ok(())
 }

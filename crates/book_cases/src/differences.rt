@@ -38,10 +38,12 @@ fn the_first_difference_is_told(rt: HostRuntime) -> Result<(), Fail> {
     let alloc = rt.alloc();
     let scenario = Arc::new(alloc, read_script(alloc, SCRIPT)?)?;
     let configs = Configs::of(&scenario)?;
-    let differs_nowhere = differs_nowhere(alloc, &scenario, &configs)?;
-    let other = first_other(alloc, &scenario, &configs)?;
-    assert!(rt; differs_nowhere, "nothing differs");
-    assert_eq!(rt; other, None);
+    let differs_nowhere = differs_nowhere(alloc, &scenario, &configs);
+    let other = first_other(alloc, &scenario, &configs);
+    drop(configs);
+    drop(scenario);
+    assert!(rt; differs_nowhere?, "nothing differs");
+    assert_eq!(rt; other?, None);
     Ok(())
 }
 
@@ -52,7 +54,9 @@ fn differs_nowhere(
     configs: &Configs,
 ) -> Result<bool, Memory> {
     let merge = merge_of(alloc, scenario, configs, [0, 1, 2], &[])?;
-    Ok(merge.differs.is_none() && has_all(&merge))
+    let differs_nowhere = merge.differs.is_none() && has_all(&merge);
+    drop(merge);
+    Ok(differs_nowhere)
 }
 
 /// The number of the first case that is told otherwise.
@@ -63,7 +67,9 @@ fn first_other(
 ) -> Result<Option<usize>, Memory> {
     for (number, (wrong, first)) in CASES.iter().enumerate() {
         let merge = merge_of(alloc, scenario, configs, [0, 1, 2], wrong)?;
-        if !is_case(&merge, wrong, *first) {
+        let is_told = is_case(&merge, wrong, *first);
+        drop(merge);
+        if !is_told {
             return Ok(Some(number));
         }
     }

@@ -1,7 +1,9 @@
 //! An event that is idle, or another node's, is not done.
 use crate::books::{Books, act, add_broker, events_of, scenario, stamp_of};
 use geo_base::{Event, Memory};
+use script_text::Scenario;
 use std::alloc::Global;
+use std::sync::Arc;
 use std::test::Fail;
 
 /// At a broker without a session: none of them is done.
@@ -42,20 +44,32 @@ fn does_none(alloc: Global, books: &mut Books) -> Result<bool, Memory> {
     Ok(true)
 }
 
+const RESTART: Event = Event::Restart {
+    topic: 0,
+    cluster: 0,
+};
+
+/// Whether none is done and none stands in the book, and an event that is not idle is done; how many events stand there then, and the
+/// last stamp.
+fn tell(
+    alloc: Global,
+    scenario: &Arc<Scenario>,
+    books: &mut Books,
+) -> Result<(bool, bool, usize, u64), Memory> {
+    add_broker(alloc, scenario, 0, 2, books)?;
+    let is_left = does_none(alloc, books)? && events_of(books, 0) == 0;
+    let is_done = act(alloc, books, 0, &RESTART)?;
+    Ok((is_left, is_done, events_of(books, 0), stamp_of(books, 0)))
+}
+
 #[test]
 fn an_idle_event_is_not_done(rt: HostRuntime) -> Result<(), Fail> {
     let alloc = rt.alloc();
     let scenario = scenario(alloc)?;
     let mut books = Vec::new(alloc);
-    add_broker(alloc, &scenario, 0, 2, &mut books)?;
-    assert!(rt; does_none(alloc, &mut books)?);
-    assert_eq!(rt; events_of(&books, 0), 0);
-    let restart = Event::Restart {
-        topic: 0,
-        cluster: 0,
-    };
-    assert!(rt; act(alloc, &mut books, 0, &restart)?);
-    assert_eq!(rt; events_of(&books, 0), 1);
-    assert_eq!(rt; stamp_of(&books, 0), 1);
+    let told = tell(alloc, &scenario, &mut books);
+    drop(books);
+    drop(scenario);
+    assert!(rt; told? == (true, true, 1, 1));
     Ok(())
 }

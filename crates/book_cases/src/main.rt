@@ -1,4 +1,5 @@
-//! Tests of books of nodes and of their merge, in a crate of their own: a crate with tests is proved a second time with them.
+//! Tests of books of nodes, of their merge, of actors and of runs on threads, in a crate of their own: a crate with tests is proved a
+//! second time with them.
 //!
 //! It is a program that does nothing, and no library: each time the gate builds a library it sums up the files of all that this one
 //! stands on, once for each path to them, which took it minutes here.
@@ -17,8 +18,14 @@ mod merging;
 #[cfg(test)]
 mod places;
 #[cfg(test)]
+mod rotation;
+#[cfg(test)]
 mod story;
 #[cfg(test)]
 mod strange;
+#[cfg(test)]
+mod threads;
+#[cfg(test)]
+mod turns;
 
 fn main(_rt: HostRuntime) {}

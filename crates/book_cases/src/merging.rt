@@ -15,7 +15,7 @@ use wire_ends::WirePacket;
 pub const SCRIPT: &[u8] = b"geo 1\ncluster a\ncluster b\ntopic t\nclient p t a\n";
 
 /// A node of the script.
-#[derive(Clone, Copy, Debug, Drop, PartialEq, Eq)]
+#[derive(Clone, Copy, Drop)]
 pub enum Place {
     West,
     East,
@@ -23,7 +23,7 @@ pub enum Place {
 }
 
 /// A packet that an event takes: its stamp and its frame, from which peer, and how many came from there before.
-#[derive(Clone, Copy, Debug, Drop)]
+#[derive(Clone, Copy, Drop)]
 pub struct Taken {
     pub stamp: u64,
     pub frame: &'static str,
@@ -32,7 +32,7 @@ pub struct Taken {
 }
 
 /// An event, at which node, with its stamp, the packet that it takes, and the frame that it sends to a peer.
-#[derive(Clone, Copy, Debug, Drop)]
+#[derive(Clone, Copy, Drop)]
 pub struct Row {
     pub place: Place,
     pub event: Event,
@@ -148,7 +148,7 @@ const TAKE: Event = Event::Take {
 };
 
 /// What is wrong of a row.
-#[derive(Clone, Copy, Debug, Drop, PartialEq, Eq)]
+#[derive(Clone, Copy, Drop, PartialEq, Eq)]
 pub enum Wrong {
     Session,
     Stamp,
@@ -172,15 +172,30 @@ impl Histories {
             east: Vec::new(alloc),
             client: Vec::new(alloc),
         };
-        for (number, row) in ROWS.iter().enumerate() {
-            let done = done_of(alloc, row, wrong_of(wrong, number))?;
-            match row.place {
-                Place::West => histories.west.push(done)?,
-                Place::East => histories.east.push(done)?,
-                Place::Client => histories.client.push(done)?,
+        match histories.fill(alloc, wrong) {
+            Ok(()) => Ok(histories),
+            Err(fault) => {
+                drop(histories);
+                Err(fault)
             }
         }
-        Ok(histories)
+    }
+
+    fn fill(&mut self, alloc: Global, wrong: &[(usize, Wrong)]) -> Result<(), Memory> {
+        for (number, row) in ROWS.iter().enumerate() {
+            let done = done_of(alloc, row, wrong_of(wrong, number))?;
+            self.add(row.place, done)?;
+        }
+        Ok(())
+    }
+
+    fn add(&mut self, place: Place, done: Done) -> Result<(), Memory> {
+        match place {
+            Place::West => self.west.push(done)?,
+            Place::East => self.east.push(done)?,
+            Place::Client => self.client.push(done)?,
+        }
+        Ok(())
     }
 
     /// Books with these configurations and numbers.
@@ -229,6 +244,22 @@ fn wrong_of(wrong: &[(usize, Wrong)], number: usize) -> Option<Wrong> {
 
 /// What a row says, wrong as told.
 fn done_of(alloc: Global, row: &Row, wrong: Option<Wrong>) -> Result<Done, Memory> {
+    Ok(Done {
+        event: row.event,
+        taken: taken_of(alloc, row, wrong)?,
+        sent: sent_of(alloc, row, wrong)?,
+        stamp: Stamp::new(row.stamp),
+    })
+}
+
+fn taken_of(alloc: Global, row: &Row, wrong: Option<Wrong>) -> Result<Option<WirePacket>, Memory> {
+    match row.taken {
+        Some(taken) => Ok(Some(packet(alloc, taken.stamp, taken.frame, wrong)?)),
+        None => Ok(None),
+    }
+}
+
+fn sent_of(alloc: Global, row: &Row, wrong: Option<Wrong>) -> Result<Vec<Sent>, Memory> {
     let mut sent = Vec::new(alloc);
     if let Some((to, frame)) = row.sent
         && wrong != Some(Wrong::NothingSent)
@@ -236,16 +267,7 @@ fn done_of(alloc: Global, row: &Row, wrong: Option<Wrong>) -> Result<Done, Memor
         let packet = packet(alloc, row.stamp, frame, None)?;
         sent.push(Sent { to, packet })?;
     }
-    let taken = match row.taken {
-        Some(taken) => Some(packet(alloc, taken.stamp, taken.frame, wrong)?),
-        None => None,
-    };
-    Ok(Done {
-        event: row.event,
-        taken,
-        sent,
-        stamp: Stamp::new(row.stamp),
-    })
+    Ok(sent)
 }
 
 /// A packet of session 1, wrong as told.
@@ -279,6 +301,18 @@ pub fn merge_of(
     wrong: &[(usize, Wrong)],
 ) -> Result<Merged, Memory> {
     let histories = Histories::of(alloc, wrong)?;
+    let merge = merge_in(alloc, scenario, &histories, configs, numbers);
+    drop(histories);
+    merge
+}
+
+fn merge_in(
+    alloc: Global,
+    scenario: &Arc<Scenario>,
+    histories: &Histories,
+    configs: &Configs,
+    numbers: [u32; 3],
+) -> Result<Merged, Memory> {
     let books = histories.books(alloc, configs, numbers)?;
     merged(alloc, scenario, books.as_slice())
 }

@@ -27,8 +27,10 @@ fn the_first_strange_book_is_told(rt: HostRuntime) -> Result<(), Fail> {
     let alloc = rt.alloc();
     let scenario = Arc::new(alloc, read_script(alloc, SCRIPT)?)?;
     let other = Arc::new(alloc, read_script(alloc, OTHER)?)?;
-    let wrong = first_other(alloc, &scenario, &other)?;
-    assert_eq!(rt; wrong, None);
+    let wrong = first_other(alloc, &scenario, &other);
+    drop(other);
+    drop(scenario);
+    assert_eq!(rt; wrong?, None);
     Ok(())
 }
 
@@ -55,9 +57,14 @@ fn is_case(
 ) -> Result<bool, Memory> {
     let (numbers, keeps_other, first, number, steps) = *case;
     let configs = configs_of(scenario, other, keeps_other)?;
-    let merge = merge_of(alloc, scenario, &configs, numbers, &[])?;
+    let merge = merge_of(alloc, scenario, &configs, numbers, &[]);
+    drop(configs);
+    let merge = merge?;
     let kept = if keeps_other < 3 { other } else { scenario };
-    Ok(merge.steps.len() == steps && is_told(alloc, &merge, first, number, kept, scenario)?)
+    let is_told = is_told(alloc, &merge, first, number, kept, scenario);
+    let has_steps = merge.steps.len() == steps;
+    drop(merge);
+    Ok(has_steps && is_told?)
 }
 
 /// The first scenario at all nodes but one.
@@ -66,14 +73,14 @@ fn configs_of(
     other: &Arc<Scenario>,
     keeps_other: u32,
 ) -> Result<Configs, Memory> {
-    let mut configs = Configs::of(scenario)?;
-    match keeps_other {
-        0 => configs.west = Arc::try_clone(other)?,
-        1 => configs.east = Arc::try_clone(other)?,
-        2 => configs.client = Arc::try_clone(other)?,
-        _ => {}
-    }
-    Ok(configs)
+    let west = if keeps_other == 0 { other } else { scenario };
+    let east = if keeps_other == 1 { other } else { scenario };
+    let client = if keeps_other == 2 { other } else { scenario };
+    Ok(Configs {
+        west: Arc::try_clone(west)?,
+        east: Arc::try_clone(east)?,
+        client: Arc::try_clone(client)?,
+    })
 }
 
 /// Whether the first strange book is at a place, and has this number and keeps this scenario.

@@ -1,9 +1,18 @@
-//! Tests of the whole program with its threads, in a crate of their own: a crate with tests is proved a second time with them.
+//! Tests of the whole program, in a crate of their own: a crate with tests is proved a second time with them, and whoever builds the
+//! program builds none of them.
 //!
-//! It is a program that does nothing, and no library: each time the gate builds a library it sums up the files of all that this one
-//! stands on, once for each path to them, which took it minutes here.
+//! It is a program that does nothing, and no library: some versions of the toolchain's gate sum up, each time they build a library,
+//! the files of all that it stands on, once for each path to them, which took minutes here.
 #![tactic(auto)]
 
+#[cfg(test)]
+mod answers;
+#[cfg(test)]
+mod asked;
+#[cfg(test)]
+mod audits;
+#[cfg(test)]
+mod limits;
 #[cfg(test)]
 mod outputs;
 #[cfg(test)]
@@ -12,5 +21,7 @@ mod program;
 mod refusals;
 #[cfg(test)]
 mod replays;
+#[cfg(test)]
+mod sizes;
 
 fn main(_rt: HostRuntime) {}

@@ -3,7 +3,7 @@ ghost use Rattle.std.specs.Prelude.{◌≡◌};
 ghost use Rattle.std.specs.Arc.{arc_value};
 ghost use Rattle.geo_base.specs.Nodes.{node_count};
 
-use geo_base::{Event, Memory};
+use geo_base::{Blob, Event, Memory};
 use link_rings::RingEnd;
 use live_output::live_output;
 use node_book::{BookList, NodeBook};
@@ -61,11 +61,12 @@ fn add_client(
 
 fn connected(alloc: Global, book: NodeBook<RingEnd>) -> Result<NodeBook<RingEnd>, Memory> {
     let mut book = book;
-    if book.act(alloc, &Event::Reconnect { client: 0 })? {
-        Ok(book)
-    } else {
-        drop(book);
-        Err(Memory)
+    match book.act(alloc, &Event::Reconnect { client: 0 }) {
+        Ok(true) => Ok(book),
+        _ => {
+            drop(book);
+            Err(Memory)
+        }
     }
 }
 
@@ -76,19 +77,56 @@ fn three_books(
 ) -> Result<BookList<RingEnd>, Memory> {
     let mut rings = NodeRings::new(alloc, scenario)?;
     let mut books = BookList::new(alloc);
-    add_broker(alloc, scenario, 0, &mut rings, &mut books)?;
-    add_broker(alloc, scenario, 1, &mut rings, &mut books)?;
-    add_client(alloc, scenario, &mut rings, &mut books)?;
-    Ok(books)
+    let added = add_three(alloc, scenario, &mut rings, &mut books);
+    drop(rings);
+    match added {
+        Ok(()) => Ok(books),
+        Err(fault) => {
+            drop(books);
+            Err(fault)
+        }
+    }
+}
+
+fn add_three(
+    alloc: Global,
+    scenario: &Arc<Scenario, Global>,
+    rings: &mut NodeRings,
+    books: &mut BookList<RingEnd>,
+) -> Result<(), Memory>
+    requires { rings.old ≡ node_count (arc_value scenario.now).setup }
+{
+    add_broker(alloc, scenario, 0, rings, books)?;
+    add_broker(alloc, scenario, 1, rings, books)?;
+    add_client(alloc, scenario, rings, books)
+}
+
+/// What is written of books; want of memory where they are not as many as the scenario has nodes.
+fn written(
+    alloc: Global,
+    scenario: &Arc<Scenario>,
+    books: &BookList<RingEnd>,
+) -> Result<Blob, Memory> {
+    if books.as_slice().len() != node_count(scenario) as usize {
+        return Err(Memory);
+    }
+    live_output(alloc, scenario, books)
+}
+
+/// What is written of the three books.
+fn written_of_three(alloc: Global, scenario: &Arc<Scenario>) -> Result<Blob, Memory> {
+    let books = three_books(alloc, scenario)?;
+    let output = written(alloc, scenario, &books);
+    drop(books);
+    output
 }
 
 #[test]
 fn one_event_is_settled(rt: HostRuntime) -> Result<(), Fail> {
     let alloc = rt.alloc();
     let scenario = Arc::new(alloc, read_script(alloc, SCRIPT)?)?;
-    let books = three_books(alloc, &scenario)?;
-    assert!(rt; books.as_slice().len() == node_count(&scenario) as usize);
-    let output = live_output(alloc, &scenario, &books)?;
-    assert_eq!(rt; output.as_slice(), OUTPUT);
+    let output = written_of_three(alloc, &scenario);
+    drop(scenario);
+    assert!(rt; output?.as_slice() == OUTPUT);
     Ok(())
 }

@@ -1,5 +1,5 @@
-//! The program over bytes in memory.
-use geo_base::Text;
+//! The whole program over bytes in memory.
+use crate::asked::words_of;
 use geo_io::{MemSink, MemSource, OpenGate};
 use geo_live::geo_main;
 use geo_top::{Status, Word};
@@ -11,22 +11,40 @@ use std::thread::Threads;
 /// More than a call of these tests moves.
 const AT_ONCE: usize = 10_000_000;
 
-/// A sink that takes all.
-pub fn open_sink(alloc: Global) -> Result<MemSink, Fail> {
-    Ok(MemSink::new(alloc, AT_ONCE, &[])?)
+/// Whether the program answers words and an input by a status of this number and these bytes.
+pub fn is_answered<R: Threads + Wait + Sync>(
+    rt: &R,
+    alloc: Global,
+    line: &[&str],
+    input: &[u8],
+    number: u8,
+    bytes: &[u8],
+) -> Result<bool, Fail> {
+    let mut sink = MemSink::new(alloc, AT_ONCE, &[])?;
+    let given = answer(rt, alloc, line, input, &mut sink)?;
+    Ok(given.number() == number && sink.bytes() == bytes)
 }
 
-/// The words of a command line.
-fn words_of(alloc: Global, line: &[&str]) -> Result<Vec<Word>, Fail> {
-    let mut words = Vec::new(alloc);
-    for word in line {
-        words.push(Text::from_str(alloc, word)?)?;
+/// What the program writes for words and an input that it takes.
+pub fn written<R: Threads + Wait + Sync>(
+    rt: &R,
+    alloc: Global,
+    line: &[&str],
+    input: &[u8],
+) -> Result<Vec<u8>, Fail> {
+    let mut sink = MemSink::new(alloc, AT_ONCE, &[])?;
+    let given = answer(rt, alloc, line, input, &mut sink);
+    let bytes = sink.bytes().to_vec(alloc);
+    drop(sink);
+    if given? == Status::Ok {
+        Ok(bytes?)
+    } else {
+        Err(Fail::new("another answer"))
     }
-    Ok(words)
 }
 
 /// What the program answers to words and an input; what it writes is in the sink.
-pub fn answer<R: Threads + Wait + Sync>(
+fn answer<R: Threads + Wait + Sync>(
     rt: &R,
     alloc: Global,
     line: &[&str],
@@ -35,5 +53,15 @@ pub fn answer<R: Threads + Wait + Sync>(
 ) -> Result<Status, Fail> {
     let words = words_of(alloc, line)?;
     let mut source = MemSource::new(alloc, input, AT_ONCE, &[])?;
-    Ok(geo_main(rt, alloc, words.as_slice(), &mut source, sink, &OpenGate))
+    Ok(ended(rt, alloc, words.as_slice(), &mut source, sink))
+}
+
+fn ended<R: Threads + Wait + Sync>(
+    rt: &R,
+    alloc: Global,
+    words: &[Word],
+    source: &mut MemSource,
+    sink: &mut MemSink,
+) -> Status {
+    geo_main(rt, alloc, words, source, sink, &OpenGate)
 }

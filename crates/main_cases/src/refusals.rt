@@ -1,10 +1,7 @@
 //! Scripts and words that `live` refuses.
-use crate::program::{answer, open_sink};
-use geo_top::Status;
-use std::alloc::Global;
-use std::sync::Wait;
+use crate::asked::USAGE;
+use crate::program::is_answered;
 use std::test::Fail;
-use std::thread::Threads;
 
 /// A script with a schedule is refused at its first step, by rule 20; but where a line breaks another rule, also one behind that
 /// step, by that one. A second line of chances is refused under each command that reads a script.
@@ -29,21 +26,9 @@ fn scripts_with_a_schedule_are_refused(rt: HostRuntime) -> Result<(), Fail> {
         ),
     ];
     for (script, line) in scripts {
-        assert!(rt; is_refused(&rt, rt.alloc(), script, line)?);
+        assert!(rt; is_answered(&rt, rt.alloc(), &["live", "2", "5"], script, 3, line)?);
     }
     Ok(())
-}
-
-/// Whether the program answers a script by status 3 and a line.
-fn is_refused<R: Threads + Wait + Sync>(
-    rt: &R,
-    alloc: Global,
-    script: &[u8],
-    line: &[u8],
-) -> Result<bool, Fail> {
-    let mut sink = open_sink(alloc)?;
-    let status = answer(rt, alloc, &["live", "2", "5"], script, &mut sink)?;
-    Ok(status.number() == 3 && sink.bytes() == line)
 }
 
 /// One worker and one turn at least, 64 workers and 2,000,000 turns of all together at most.
@@ -61,17 +46,7 @@ fn so_many_workers_and_turns(rt: HostRuntime) -> Result<(), Fail> {
         &["live", "1", "1", "1"],
     ];
     for line in lines {
-        assert_eq!(rt; status_of(&rt, rt.alloc(), line)?, Status::Usage);
+        assert!(rt; is_answered(&rt, rt.alloc(), line, b"", 2, USAGE)?);
     }
     Ok(())
-}
-
-/// The status by which the program answers words, with nothing to read.
-fn status_of<R: Threads + Wait + Sync>(
-    rt: &R,
-    alloc: Global,
-    line: &[&str],
-) -> Result<Status, Fail> {
-    let mut sink = open_sink(alloc)?;
-    answer(rt, alloc, line, b"", &mut sink)
 }

@@ -1,11 +1,10 @@
 //! What `live` prints, and what `run` makes of it.
-use crate::program::{answer, open_sink};
-use geo_base::Blob;
+use crate::program::written;
+use geo_base::{Blob, Memory};
 use geo_io::OpenGate;
-use geo_top::Status;
 use live_output::live_output;
 use live_run::live;
-use script_text::read_script;
+use script_text::{Scenario, read_script};
 use std::alloc::Global;
 use std::sync::{Arc, Wait};
 use std::test::Fail;
@@ -50,20 +49,33 @@ fn count_of(text: &[u8], line: &[u8]) -> u64 {
 /// messages, the client all receipts, and the last line settles.
 #[test]
 fn one_worker_prints_what_its_books_make(rt: HostRuntime) -> Result<(), Fail> {
-    let alloc = rt.alloc();
-    let mut sink = open_sink(alloc)?;
-    let status = answer(&rt, alloc, &["live", "1", "2000"], STORY, &mut sink)?;
-    let made = made(&rt, alloc)?;
-    let is_made = sink.bytes() == made.as_slice();
-    assert!(rt; status == Status::Ok && is_made && tells_the_story(sink.bytes()));
+    assert!(rt; prints_what_is_made(&rt, rt.alloc())?);
     Ok(())
+}
+
+fn prints_what_is_made<R: Threads + Wait + Sync>(rt: &R, alloc: Global) -> Result<bool, Fail> {
+    let printed = written(rt, alloc, &["live", "1", "2000"], STORY)?;
+    let made = made(rt, alloc)?;
+    Ok(printed.as_slice() == made.as_slice() && tells_the_story(printed.as_slice()))
 }
 
 /// What the books of one worker make.
 fn made<R: Threads + Wait + Sync>(rt: &R, alloc: Global) -> Result<Blob, Fail> {
     let scenario = Arc::new(alloc, read_script(alloc, STORY)?)?;
-    let books = live(rt, alloc, &scenario, 1, 2000, &OpenGate)?;
-    Ok(live_output(alloc, &scenario, &books)?)
+    let output = made_of(rt, alloc, &scenario);
+    drop(scenario);
+    Ok(output?)
+}
+
+fn made_of<R: Threads + Wait + Sync>(
+    rt: &R,
+    alloc: Global,
+    scenario: &Arc<Scenario>,
+) -> Result<Blob, Memory> {
+    let books = live(rt, alloc, scenario, 1, 2000, &OpenGate)?;
+    let output = live_output(alloc, scenario, &books);
+    drop(books);
+    output
 }
 
 /// Whether both clusters have the three messages, the client has all receipts, and the last line settles.
@@ -91,16 +103,24 @@ fn replayed<R: Threads + Wait + Sync>(
     line: &[&str],
     script: &[u8],
 ) -> Result<bool, Fail> {
-    let mut printed = open_sink(alloc)?;
-    let status = answer(rt, alloc, line, script, &mut printed)?;
-    let Some((report, schedule)) = parts(printed.bytes()) else {
+    let printed = written(rt, alloc, line, script)?;
+    let Some((report, schedule)) = parts(printed.as_slice()) else {
         return Ok(false);
     };
+    let again = run_behind(rt, alloc, script, schedule)?;
+    Ok(again.as_slice() == report)
+}
+
+/// The report of a script with a schedule behind it.
+fn run_behind<R: Threads + Wait + Sync>(
+    rt: &R,
+    alloc: Global,
+    script: &[u8],
+    schedule: &[u8],
+) -> Result<Vec<u8>, Fail> {
     let mut whole = script.to_vec(alloc)?;
     whole.extend_from_slice(schedule)?;
-    let mut again = open_sink(alloc)?;
-    let other = answer(rt, alloc, &["run"], whole.as_slice(), &mut again)?;
-    Ok(status == Status::Ok && other == Status::Ok && again.bytes() == report)
+    written(rt, alloc, &["run"], whole.as_slice())
 }
 
 /// Whatever the order is in which the threads run.

@@ -1,9 +1,8 @@
 //! Many names, a long text and a long topic: sizes at which a number of eight or sixteen bits is at its end. Want of memory may be
 //! answered to whatever is asked, so no clause refuses a program that counts in fewer bits than it says and calls what does not fit
 //! want of memory; these tests refuse it.
-use crate::asked::answered;
+use crate::asked::bytes_of;
 use geo_base::Blob;
-use geo_top::Status;
 use state_items::put_text;
 use std::alloc::Global;
 use std::test::Fail;
@@ -23,19 +22,21 @@ const TOPICS: u32 = 16;
 /// What comes before the topics of a script.
 const CLUSTERS: &str = "geo 1\nledger 70000\ncluster a\ncluster b\n";
 
-/// What a command answers to a text that it takes.
-fn bytes_of(alloc: Global, word: &str, input: &[u8]) -> Result<Blob, Fail> {
-    let shown = answered(alloc, &[word], input)?;
-    match shown.status {
-        Status::Ok => Ok(shown.bytes),
-        _ => Err(Fail::new("another answer")),
-    }
-}
-
 /// A script whose names are more than eight bits count is run.
 #[test]
 fn names_have_more_than_eight_bits(rt: HostRuntime) -> Result<(), Fail> {
-    let alloc = rt.alloc();
+    assert!(rt; takes_many_names(rt.alloc())?);
+    Ok(())
+}
+
+fn takes_many_names(alloc: Global) -> Result<bool, Fail> {
+    let script = many_names(alloc)?;
+    let run = bytes_of(alloc, "run", script.as_bytes())?;
+    Ok(run.as_slice().starts_with(b"events 0 idle 0 rounds 0\n"))
+}
+
+/// A script with so many clients, which declares alone.
+fn many_names(alloc: Global) -> Result<String, Fail> {
     let mut script = String::from_str(alloc, CLUSTERS)?;
     for topic in 0..TOPICS {
         let line = format!(in alloc; "topic t{topic}\n")?;
@@ -46,33 +47,43 @@ fn names_have_more_than_eight_bits(rt: HostRuntime) -> Result<(), Fail> {
         let line = format!(in alloc; "client c{number} t{topic} a\n")?;
         script.push_str(line.as_str())?;
     }
-    let run = bytes_of(alloc, "run", script.as_bytes())?;
-    assert!(rt; run.as_slice().starts_with(b"events 0 idle 0 rounds 0\n"));
-    Ok(())
+    Ok(script)
 }
 
 /// A text that is longer than sixteen bits count is appended behind its length.
 #[test]
 fn texts_have_more_than_sixteen_bits(rt: HostRuntime) -> Result<(), Fail> {
-    let alloc = rt.alloc();
+    assert_eq!(rt; appended(rt.alloc())?, MANY_BYTES + 4);
+    Ok(())
+}
+
+/// How many bytes such a text is as an item.
+fn appended(alloc: Global) -> Result<usize, Fail> {
     let long = vec![in alloc; b'x'; MANY_BYTES]?;
     let mut out = Blob::new(alloc);
     put_text(&mut out, long.as_slice())?;
-    assert_eq!(rt; out.as_slice().len(), MANY_BYTES + 4);
-    Ok(())
+    Ok(out.as_slice().len())
 }
 
 /// A topic of more entries than sixteen bits count is saved and goes on: the report is that of the one run.
 #[test]
 fn topics_have_more_than_sixteen_bits(rt: HostRuntime) -> Result<(), Fail> {
-    let alloc = rt.alloc();
+    assert!(rt; resumes_as_one(rt.alloc())?);
+    Ok(())
+}
+
+fn resumes_as_one(alloc: Global) -> Result<bool, Fail> {
     let mut script = many_messages(alloc)?;
-    let file = bytes_of(alloc, "save", script.as_bytes())?;
-    let resumed = bytes_of(alloc, "resume", file.as_slice())?;
+    let later = resumed(alloc, script.as_bytes())?;
     script.push_str("stop\n")?;
     let run = bytes_of(alloc, "run", script.as_bytes())?;
-    assert_eq!(rt; resumed.as_slice(), run.as_slice());
-    Ok(())
+    Ok(later.as_slice() == run.as_slice())
+}
+
+/// The report of a script that is saved and resumed.
+fn resumed(alloc: Global, script: &[u8]) -> Result<Blob, Fail> {
+    let file = bytes_of(alloc, "save", script)?;
+    bytes_of(alloc, "resume", file.as_slice())
 }
 
 /// A script whose one producer publishes so many messages.

@@ -24,7 +24,9 @@ fn first_book(
 ) -> Result<NodeBook<RingEnd>, Memory> {
     let _known = scenario.topics();
     let mut rings = NodeRings::new(alloc, scenario)?;
-    let ends = rings.broker(alloc, scenario, 0, 0)?;
+    let ends = rings.broker(alloc, scenario, 0, 0);
+    drop(rings);
+    let ends = ends?;
     let shared = Arc::try_clone(scenario)?;
     NodeBook::broker(alloc, shared, 0, 0, ends)
 }
@@ -42,9 +44,32 @@ struct Turn {
 
 fn first_turn(alloc: Global, actor: u32, role: Role) -> Result<Turn, Fail> {
     let scenario = Arc::new(alloc, read_script(alloc, SCRIPT)?)?;
-    let mut book = first_book(alloc, &scenario)?;
-    let mut actor = Actor::new(&scenario, actor, role);
-    let did = actor.turn(alloc, &mut book)?;
+    let turn = turn_of(alloc, &scenario, actor, role);
+    drop(scenario);
+    Ok(turn?)
+}
+
+fn turn_of(
+    alloc: Global,
+    scenario: &Arc<Scenario>,
+    actor: u32,
+    role: Role,
+) -> Result<Turn, Memory> {
+    let mut book = first_book(alloc, scenario)?;
+    let turn = turn_at(alloc, scenario, actor, role, &mut book);
+    drop(book);
+    turn
+}
+
+fn turn_at(
+    alloc: Global,
+    scenario: &Arc<Scenario>,
+    actor: u32,
+    role: Role,
+    book: &mut NodeBook<RingEnd>,
+) -> Result<Turn, Memory> {
+    let mut actor = Actor::new(scenario, actor, role);
+    let did = actor.turn(alloc, book)?;
     Ok(Turn {
         did,
         events: book.history().len(),

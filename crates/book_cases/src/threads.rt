@@ -1,4 +1,6 @@
 //! Runs on threads.
+ghost use Rattle.std.specs.Prelude.{◌<◌};
+
 use geo_base::{EntryStore, Memory};
 use geo_io::{Gate, OpenGate};
 use link_rings::RingEnd;
@@ -8,10 +10,10 @@ use node_book::{BookList, NodeBook, NodeState};
 use node_numbers::node_count;
 use script_text::{Scenario, read_script};
 use std::alloc::Global;
-use std::sync::Arc;
 use std::sync::atomic::{AtomicBool, Ordering};
+use std::sync::{Arc, Wait};
 use std::test::Fail;
-use std::thread;
+use std::thread::{self, Threads};
 
 /// Two clusters, a producer and a consumer: actor 0 is the sender from a to b, and actor 7 the dispatcher at b.
 const SCRIPT: &[u8] =
@@ -69,10 +71,26 @@ fn two_workers_run_side_by_side(rt: HostRuntime) -> Result<(), Fail> {
         dispatcher: AtomicBool::new(false),
         gave_up: AtomicBool::new(false),
     };
-    let books = live(&rt, alloc, &scenario, 2, 200, &gate)?.as_slice().len();
-    assert!(rt; !gate.gave_up.load(Ordering::SeqCst), "side by side");
-    assert_eq!(rt; books, 4);
+    let books = books_made(&rt, alloc, &scenario, &gate);
+    let gave_up = gate.gave_up.load(Ordering::SeqCst);
+    drop(gate);
+    drop(scenario);
+    assert!(rt; !gave_up, "side by side");
+    assert_eq!(rt; books?, 4);
     Ok(())
+}
+
+/// How many books two workers make that go through a gate.
+fn books_made<R: Threads + Wait + Sync>(
+    rt: &R,
+    alloc: Global,
+    scenario: &Arc<Scenario>,
+    gate: &Meeting,
+) -> Result<usize, Memory> {
+    let books = live(rt, alloc, scenario, 2, 200, gate)?;
+    let count = books.as_slice().len();
+    drop(books);
+    Ok(count)
 }
 
 /// How many workers, and how many turns each has.
@@ -82,14 +100,40 @@ const RUNS: [(u32, u64); 3] = [(1, 2000), (2, 1000), (4, 500)];
 fn what_is_taken_was_sent_however_threads_run(rt: HostRuntime) -> Result<(), Fail> {
     let alloc = rt.alloc();
     let scenario = Arc::new(alloc, read_script(alloc, SCRIPT)?)?;
-    for (workers, turns) in RUNS {
-        let books = live(&rt, alloc, &scenario, workers, turns, &OpenGate)?;
-        assert!(rt;
-            fit_together(alloc, &scenario, &books)?,
-            "{workers} workers"
-        );
-    }
+    let other = first_other(&rt, alloc, &scenario);
+    drop(scenario);
+    assert_eq!(rt; other?, None);
     Ok(())
+}
+
+/// The workers of the first run whose books do not fit together.
+fn first_other<R: Threads + Wait + Sync>(
+    rt: &R,
+    alloc: Global,
+    scenario: &Arc<Scenario>,
+) -> Result<Option<u32>, Memory> {
+    for (workers, turns) in RUNS {
+        if !run_fits(rt, alloc, scenario, workers, turns)? {
+            return Ok(Some(workers));
+        }
+    }
+    Ok(None)
+}
+
+/// Whether the books of a run fit together.
+fn run_fits<R: Threads + Wait + Sync>(
+    rt: &R,
+    alloc: Global,
+    scenario: &Arc<Scenario>,
+    workers: u32,
+    turns: u64,
+) -> Result<bool, Memory>
+    requires { 0 < workers }
+{
+    let books = live(rt, alloc, scenario, workers, turns, &OpenGate)?;
+    let fits = fit_together(alloc, scenario, &books);
+    drop(books);
+    fits
 }
 
 /// Whether the books are those of the scenario's nodes in their order, and each packet that one took is the one that another sent.
@@ -106,7 +150,9 @@ fn fit_together(
         return Ok(false);
     }
     let merged = merge_books(alloc, scenario, views.as_slice())?;
-    Ok(merged.differs.is_none())
+    let is_right = merged.differs.is_none();
+    drop(merged);
+    Ok(is_right)
 }
 
 /// Two clusters, and a producer of three messages.
@@ -125,11 +171,23 @@ fn stored(book: &NodeBook<RingEnd>) -> u64 {
 fn one_worker_brings_all_over(rt: HostRuntime) -> Result<(), Fail> {
     let alloc = rt.alloc();
     let scenario = Arc::new(alloc, read_script(alloc, STORY)?)?;
-    let books = live(&rt, alloc, &scenario, 1, 2000, &OpenGate)?;
-    let brings_all = have_three(books.as_slice());
-    let fits = fit_together(alloc, &scenario, &books)?;
-    assert!(rt; brings_all && fits);
+    let brings_all = brings_all(&rt, alloc, &scenario);
+    drop(scenario);
+    assert!(rt; brings_all?);
     Ok(())
+}
+
+/// Whether the books of one worker have all, and fit together.
+fn brings_all<R: Threads + Wait + Sync>(
+    rt: &R,
+    alloc: Global,
+    scenario: &Arc<Scenario>,
+) -> Result<bool, Memory> {
+    let books = live(rt, alloc, scenario, 1, 2000, &OpenGate)?;
+    let has_three = have_three(books.as_slice());
+    let fits = fit_together(alloc, scenario, &books);
+    drop(books);
+    Ok(has_three && fits?)
 }
 
 /// Whether there are three books, each with three entries or receipts.
