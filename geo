@@ -73,7 +73,7 @@ trap 'rm -rf "$room"' EXIT
 # Compiles and runs the program; $1 has what it reads, and the toolchain's other words follow. What it writes is kept, since a
 # sink that fails is the program's own matter: status 5, and not the toolchain's.
 try() {
-    echo "geo: there is no build of this source, so this call compiles it, unproved, in a minute and a half of a processor;" \
+    echo "geo: there is no build of this source, so this call compiles it, unproved, in one to two minutes of a processor;" \
         "tools/build makes one, and later calls are then quick" >&2
     local input=$1
     shift
