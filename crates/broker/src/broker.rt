@@ -123,4 +123,9 @@ impl Broker {
     {
         self.book.backlog(self.book.subs().at(i))
     }
+
+    /// Lets the broker go, as `drop` does: a crate that calls this need not show again how each part of a broker ends.
+    pub fn let_go(self) {
+        drop(self)
+    }
 }

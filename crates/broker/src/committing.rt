@@ -35,7 +35,6 @@ impl Broker {
 
     /// Does an event, with the next packet of the link that it takes from. All memory is taken first; an `Err` is want of it, and
     /// then nothing has changed.
-    #[tactic(auto, using(crate::proofs::Acts::act_done, crate::proofs::Ready::ready_without))]
     pub fn act(
         &mut self,
         alloc: Global,
@@ -50,10 +49,33 @@ impl Broker {
         ensures node { SameNode self.old self.new }
     {
         let mut plan = Plan::new(alloc);
-        self.prepare(alloc, event, input, &mut plan)?;
+        let acted = self.act_by(alloc, event, input, &mut plan);
+        // by a call, so that the end of a plan is proved by itself
+        drop(plan);
+        acted
+    }
+
+    /// The same by a plan that is empty.
+    #[tactic(auto, using(crate::proofs::Acts::act_done, crate::proofs::Ready::ready_without))]
+    fn act_by(
+        &mut self,
+        alloc: Global,
+        event: &Event,
+        input: Option<&WirePacket>,
+        plan: &mut Plan,
+    ) -> Result<Acted, Memory>
+        requires node { IsOfNode self.old event.now }
+        requires numbers { NumbersRise self.old event.now }
+        requires empty { IsEmptyPlan plan.old }
+        ensures done { (v : Option Packet) → StandsForInput self.old.site.clusters (option_copied input.entry) v
+            → IfOk result (λ a. IsDone self.old self.new (plan_at_node self.old event.now v) a.idle a.sent.items) }
+        ensures err { OnErr result (self.new.broker ≡ self.old.broker) }
+        ensures node { SameNode self.old self.new }
+    {
+        self.prepare(alloc, event, input, plan)?;
         let idle = plan.is_idle();
         let sent = plan.take_sent(alloc).into_vec();
-        self.commit(&mut plan);
+        self.commit(plan);
         Ok(Acted { idle, sent })
     }
 

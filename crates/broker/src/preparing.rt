@@ -135,7 +135,9 @@ fn prepare_taking(
         Event::Take { source, fate, .. } => take(alloc, book, source, fate, packet, plan),
         Event::Receipt { target, fate, .. } => receive(alloc, book, target, fate, packet, plan),
         _ => {
-            let _said = read_packet(alloc, book.site(), packet)?;
+            let said = read_packet(alloc, book.site(), packet)?;
+            // by a call, so that the end of a packet is proved by itself
+            drop(said);
             prepare(alloc, book, names, event, plan)
         }
     }

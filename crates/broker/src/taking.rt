@@ -170,7 +170,9 @@ fn receive_usual(
             position: Some(position),
         },
     };
-    prepare_receipt(book, target, fate, Some(&said), plan)
+    let prepared = prepare_receipt(book, target, fate, Some(&said), plan);
+    drop(said);
+    prepared
 }
 
 /// A packet of a back link, read by all its parts.
@@ -189,5 +191,8 @@ fn receive_read(
     ensures kept { SameState book.old book.new }
 {
     let said = read_packet(alloc, book.site(), packet)?;
-    prepare_receipt(book, target, fate, Some(&said), plan)
+    let prepared = prepare_receipt(book, target, fate, Some(&said), plan);
+    // by a call, so that the end of a packet is proved by itself
+    drop(said);
+    prepared
 }

@@ -85,7 +85,11 @@ pub(crate) fn also_receipt(
 }
 
 /// An answer that was written: its frames are let go apart, where nothing else is to be shown.
-fn let_go(_answer: Answer) {}
+fn let_go(answer: Answer) {
+    let Answer { first, second, .. } = answer;
+    drop(first);
+    drop(second);
+}
 
 fn success_answer(
     alloc: Global,
@@ -99,12 +103,19 @@ fn success_answer(
     ensures second { IfOk result (λ a. IfSome a.second (IsBrief book.now.site.clusters)) }
 {
     let Arrival { source, again, .. } = arrival;
-    Ok(Answer {
-        source,
-        session: id,
-        first: success(alloc, book, source, request)?,
-        second: second_success(alloc, book, source, request, again)?,
-    })
+    let first = success(alloc, book, source, request)?;
+    match second_success(alloc, book, source, request, again) {
+        Ok(second) => Ok(Answer {
+            source,
+            session: id,
+            first,
+            second,
+        }),
+        Err(why) => {
+            drop(first);
+            Err(why)
+        }
+    }
 }
 
 /// The frame that says that a session is open.

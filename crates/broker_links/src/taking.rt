@@ -57,7 +57,10 @@ fn take(
     ensures kept { SameState book.old book.new }
 {
     match fate {
-        Fate::Lost => set_session(book, source, None, plan),
+        Fate::Lost => {
+            drop(packet);
+            set_session(book, source, None, plan)
+        }
         Fate::Good => take_once(alloc, book, source, packet, plan),
         Fate::Twice => take_twice(alloc, book, source, packet, plan),
     }

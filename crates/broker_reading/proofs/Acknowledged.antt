@@ -27,6 +27,7 @@ use Rattle.broker_subs.specs.SubBook.{SubBook}
 use Rattle.broker_subs.specs.Table.{names_of, sub_at}
 use Rattle.broker_subs.specs.declared.changing.SubChange.TheVariants as sub_change
 use Rattle.broker_subs.specs.declared.writing.SubWrite.{SubWrite}
+use Rattle.broker_subs.specs.declared.writing.SubWrite.TheVariants as sub_write
 use Rattle.broker_state.specs.Fits.{AllWritesFit, NamedFits, WritesNamed, all_names_after, names_after}
 use Rattle.broker_state.specs.Plan.{PlanBook, name_in, named_plan, quiet_book}
 use Rattle.broker_state.specs.declared.change.BookChange.TheVariants as book_change
@@ -247,7 +248,7 @@ created_room room es k y i j sub p places senders acks is =
     })
 
 -- the event, step by step
-pub created_steps : (k y i : ℕ) (sub : SubBook) (w v : SubWrite) (q q' q'' r p : PlanBook) → q ≡ quiet_book k → q' ≡ record q { writes = q.writes ++ book_write.Create sub false ∷ [] }
-    → q'' ≡ record q' { writes = q'.writes ++ book_write.Sub w ∷ [] } → r ≡ record q'' { changes = q''.changes ++ book_change.Sub sub_change.Acked ∷ [] } → p ≡ handled_book y i r → w ≡ v
-    → p ≡ handled_book y i (acked_book k (creating_writes sub v))
-created_steps k y i sub w v q q' q'' r p quiet create write change is same = is ∙ rw (change, write, create, quiet, same) refl
+pub created_steps : (k y i j runs : ℕ) (sub : SubBook) (q q' q'' r p : PlanBook) → q ≡ quiet_book k → q' ≡ record q { writes = q.writes ++ book_write.Create sub false ∷ [] }
+    → q'' ≡ record q' { writes = q'.writes ++ book_write.Sub (sub_write.Passed j y runs) ∷ [] } → r ≡ record q'' { changes = q''.changes ++ book_change.Sub sub_change.Acked ∷ [] } → p ≡ handled_book y i r
+    → p ≡ handled_book y i (acked_book k (creating_writes sub (sub_write.Passed j y runs)))
+created_steps k y i j runs sub q q' q'' r p quiet create write change is = is ∙ rw (change, write, create, quiet) refl

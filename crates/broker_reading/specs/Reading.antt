@@ -1,19 +1,21 @@
 -- What a sender does with the entry that it reads.
-use Rattle.std.specs.Prelude.{◌≡◌, ◌≢◌, ℕ, ◌+◌, ◌<◌, ◌≤◌, ◌^◌, true, List, [], ◌∷◌, ◌++◌, length}
+use Rattle.std.specs.Prelude.{◌≡◌, ◌≢◌, ℕ, ◌+◌, ◌<◌, ◌≤◌, ◌^◌, true, List, [], ◌∷◌, ◌++◌, length, Option}
 use Rattle.geo_base.specs.declared.change.Change.TheVariants as change
 use Rattle.geo_base.specs.declared.entry.Content.{Content}
 use Rattle.geo_base.specs.declared.entry.Content.TheVariants as content
 use Rattle.geo_base.specs.declared.entry.Entry.{Entry}
+use Rattle.geo_base.specs.declared.snapshot.Builder.{Builder}
 use Rattle.geo_base.specs.Broker.{Broker, Site, sender_at, sub_named}
 use Rattle.geo_base.specs.Plan.{Plan}
 use Rattle.geo_base.specs.Topic.{accepts}
 use Rattle.geo_base.specs.Updating.{handled, passed_over, passing}
-use Rattle.broker_state.specs.Plan.{IsEmptyPlan, PlanBook}
+use Rattle.broker_state.specs.Plan.{IsEmptyPlan, PlanBook, quiet_book}
 use Rattle.broker_state.specs.Room.{HasRoom, Room}
 use Rattle.broker_state.specs.declared.change.BookChange.TheVariants as book_change
 use Rattle.broker_state.specs.declared.write.BookWrite.TheVariants as book_write
 use Rattle.broker_plans.specs.Prepared.{IsPrepared}
 use Rattle.broker_plans.specs.Storable.{IsStorable, first_text}
+use Rattle.broker_plans.specs.Updates.{appending}
 use Rattle.broker_reading.specs.declared.act.ReadAct.{ReadAct}
 use Rattle.broker_reading.specs.declared.act.ReadAct.TheVariants as act
 
@@ -34,6 +36,14 @@ pub record ReadRoom (room : Room) : Type 0 where
 -- an event, and what the sender to y has read at index i acknowledged behind it
 abbrev pub handled_book : ℕ → ℕ → PlanBook → PlanBook
 handled_book y i p = record p { writes = p.writes ++ book_write.SenderAck y i ∷ []; changes = p.changes ++ book_change.ReadTo y (i + 1) ∷ [] }
+
+-- an event that begins with the write of a marker
+abbrev pub marker_book : Entry → PlanBook
+marker_book e = record (quiet_book 0) { writes = appending e ∷ [] }
+
+-- an event behind which the snapshot that is being made is another one or none
+abbrev pub told_behind : Option Builder → PlanBook → PlanBook
+told_behind o p = record p { changes = p.changes ++ book_change.Building o ∷ [] }
 
 -- a marker that the broker can store now
 pub record IsReady (h : Site) (b : Broker) (e : Entry) : Type 0 where

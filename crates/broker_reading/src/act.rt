@@ -4,10 +4,12 @@ ghost use Rattle.geo_base.specs.Updating.{handled};
 ghost use Rattle.broker_state.specs.Plan.{IsEmptyPlan};
 ghost use Rattle.broker_state.specs.Room.{HasRoom};
 ghost use Rattle.broker_plans.specs.Prepared.{IsPrepared};
-ghost use Rattle.broker_reading.specs.Reading.{IsReading, ReadRoom, handled_book};
+ghost use Rattle.broker_reading.specs.Reading.{IsReading, ReadRoom, handled_book, marker_book};
 
+use broker_plans::appending;
 use broker_state::{BookChange, BookWrite, BrokerState, Plan};
-use geo_base::{Memory, SubName};
+use geo_base::{Entry, Memory, SubName};
+use std::alloc::Global;
 
 /// The sender to a cluster reads the entry at an index.
 #[derive(Clone, Copy, Drop)]
@@ -37,6 +39,15 @@ pub(crate) fn acknowledge_read(plan: &mut Plan, at: ReadAt) -> Result<(), Memory
         index: index + 1,
     })?;
     Ok(())
+}
+
+/// An event that begins with the write of a marker.
+pub(crate) fn begin_marker(alloc: Global, marker: Entry, plan: &mut Plan) -> Result<(), Memory>
+    requires { IsEmptyPlan plan.old }
+    ensures { OnOk result (plan.new ≡ marker_book marker) }
+{
+    plan.begin(0);
+    plan.write(appending(alloc, marker)?)
 }
 
 /// What was read is skipped: it has no other effect.

@@ -1,5 +1,5 @@
 //! What a cluster does with a marker of another one that its sender reads: a request is answered, and an answer is heard.
-ghost use Rattle.std.specs.Prelude.{◌≡◌, ◌≤◌, true, [], ◌∷◌, Some, length, IfOk, IfSome, OnOk};
+ghost use Rattle.std.specs.Prelude.{◌≡◌, ◌≤◌, ◌<◌, ◌+◌, ◌^◌, true, [], ◌∷◌, Some, length, IfOk, IfSome, OnOk};
 ghost use Rattle.geo_base.specs.declared.change.Change.TheVariants as change;
 ghost use Rattle.geo_base.specs.declared.snapshot.Progress.TheVariants as progress;
 ghost use Rattle.geo_base.specs.declared.write.Write.TheVariants as write;
@@ -11,12 +11,11 @@ ghost use Rattle.broker_state.specs.Plan.{IsEmptyPlan};
 ghost use Rattle.broker_state.specs.Room.{HasRoom};
 ghost use Rattle.broker_plans.specs.Prepared.{CanWrite, IsPrepared, MarkerFits};
 ghost use Rattle.broker_plans.specs.Storable.{IsBuilderOf, first_text};
-ghost use Rattle.broker_reading.specs.Reading.{IsRead, IsReading, IsReady, ReadRoom};
+ghost use Rattle.broker_reading.specs.Reading.{IsRead, IsReading, IsReady, ReadRoom, handled_book, told_behind};
 
-use crate::act::{ReadAct, ReadAt, acknowledge_read, skip};
+use crate::act::{ReadAct, ReadAt, acknowledge_read, begin_marker, skip};
 use crate::markers::{request, response, snapshot};
 use crate::updating::read_update;
-use broker_plans::appending;
 use broker_state::{BookChange, BoxedBuilder, BrokerState, Plan};
 use geo_base::{ClusterPosition, Entry, EntryStore, Marker, Memory, Place, Progress, Text};
 use snapshot_builder::Builder;
@@ -93,8 +92,7 @@ fn store_marker(
     ensures prepared { OnOk result (IsPrepared book.now.site book.now.broker (handled at.remote at.index (write.Append marker ∷ []) []) plan.new) }
     ensures room { OnOk result (HasRoom book.now.room plan.new) }
 {
-    plan.begin(0);
-    plan.write(appending(alloc, marker)?)?;
+    begin_marker(alloc, marker, plan)?;
     acknowledge_read(plan, at)
 }
 
@@ -156,15 +154,22 @@ fn act_on_progress(
     ensures room { OnOk result (HasRoom book.now.room plan.new) }
 {
     match progress {
-        Progress::Ignored => skip(book, at, plan),
-        Progress::Kept => keep_builder(alloc, book, at, builder, plan),
-        Progress::SecondRound => {
-            let again = request(alloc, book, builder.current_id())?;
-            store_with_builder(alloc, book, at, again, Some(builder), plan)
+        Progress::Ignored => {
+            drop(builder);
+            skip(book, at, plan)
         }
+        Progress::Kept => keep_builder(alloc, book, at, builder, plan),
+        Progress::SecondRound => match request(alloc, book, builder.current_id()) {
+            Ok(again) => store_with_builder(alloc, book, at, again, Some(builder), plan),
+            Err(why) => {
+                drop(builder);
+                Err(why)
+            }
+        },
         Progress::Done => {
-            let made = snapshot(alloc, book, &builder)?;
-            store_with_builder(alloc, book, at, made, None, plan)
+            let made = snapshot(alloc, book, &builder);
+            drop(builder);
+            store_with_builder(alloc, book, at, made?, None, plan)
         }
     }
 }
@@ -186,14 +191,11 @@ fn keep_builder(
     ensures room { OnOk result (HasRoom book.now.room plan.new) }
 {
     plan.begin(0);
-    plan.change(BookChange::Building {
-        builder: Some(BoxedBuilder::new(alloc, builder)?),
-    })?;
-    acknowledge_read(plan, at)
+    tell_builder(alloc, at, Some(builder), plan)
 }
 
 /// A marker is stored, and the snapshot that is being made is another one or none.
-#[tactic(auto, using(crate::proofs::Plans::told_room))]
+#[tactic(auto, using(crate::proofs::Plans::told, crate::proofs::Plans::told_room))]
 fn store_with_builder(
     alloc: Global,
     book: &BrokerState,
@@ -210,8 +212,25 @@ fn store_with_builder(
     ensures prepared { OnOk result (IsPrepared book.now.site book.now.broker (handled at.remote at.index (write.Append marker ∷ []) (change.Building builder ∷ [])) plan.new) }
     ensures room { OnOk result (HasRoom book.now.room plan.new) }
 {
-    plan.begin(0);
-    plan.write(appending(alloc, marker)?)?;
+    match begin_marker(alloc, marker, plan) {
+        Ok(()) => tell_builder(alloc, at, builder, plan),
+        Err(why) => {
+            drop(builder);
+            Err(why)
+        }
+    }
+}
+
+/// An event by which the snapshot that is being made is another one or none, and what was read is acknowledged.
+fn tell_builder(
+    alloc: Global,
+    at: ReadAt,
+    builder: Option<Builder>,
+    plan: &mut Plan,
+) -> Result<(), Memory>
+    requires { at.index + 1 < 2 ^ 64 }
+    ensures { OnOk result (plan.new ≡ handled_book at.remote at.index (told_behind builder plan.old)) }
+{
     let builder = boxed(alloc, builder)?;
     plan.change(BookChange::Building { builder })?;
     acknowledge_read(plan, at)

@@ -95,10 +95,24 @@ fn marker_for(
     requires cluster { cluster < length book.now.site.clusters }
     ensures { IfOk result (λ e. e ≡ own_marker book.now.site book.now.broker marker (targets.Only (2 ^ cluster)) (cluster_name book.now.site cluster ∷ [])) }
 {
+    match named(alloc, book, cluster) {
+        Ok(names) => own_marker(alloc, book, marker, only(book, cluster), names),
+        Err(why) => {
+            drop(marker);
+            Err(why)
+        }
+    }
+}
+
+/// The names of the targets that are one cluster.
+fn named(alloc: Global, book: &BrokerState, cluster: u32) -> Result<Sequence<Text>, Memory>
+    requires { cluster < length book.now.site.clusters }
+    ensures { IfOk result (λ names. names ≡ cluster_name book.now.site cluster ∷ []) }
+{
+    let name = Text::from_str(alloc, book.site().cluster_name(cluster).as_str())?;
     let mut names = Sequence::new(alloc);
-    names.push(Text::from_str(alloc, book.site().cluster_name(cluster).as_str())?)?;
-    let to = only(book, cluster);
-    own_marker(alloc, book, marker, to, names)
+    names.push(name)?;
+    Ok(names)
 }
 
 /// The targets that are one cluster.

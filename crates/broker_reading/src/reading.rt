@@ -169,9 +169,9 @@ fn forward(
     let ReadAt { remote, index } = at;
     let sender = book.sender(remote).sender();
     let session = sender.session();
-    let frame = send_text(alloc, book, session, sender.next(), entry)?;
     plan.begin(0);
     plan.change(BookChange::Pend { remote, index })?;
+    let frame = send_text(alloc, book, session, sender.next(), entry)?;
     plan.send(WireOut {
         to: Peer::Forward(remote),
         session,

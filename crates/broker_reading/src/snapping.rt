@@ -10,8 +10,8 @@ ghost use Rattle.broker_state.specs.State.{SameState};
 ghost use Rattle.broker_plans.specs.Prepared.{CanWrite, IsPrepared, MarkerFits};
 ghost use Rattle.broker_plans.specs.Storable.{most_id};
 
+use crate::act::begin_marker;
 use crate::markers::request;
-use broker_plans::appending;
 use broker_state::{BookChange, BoxedBuilder, BrokerState, Plan};
 use geo_base::{EntryStore, Memory, Position, Text};
 use snapshot_builder::Builder;
@@ -58,11 +58,10 @@ fn ask(alloc: Global, book: &BrokerState, id: &Text, plan: &mut Plan) -> Result<
     ensures prepared { OnOk result (IsPrepared book.now.site book.now.broker (asks book.now.site book.now.broker id.now) plan.new) }
     ensures room { OnOk result (HasRoom book.now.room plan.new) }
 {
+    let asked = request(alloc, book, id.as_str())?;
+    begin_marker(alloc, asked, plan)?;
     let clusters = book.site().clusters().len() as u32;
     let builder = Builder::start(alloc, id.as_str(), book.site().own(), clusters)?;
-    let asked = request(alloc, book, id.as_str())?;
-    plan.begin(0);
-    plan.write(appending(alloc, asked)?)?;
     plan.change(BookChange::Building {
         builder: Some(BoxedBuilder::new(alloc, builder)?),
     })?;

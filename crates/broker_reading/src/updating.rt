@@ -1,19 +1,22 @@
 //! An update of another cluster (PIP-33): a subscription acknowledges what its mark there has passed.
-ghost use Rattle.std.specs.Prelude.{◌≡◌, ◌<◌, ◌≤◌, ◌+◌, ◌∷◌, [], None, true, length, IfOk, IfSome, OnOk};
+ghost use Rattle.std.specs.Prelude.{◌≡◌, ◌<◌, ◌≤◌, ◌+◌, ◌^◌, ◌∷◌, [], None, true, length, IfOk, IfSome, OnOk};
 ghost use Rattle.geo_base.specs.declared.change.Change.TheVariants as change;
+ghost use Rattle.geo_base.specs.declared.frame.SubKind.TheVariants as sub_kind;
 ghost use Rattle.geo_base.specs.declared.write.Write.TheVariants as write;
 ghost use Rattle.geo_base.specs.Broker.{sub_named};
 ghost use Rattle.geo_base.specs.Name.{is_name};
 ghost use Rattle.geo_base.specs.Storing.{cursor_write};
 ghost use Rattle.geo_base.specs.Subscribing.{has_room};
+ghost use Rattle.geo_base.specs.Subscription.{new_subscription};
 ghost use Rattle.geo_base.specs.Updating.{handled, only_index, passed_over, passing, positions_for, read_update};
 ghost use Rattle.broker_subs.specs.Table.{sub_at};
+ghost use Rattle.broker_subs.specs.declared.writing.SubWrite.TheVariants as sub_write;
 ghost use Rattle.broker_state.specs.Plan.{IsEmptyPlan};
 ghost use Rattle.broker_state.specs.Room.{HasRoom};
 ghost use Rattle.broker_state.specs.State.{SameState};
 ghost use Rattle.broker_plans.specs.Prepared.{CanWrite, IsPrepared};
-ghost use Rattle.broker_reading.specs.Reading.{IsRead, IsReading, ReadRoom};
-ghost use Rattle.broker_reading.specs.Updating.{listed, update_acks};
+ghost use Rattle.broker_reading.specs.Reading.{IsRead, IsReading, ReadRoom, handled_book};
+ghost use Rattle.broker_reading.specs.Updating.{acked_book, creating_writes, listed, update_acks};
 
 use crate::act::{ReadAct, ReadAt, acknowledge_read, skip};
 use crate::hearing::is_place;
@@ -193,12 +196,40 @@ fn create(
     ensures kept { SameState book.old book.new }
 {
     let runs = sub_update::runs(&Cursor::none(alloc), book.store(), to, at.remote);
-    let Some(acks) = runs.checked_add(1) else {
-        return Err(Memory);
-    };
-    let sub = Sub::new(alloc, sub, SubKind::Exclusive, true, 0, acks)?;
     book.reserve_places(1)?;
-    plan.begin(book.subs().len());
+    let sub = created(alloc, sub, runs)?;
+    begin_created(book.subs().len(), at, sub, to, runs, plan)?;
+    Ok(())
+}
+
+/// A replicated subscription of this name at Earliest, with room for what it acknowledges.
+fn created(alloc: Global, name: SubName, runs: usize) -> Result<Sub, Memory>
+    ensures sub { IfOk result (λ s. s.sub ≡ new_subscription name sub_kind.Exclusive true []) }
+    ensures acks { IfOk result (λ s. runs + 1 ≤ s.acks) }
+{
+    match runs.checked_add(1) {
+        Some(acks) => Sub::new(alloc, name, SubKind::Exclusive, true, 0, acks),
+        None => {
+            drop(name);
+            Err(Memory)
+        }
+    }
+}
+
+/// An event that creates a subscription at a place and writes its cursor.
+fn begin_created(
+    place: usize,
+    at: ReadAt,
+    sub: Sub,
+    to: u64,
+    runs: usize,
+    plan: &mut Plan,
+) -> Result<(), Memory>
+    requires fits { at.index + 1 < 2 ^ 64 }
+    requires empty { IsEmptyPlan plan.old }
+    ensures { OnOk result (plan.new ≡ handled_book at.remote at.index (acked_book place (creating_writes sub (sub_write.Passed to at.remote runs)))) }
+{
+    plan.begin(place);
     plan.write(BookWrite::Create { sub, latest: false })?;
     plan.write(BookWrite::Sub(SubWrite::Passed {
         index: to,

@@ -1,12 +1,10 @@
 -- What an event changes at a client, and what it sends: prepared before it is done, and no copy of the client.
 use Rattle.std.specs.Prelude.{◌+◌, ◌<◌, ◌^◌, true, not, List, [], ◌∷◌, ◌++◌, length, filter, drop, Option, Some, None, is_some, ⊤}
 use Rattle.geo_base.specs.declared.client.Held.{Held}
-use Rattle.geo_base.specs.declared.frame.Frame.TheVariants as frame
 use Rattle.geo_base.specs.declared.packet.Out.{Out}
-use Rattle.geo_base.specs.Client.{Acted, Client, command_at, connected_to, to_broker}
+use Rattle.geo_base.specs.Client.{Acted, Client, connected_to}
 use Rattle.geo_base.specs.Going.{most_acks, past, without_first}
 use Rattle.geo_base.specs.Position.{position_le}
-use Rattle.geo_base.specs.Setup.{Declared, Setup}
 use Rattle.client.specs.declared.client.change.ClientChange.{ClientChange}
 use Rattle.client.specs.declared.client.change.ClientChange.TheVariants as change
 use Rattle.client.specs.declared.client.outgoing.Connection.{Connection}
@@ -54,7 +52,3 @@ ClientFits (Some c) k = ChangeFits c k
 -- a client on a connection, on which nothing is held
 abbrev pub as_connected : Connection → Client → Client
 as_connected c k = record k { cluster = c.cluster; connection = c.number; connected = true; held = [] }
-
--- what a client sends first on a connection: CONNECT, then the commands of the lines in force
-abbrev pub in_force : Setup → Declared → Client → List Out
-in_force s d k = to_broker k frame.Connect ++ (command_at s d k k.produce ++ (command_at s d k k.sub ++ command_at s d k k.flow))

@@ -181,8 +181,9 @@ fn marker_text(alloc: Global, names: &[ClusterName], marker: &MachineMarker) -> 
     ensures right { OnOk result (IsMarkerText (marker_type marker.now) (text (canonical_fields (named_marker names.now marker.now))) (named_marker names.now marker.now)) }
 {
     let named = named_marker(alloc, names, marker)?;
-    let text = named.write(alloc)?;
-    Ok(text)
+    let text = named.write(alloc);
+    drop(named);
+    Ok(text?)
 }
 
 /// A marker with clusters by their names.

@@ -229,7 +229,12 @@ fn receipt_text(
     ensures fault { IfErr result (IsTooLarge (frame_size names.now (frame.SendReceipt id seq position) - 4)) }
 {
     match position {
-        None => simple_text(alloc, names, &Frame::SendReceipt { id, seq, position }),
+        None => {
+            let frame = Frame::SendReceipt { id, seq, position };
+            let text = simple_text(alloc, names, &frame);
+            drop(frame);
+            text
+        }
         Some(placed) => {
             let command = CommandView::SendReceipt {
                 producer_id: id,
@@ -274,5 +279,7 @@ fn simple_text(alloc: Global, names: &[ClusterName], frame: &Frame) -> Result<Bl
         command,
         body: None,
     };
-    write_frame(alloc, &whole)
+    let text = write_frame(alloc, &whole);
+    drop(whole);
+    text
 }

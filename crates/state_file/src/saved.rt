@@ -12,3 +12,10 @@ pub struct Saved {
     pub nodes: Vec<NodeParts>,
     pub clients: Vec<ClientState>,
 }
+
+impl Saved {
+    /// Lets the state go, as `drop` does: a crate that calls this need not show again how each part of a state ends.
+    pub fn let_go(self) {
+        drop(self)
+    }
+}

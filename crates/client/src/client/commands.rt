@@ -1,10 +1,12 @@
 //! The frames that a client sends for its lines.
-ghost use Rattle.std.specs.Prelude.{◌≡◌, ◌≤◌, ◌++◌, true, length, Some, None, IfOk, IfSome, OnOk};
+ghost use Rattle.std.specs.Prelude.{◌≡◌, ◌≤◌, [], ◌++◌, true, length, Some, None, IfOk, IfSome, OnOk};
 ghost use Rattle.std.specs.Option.{option_copied};
 ghost use Rattle.geo_base.specs.declared.frame.Frame.TheVariants as frame;
 ghost use Rattle.geo_base.specs.Client.{command, id_of, published, target_names};
 ghost use Rattle.geo_base.specs.Message.{is_message};
 ghost use Rattle.geo_base.specs.Scripted.{is_optional_name};
+ghost use Rattle.geo_base.specs.Setup.{topic_name};
+ghost use Rattle.frame_values.specs.Fitting.{IsShort};
 ghost use Rattle.pulsar_frames.specs.Usual.{message_viewed};
 ghost use Rattle.frame_values.specs.Coded.{IsWritten};
 ghost use Rattle.client.specs.Site.{is_short_line};
@@ -61,12 +63,15 @@ impl Client {
         ensures { OnOk result (sent.new.items ≡ sent.old.items ++ command site.now.setup site.now.declared (as_connected connection self.now) index (Some line.now)) }
     {
         let frame = match line {
-            Line::Produce => Frame::Producer {
-                topic: Text::from_str(alloc, site.topic_name())?,
-                id: index as u64,
-                request: index as u64,
-                name: Some(Text::from_str(alloc, site.name().as_str())?),
-            },
+            Line::Produce => {
+                let (topic, name) = site_names(alloc, site)?;
+                Frame::Producer {
+                    topic,
+                    id: index as u64,
+                    request: index as u64,
+                    name: Some(name),
+                }
+            }
             Line::Pub { seq, to, key, text } => Frame::Send {
                 id: id_of(self.produce),
                 seq: *seq,
@@ -78,16 +83,20 @@ impl Client {
                 kind,
                 earliest,
                 replicated,
-            } => Frame::Subscribe {
-                topic: Text::from_str(alloc, site.topic_name())?,
-                sub: sub.copy(alloc)?,
-                kind: *kind,
-                id: index as u64,
-                request: index as u64,
-                consumer: Some(Text::from_str(alloc, site.name().as_str())?),
-                earliest: *earliest,
-                replicated: *replicated,
-            },
+            } => {
+                let sub = sub.copy(alloc)?;
+                let (topic, name) = site_names(alloc, site)?;
+                Frame::Subscribe {
+                    topic,
+                    sub,
+                    kind: *kind,
+                    id: index as u64,
+                    request: index as u64,
+                    consumer: Some(name),
+                    earliest: *earliest,
+                    replicated: *replicated,
+                }
+            }
             Line::Flow { permits } => Frame::Flow {
                 id: id_of(self.sub),
                 permits: *permits as u64,
@@ -135,21 +144,47 @@ impl Client {
         ensures entry { IfOk result (λ e. e ≡ published site.now.setup site.now.declared (as_connected connection self.now) line.entry.seq line.entry.to line.entry.key.now line.entry.text.now) }
         ensures message { IfOk result (λ e. is_message e ≡ true) }
     {
-        let key = optional_text_copy(alloc, line.key)?;
-        let names = target_names(alloc, site.clusters(), line.to)?;
-        let meta = Metadata::new(alloc, 0, key, names, Blob::new(alloc))?;
+        let payload = line.text.copy(alloc)?;
+        let producer = site.name().copy(alloc)?;
+        let meta = published_meta(alloc, site.clusters(), line)?;
         Ok(Entry {
             ident: Ident {
                 origin: connection.cluster,
-                producer: site.name().copy(alloc)?,
+                producer,
                 seq: line.seq,
             },
             content: Content::Data,
             to: line.to,
             meta,
-            payload: line.text.copy(alloc)?,
+            payload,
         })
     }
+}
+
+/// The names of the client's topic and of the client.
+fn site_names(alloc: Global, site: &ClientSite) -> Result<(Text, Text), Memory>
+    ensures topic { IfOk result (λ names. names.0 ≡ topic_name site.now.setup site.now.declared.topic) }
+    ensures name { IfOk result (λ names. names.1 ≡ site.now.declared.name) }
+    ensures short { IfOk result (λ names. IsShort names.0 × IsShort names.1) }
+{
+    let topic = Text::from_str(alloc, site.topic_name())?;
+    let name = Text::from_str(alloc, site.name().as_str())?;
+    Ok((topic, name))
+}
+
+/// The metadata of the message that a `pub` line publishes.
+fn published_meta(
+    alloc: Global,
+    clusters: &[ClusterName],
+    line: PubLine<'_>,
+) -> Result<Metadata, Memory>
+    requires { length clusters.now ≤ CLUSTERS }
+    ensures { IfOk result (λ m. m ≡ record { publish_time = 0; key = line.entry.key.now; names = target_names 0 line.entry.to clusters.now; rest = [] }) }
+{
+    let key = optional_text_copy(alloc, line.key)?;
+    let names = target_names(alloc, clusters, line.to)?;
+    let meta = Metadata::new(alloc, 0, key, names, Blob::new(alloc))?;
+    Ok(meta)
 }
 
 /// The message of a `pub` line for all clusters, each part where it stands.
@@ -196,25 +231,29 @@ fn target_names(
     requires { length clusters.now ≤ CLUSTERS }
     ensures { IfOk result (λ names. names ≡ target_names 0 to clusters.now) }
 {
+    let mut names = Sequence::new(alloc);
     match to {
-        Targets::All => Ok(Sequence::new(alloc)),
-        Targets::Only(bits) => named_clusters(alloc, clusters, bits),
+        Targets::All => Ok(names),
+        Targets::Only(bits) => {
+            add_named(alloc, clusters, bits, &mut names)?;
+            Ok(names)
+        }
     }
 }
 
-fn named_clusters(
+fn add_named(
     alloc: Global,
     clusters: &[ClusterName],
     bits: u8,
-) -> Result<Sequence<Text>, Memory>
+    names: &mut Sequence<Text>,
+) -> Result<(), Memory>
     requires { length clusters.now ≤ CLUSTERS }
-    ensures { IfOk result (λ names. names ≡ target_names 0 (Targets.Only bits) clusters.now) }
+    ensures { OnOk result (names.new ≡ names.old ++ target_names 0 (Targets.Only bits) clusters.now) }
 {
-    let mut names = Sequence::new(alloc);
     for (number, name) in clusters.iter().enumerate() {
         if Targets::Only(bits).contains(number as u32) {
             names.push(Text::from_str(alloc, name.as_str())?)?;
         }
     }
-    Ok(names)
+    Ok(())
 }

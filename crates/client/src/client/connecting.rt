@@ -2,7 +2,7 @@
 ghost use Rattle.std.specs.Prelude.{◌≡◌, ◌<◌, ◌^◌, ◌++◌, Some, IfOk, OnOk};
 ghost use Rattle.geo_base.specs.Client.{command_at, commands_at, connected_to, connects, reconnect};
 ghost use Rattle.geo_base.specs.Going.{past};
-ghost use Rattle.client.specs.Changing.{ClientFits, acted, as_connected, in_force};
+ghost use Rattle.client.specs.Changing.{ClientFits, acted, as_connected};
 ghost use Rattle.client.specs.Counted.{CanConnect};
 ghost use Rattle.client.specs.Prepared.{IsPrepared};
 
@@ -70,26 +70,31 @@ impl Client {
             number: self.connection + 1,
         };
         let mut sent = Vec::new(alloc);
-        self.add_in_force(alloc, site, connection, &mut sent)?;
-        self.add_unanswered(alloc, site, connection, &mut sent)?;
-        Ok(Plan::new(change, sent))
+        match self.add_all(alloc, site, connection, &mut sent) {
+            Ok(()) => Ok(Plan::new(change, sent)),
+            Err(memory) => {
+                drop(change);
+                drop(sent);
+                Err(memory)
+            }
+        }
     }
 
-    /// Adds CONNECT, and the commands of the lines in force.
-    fn add_in_force(
+    /// Adds CONNECT, the commands of the lines in force, and those of the publishes without receipt.
+    fn add_all(
         &self,
         alloc: Global,
         site: &ClientSite,
         connection: Connection,
         sent: &mut Vec<ClientOut>,
     ) -> Result<(), Memory>
-        ensures { OnOk result (sent.new.items ≡ sent.old.items ++ in_force site.now.setup site.now.declared (as_connected connection self.now)) }
+        ensures { OnOk result (sent.new.items ≡ sent.old.items ++ (connects site.now.setup site.now.declared (as_connected connection self.now)).sent) }
     {
         add(sent, connection.to_broker(Frame::Connect))?;
         self.add_command_at(alloc, site, connection, self.produce, sent)?;
         self.add_command_at(alloc, site, connection, self.sub, sent)?;
         self.add_command_at(alloc, site, connection, self.flow, sent)?;
-        Ok(())
+        self.add_unanswered(alloc, site, connection, sent)
     }
 
     fn add_unanswered(

@@ -1,5 +1,5 @@
 //! `get`: a client takes the next packet of its current cluster's link.
-ghost use Rattle.std.specs.Prelude.{Option, Some, ◌≡◌, ◌<◌, true, false, not, length, remove, IfOk, OnOk, OnErr, IfSome, IfNone};
+ghost use Rattle.std.specs.Prelude.{Option, Some, ◌≡◌, ◌<◌, [], ◌∷◌, ◌++◌, true, false, not, length, remove, IfOk, OnOk, OnErr, IfSome, IfNone};
 ghost use Rattle.std.specs.List.{list_any};
 ghost use Rattle.std.specs.Option.{option_copied};
 ghost use Rattle.geo_base.specs.Getting.{answered, get, got_frame, got_message, is_duplicate, is_number, publishes, received, with_error, with_receipt, without_seq};
@@ -15,6 +15,7 @@ ghost use Rattle.pulsar_frames.specs.Frames.{IsFrameText};
 ghost use Rattle.pulsar_frames.specs.Usual.{frame_viewed};
 
 use crate::client::Client;
+use crate::held::HeldTable;
 use crate::site::ClientSite;
 use frame_values::{number_of, read_value};
 use geo_base::{Entry, Frame, Held, Ident, Line, Memory, Place, Position, ProducerName};
@@ -101,7 +102,10 @@ impl Client {
         ensures err { OnErr result (self.new ≡ self.old) }
     {
         let frame = read_value(alloc, site.clusters(), packet.frame.as_slice())?;
-        self.take_frame(alloc, site, packet, &frame)
+        let taken = self.take_frame(alloc, site, packet, &frame);
+        // by a call, so that the end of a frame is proved by itself
+        drop(frame);
+        taken
     }
 
     /// A packet came whose bytes were read.
@@ -272,19 +276,12 @@ impl Client {
         if !is_line(self.sub, id) {
             return Ok(());
         }
-        self.got.reserve(1)?;
-        let held = Ident {
+        let ident = Ident {
             origin,
             producer: ProducerName::any(alloc, producer)?,
             seq,
         };
-        let got = held.copy(alloc)?;
-        self.held.push(Held {
-            ident: held,
-            position,
-        })?;
-        self.got.push_reserved(got);
-        Ok(())
+        hold(alloc, &mut self.held, &mut self.got, ident, position)
     }
 
     /// The receipt of a publish came: of a stored entry, or of a duplicate.
@@ -314,6 +311,26 @@ impl Client {
         self.unanswered.remove(at);
         self.errors += 1;
     }
+}
+
+/// A message is held and got; neither where memory is wanting.
+fn hold(
+    alloc: Global,
+    held: &mut HeldTable,
+    got: &mut Vec<Ident>,
+    ident: Ident,
+    position: Position,
+) -> Result<(), Memory>
+    ensures held { OnOk result (held.new ≡ held.old ++ record { ident = ident; position = position } ∷ []) }
+    ensures got { OnOk result (got.new.items ≡ got.old.items ++ ident ∷ []) }
+    ensures same_held { OnErr result (held.new ≡ held.old) }
+    ensures same_got { OnErr result (got.new.items ≡ got.old.items) }
+{
+    got.reserve(1)?;
+    let copy = ident.copy(alloc)?;
+    held.push(Held { ident, position })?;
+    got.push_reserved(copy);
+    Ok(())
 }
 
 /// Whether an id is that of a line in force.

@@ -164,8 +164,14 @@ impl Client {
         requires { is_short_line line.now ≡ true }
         ensures { IfOk result (λ p. p ≡ record { change = Some change; sent = command site.now.setup site.now.declared (as_connected (record { cluster = self.now.cluster; number = self.now.connection }) self.now) self.now.done (Some line.now) }) }
     {
-        let mut sent = Vec::with_capacity(alloc, 1)?;
-        self.add_command(alloc, site, self.connection(), self.done, line, &mut sent)?;
-        Ok(Plan::new(change, sent))
+        let mut sent = Vec::new(alloc);
+        match self.add_command(alloc, site, self.connection(), self.done, line, &mut sent) {
+            Ok(()) => Ok(Plan::new(change, sent)),
+            Err(memory) => {
+                drop(change);
+                drop(sent);
+                Err(memory)
+            }
+        }
     }
 }

@@ -40,7 +40,7 @@ impl ClientOut {
 }
 
 /// A connection of a client: the cluster that it leads to, and its number, from 1.
-#[derive(Clone, Copy, Drop, PartialEq, Eq)]
+#[derive(Clone, Copy, Drop)]
 pub struct Connection {
     pub cluster: u32,
     pub number: u64,

@@ -47,8 +47,15 @@ impl Plan {
     pub(super) fn sends(alloc: Global, change: ClientChange, out: ClientOut) -> Result<Plan, Memory>
         ensures { IfOk result (λ p. p ≡ record { change = Some change; sent = out ∷ [] }) }
     {
-        let mut sent = Vec::with_capacity(alloc, 1)?;
-        add(&mut sent, out)?;
-        Ok(Plan::new(change, sent))
+        let mut sent = Vec::new(alloc);
+        match add(&mut sent, out) {
+            Ok(()) => Ok(Plan::new(change, sent)),
+            // by calls, so that the ends of both are proved once
+            Err(memory) => {
+                drop(change);
+                drop(sent);
+                Err(memory)
+            }
+        }
     }
 }

@@ -62,8 +62,15 @@ impl Prepared {
         ensures sent { IfOk result (λ p. AreWritten names.now p.sent plan.sent) }
     {
         let Plan { change, sent } = plan;
-        let sent = write_all(alloc, names, sent.as_slice())?;
-        Ok(Prepared { change, sent })
+        let written = write_all(alloc, names, sent.as_slice());
+        drop(sent);
+        match written {
+            Ok(sent) => Ok(Prepared { change, sent }),
+            Err(memory) => {
+                drop(change);
+                Err(memory)
+            }
+        }
     }
 
     /// Whether the event is not enabled.
