@@ -83,11 +83,6 @@ module _ (names : List (List ℕ)) (ledgers : List ℕ) (h : ℕ) (all : List En
   pub within : (i j : ℕ) → IsLeast (is_shown h all) i (Some j) → j < length all
   within i j least = let e = shown_there h j all least.1 in slice_get_within all j e.0 e.1
 
--- the next index of a view, whose horizon and answer have other names
-pub least_at : (h m : ℕ) (all : List Entry) (from : ℕ) (r o : Option ℕ) → h ≡ m → r ≡ o → IsLeast (is_shown h all) from r → IsLeast (is_shown m all) from o
-least_at h m all from r o same is least =
-    subst (λ (k : ℕ). IsLeast (is_shown k all) from o) same (subst (λ (x : Option ℕ). IsLeast (is_shown h all) from x) is least)
-
 -- an answer that is no index is none
 pub none_left : (r : Option ℕ) → ((i : ℕ) → r ≡ Some i → ⊥) → r ≡ None
 none_left (Some i) not = absurd (not i refl)

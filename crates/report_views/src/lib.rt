@@ -6,10 +6,10 @@
 //! makes the whole apart from where it goes.
 #![tactic(auto)]
 
-ghost use Rattle.std.specs.Prelude.{◌≡◌, ◌≤◌, ◌++◌, ◌∷◌, [], length, string_bytes, IfOk, OnOk, OnErr, take};
+ghost use Rattle.std.specs.Prelude.{◌≡◌, ◌<◌, ◌≤◌, ◌^◌, ◌++◌, ◌∷◌, [], length, string_bytes, IfOk, OnOk, OnErr, take};
 ghost use Rattle.compaction.specs.Last.{IsCompacted};
 ghost use Rattle.geo_base.specs.Report.{with_line_feeds};
-ghost use Rattle.report_views.specs.Views.{horizon_line, view_messages};
+ghost use Rattle.report_views.specs.Views.{horizon_line, shown_lines, view_messages};
 
 use compaction::{CompactFault, Compacted};
 use geo_base::limits::CLUSTERS;
@@ -43,6 +43,25 @@ pub fn add_messages<S: EntryStore>(
     ensures err { OnErr result (take (length lines.old) lines.new ≡ lines.old) }
 {
     let compacted = compacted_to(alloc, store, horizon.min(store.len() as u64))?;
+    let added = add_view(lines, clusters, store, &compacted);
+    drop(compacted);
+    added
+}
+
+/// Appends the messages of a view of a topic.
+fn add_view<S: EntryStore>(
+    lines: &mut Blob,
+    clusters: &[ClusterName],
+    store: &S,
+    compacted: &Compacted,
+) -> Result<(), Memory>
+    requires few { length clusters.now ≤ CLUSTERS }
+    requires of { IsCompacted (S.entries store.now) compacted.now }
+    requires indexes { length (S.entries store.now) < 2 ^ 64 }
+    ensures ok { OnOk result (lines.new ≡ lines.old ++ with_line_feeds
+        (shown_lines clusters.now (S.ledgers store.now) compacted.now.horizon (S.entries store.now) 0 (S.entries store.now))) }
+    ensures err { OnErr result (take (length lines.old) lines.new ≡ lines.old) }
+{
     let mut from = 0;
     while let Some(index) = compacted.next(store, from) {
         add_entry(lines, clusters, store, index as usize)?;

@@ -34,10 +34,31 @@ pub(crate) fn cluster_names(alloc: Global) -> Result<Sequence<ClusterName>, Memo
     ensures { IfOk result (λ ns. ns ≡ codes "a" ∷ codes "b" ∷ codes "c" ∷ []) }
 {
     let mut names = Sequence::new(alloc);
-    names.push(named(alloc, "a")?)?;
-    names.push(named(alloc, "b")?)?;
-    names.push(named(alloc, "c")?)?;
-    Ok(names)
+    match add_cluster_names(alloc, &mut names) {
+        Ok(()) => Ok(names),
+        Err(Memory) => {
+            drop(names);
+            Err(Memory)
+        }
+    }
+}
+
+fn add_cluster_names(alloc: Global, names: &mut Sequence<ClusterName>) -> Result<(), Memory>
+    requires fresh { names.old ≡ [] }
+    ensures { OnOk result (names.new ≡ codes "a" ∷ codes "b" ∷ codes "c" ∷ []) }
+{
+    add_name(alloc, names, "a")?;
+    add_name(alloc, names, "b")?;
+    add_name(alloc, names, "c")?;
+    Ok(())
+}
+
+fn add_name(alloc: Global, names: &mut Sequence<ClusterName>, text: &str) -> Result<(), Memory>
+    requires { is_name text.now ≡ true }
+    ensures { OnOk result (names.new ≡ names.old ++ text.now ∷ []) }
+{
+    let name = named(alloc, text)?;
+    names.push(name)
 }
 
 /// A text that is a name, as one. Only memory can be wanting.
@@ -58,42 +79,98 @@ pub(crate) fn topic_names(alloc: Global) -> Result<Sequence<TopicName>, Memory>
 }
 
 /// The clients: a producer at each cluster, and the consumer.
-#[tactic(auto, unfolding(crate::specs::Scenario::generated_clients))]
 pub(crate) fn clients(alloc: Global) -> Result<Sequence<ClientDecl>, Memory>
     ensures { IfOk result (λ cs. cs ≡ generated_clients) }
 {
     let mut clients = Sequence::new(alloc);
-    clients.push(client(alloc, "pa", 0, producer_lines(alloc, FIRST_PUBLISHES)?)?)?;
-    clients.push(client(alloc, "pb", 1, producer_lines(alloc, FIRST_PUBLISHES)?)?)?;
-    clients.push(client(alloc, "pc", 2, producer_lines(alloc, LAST_PUBLISHES)?)?)?;
-    clients.push(client(alloc, "d", 0, consumer_lines(alloc)?)?)?;
-    Ok(clients)
+    match add_clients(alloc, &mut clients) {
+        Ok(()) => Ok(clients),
+        Err(Memory) => {
+            drop(clients);
+            Err(Memory)
+        }
+    }
 }
 
-fn client(
+#[tactic(auto, unfolding(crate::specs::Scenario::generated_clients))]
+fn add_clients(alloc: Global, clients: &mut Sequence<ClientDecl>) -> Result<(), Memory>
+    requires fresh { clients.old ≡ [] }
+    ensures { OnOk result (clients.new ≡ generated_clients) }
+{
+    add_producer(alloc, clients, "pa", 0, FIRST_PUBLISHES)?;
+    add_producer(alloc, clients, "pb", 1, FIRST_PUBLISHES)?;
+    add_producer(alloc, clients, "pc", 2, LAST_PUBLISHES)?;
+    add_consumer(alloc, clients)?;
+    Ok(())
+}
+
+fn add_producer(
     alloc: Global,
+    clients: &mut Sequence<ClientDecl>,
+    name: &str,
+    cluster: u32,
+    publishes: u64,
+) -> Result<(), Memory>
+    requires { is_name name.now ≡ true }
+    ensures { OnOk result (clients.new
+        ≡ clients.old ++ record { name = name.now; topic = 0; cluster = cluster; lines = producer_lines publishes } ∷ []) }
+{
+    let lines = producer_lines(alloc, publishes)?;
+    add_client(alloc, clients, name, cluster, lines)
+}
+
+fn add_consumer(alloc: Global, clients: &mut Sequence<ClientDecl>) -> Result<(), Memory>
+    ensures { OnOk result (clients.new
+        ≡ clients.old ++ record { name = codes "d"; topic = 0; cluster = 0; lines = consumer_lines } ∷ []) }
+{
+    let lines = consumer_lines(alloc)?;
+    add_client(alloc, clients, "d", 0, lines)
+}
+
+fn add_client(
+    alloc: Global,
+    clients: &mut Sequence<ClientDecl>,
     name: &str,
     cluster: u32,
     lines: Sequence<Line>,
-) -> Result<ClientDecl, Memory>
+) -> Result<(), Memory>
     requires { is_name name.now ≡ true }
-    ensures { IfOk result (λ d. d ≡ record { name = name.now; topic = 0; cluster = cluster; lines = lines }) }
+    ensures { OnOk result (clients.new
+        ≡ clients.old ++ record { name = name.now; topic = 0; cluster = cluster; lines = lines } ∷ []) }
 {
-    let name = ProducerName::any(alloc, name)?;
-    Ok(ClientDecl::of_parts(name, TOPIC, cluster, lines))
+    match ProducerName::any(alloc, name) {
+        Ok(name) => clients.push(ClientDecl::of_parts(name, TOPIC, cluster, lines)),
+        Err(Memory) => {
+            drop(lines);
+            Err(Memory)
+        }
+    }
 }
 
 /// The lines of a producer with so many publishes.
-#[tactic(auto, using(crate::proofs::Counting::publishes_next, crate::proofs::Counting::publishes_none), unfolding(crate::specs::Scenario::producer_lines))]
 fn producer_lines(alloc: Global, count: u64) -> Result<Sequence<Line>, Memory>
     ensures { IfOk result (λ ls. ls ≡ producer_lines count) }
 {
     let mut lines = Sequence::new(alloc);
+    match add_producer_lines(alloc, &mut lines, count) {
+        Ok(()) => Ok(lines),
+        Err(Memory) => {
+            drop(lines);
+            Err(Memory)
+        }
+    }
+}
+
+#[tactic(auto, using(crate::proofs::Counting::publishes_next, crate::proofs::Counting::publishes_none), unfolding(crate::specs::Scenario::producer_lines))]
+fn add_producer_lines(alloc: Global, lines: &mut Sequence<Line>, count: u64) -> Result<(), Memory>
+    requires fresh { lines.old ≡ [] }
+    ensures { OnOk result (lines.new ≡ producer_lines count) }
+{
     lines.push(Line::Produce)?;
     for seq in 0..count {
         lines.push(publish(alloc, seq)?)?;
     }
-    Ok(lines)
+    Ok(())
 }
 
 fn publish(alloc: Global, seq: u64) -> Result<Line, Memory>
@@ -108,11 +185,24 @@ fn publish(alloc: Global, seq: u64) -> Result<Line, Memory>
 }
 
 /// The lines of the consumer.
-#[tactic(auto, unfolding(crate::specs::Scenario::consumer_lines))]
 fn consumer_lines(alloc: Global) -> Result<Sequence<Line>, Memory>
     ensures { IfOk result (λ ls. ls ≡ consumer_lines) }
 {
     let mut lines = Sequence::new(alloc);
+    match add_consumer_lines(alloc, &mut lines) {
+        Ok(()) => Ok(lines),
+        Err(Memory) => {
+            drop(lines);
+            Err(Memory)
+        }
+    }
+}
+
+#[tactic(auto, unfolding(crate::specs::Scenario::consumer_lines))]
+fn add_consumer_lines(alloc: Global, lines: &mut Sequence<Line>) -> Result<(), Memory>
+    requires fresh { lines.old ≡ [] }
+    ensures { OnOk result (lines.new ≡ consumer_lines) }
+{
     lines.push(Line::Sub {
         sub: Text::from_str(alloc, "s")?,
         kind: SubKind::Exclusive,
@@ -120,8 +210,8 @@ fn consumer_lines(alloc: Global) -> Result<Sequence<Line>, Memory>
         replicated: true,
     })?;
     lines.push(Line::Flow { permits: PERMITS })?;
-    add_stays(&mut lines)?;
-    Ok(lines)
+    add_stays(lines)?;
+    Ok(())
 }
 
 #[tactic(auto, using(crate::proofs::Counting::stays_next, crate::proofs::Counting::stays_none, std::proofs::lemmas::Grind::common_steps))]

@@ -23,17 +23,30 @@ const PRODUCERS: u32 = 3;
 const ROUNDS: u32 = 4_000;
 
 /// The steps of a run's number.
-#[tactic(auto, unfolding(crate::specs::Schedule::generated_steps))]
 pub(crate) fn steps(alloc: Global, number: u32) -> Result<StepList, Memory>
     ensures { IfOk result (λ ss. ss ≡ generated_steps number) }
 {
     let mut steps = StepList::new(alloc);
-    add_connects(&mut steps)?;
-    add_opens(&mut steps)?;
-    add_turns(&mut steps, Draws::new(number))?;
-    add_finishes(&mut steps)?;
+    match add_steps(&mut steps, number) {
+        Ok(()) => Ok(steps),
+        Err(Memory) => {
+            drop(steps);
+            Err(Memory)
+        }
+    }
+}
+
+#[tactic(auto, unfolding(crate::specs::Schedule::generated_steps))]
+fn add_steps(steps: &mut StepList, number: u32) -> Result<(), Memory>
+    requires fresh { steps.old ≡ [] }
+    ensures { OnOk result (steps.new ≡ generated_steps number) }
+{
+    add_connects(steps)?;
+    add_opens(steps)?;
+    add_turns(steps, Draws::new(number))?;
+    add_finishes(steps)?;
     steps.push(Step::Settle)?;
-    Ok(steps)
+    Ok(())
 }
 
 #[tactic(auto, using(crate::proofs::Counting::connects_next, crate::proofs::Counting::connects_none, std::proofs::lemmas::Grind::common_steps))]

@@ -15,13 +15,7 @@ pub(crate) fn choice_of(menu: Menu, word: &[u8]) -> Option<u32>
     ensures { result ≡ choice_of menu word.now }
 {
     match menu {
-        Menu::Version => {
-            if word == b"1".as_slice() {
-                Some(0)
-            } else {
-                None
-            }
-        }
+        Menu::Version => { if is_word(word, b"1") { Some(0) } else { None } }
         Menu::Fate => {
             if is_word(word, b"good") {
                 Some(0)
@@ -56,13 +50,13 @@ fn one_of_two(word: &[u8], first: &[u8], second: &[u8]) -> Option<u32>
 fn sub_kind_of(word: &[u8]) -> Option<u32>
     ensures { result ≡ choice_of menu_word.SubKind word.now }
 {
-    if word == b"exclusive".as_slice() {
+    if is_word(word, b"exclusive") {
         Some(0)
-    } else if word == b"shared".as_slice() {
+    } else if is_word(word, b"shared") {
         Some(1)
-    } else if word == b"failover".as_slice() {
+    } else if is_word(word, b"failover") {
         Some(2)
-    } else if word == b"keyshared".as_slice() {
+    } else if is_word(word, b"keyshared") {
         Some(3)
     } else {
         None

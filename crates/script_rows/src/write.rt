@@ -1,5 +1,5 @@
 //! Steps written by their rows.
-ghost use Rattle.std.specs.Prelude.{◌≡◌, [], ◌∷◌, ◌++◌, IfOk, OnOk, OnErr, take, length};
+ghost use Rattle.std.specs.Prelude.{◌≡◌, [], ◌∷◌, ◌++◌, IfOk, OnOk, OnErr, take, length, codes};
 ghost use Rattle.std.specs.Fmt.{decimal};
 ghost use Rattle.script_names.specs.Names.{name_at};
 ghost use Rattle.script_rows.specs.declared.column.Column.TheVariants as kind;
@@ -95,9 +95,7 @@ impl<'a> Names<'a> {
         match step {
             Step::Plain(event) => self.write_event(alloc, out, event),
             Step::Halt(count, event) => {
-                out.append(b"halt ")?;
-                out.append(number_word(alloc, u64::from(*count))?.as_slice())?;
-                out.append(b" ")?;
+                write_halt(alloc, out, *count)?;
                 self.write_event(alloc, out, event)
             }
             Step::Settle => out.append(b"settle"),
@@ -112,9 +110,12 @@ impl<'a> Names<'a> {
         ensures err { OnErr result (take (length out.old) out.new ≡ out.old) }
     {
         let kind = kind_of(event);
-        let values = event_values(alloc, event)?;
         out.append(kind.word())?;
-        self.write_row(alloc, out, &Columns::new(kind.columns()), values.as_slice())
+        let values = event_values(alloc, event)?;
+        let columns = Columns::new(kind.columns());
+        let wrote = self.write_row(alloc, out, &columns, values.as_slice());
+        drop(values);
+        wrote
     }
 
     /// Writes values after what stands there, each after a space.
@@ -136,11 +137,13 @@ impl<'a> Names<'a> {
             let Some(column) = left.next_column() else {
                 return Ok(());
             };
-            let word = self.word(alloc, &seen, column, value)?;
             out.append(b" ")?;
-            out.append(word.as_slice())?;
+            let word = self.word(alloc, &seen, column, value)?;
             let kept = self.cluster_word(column, value);
             seen = self.seen_after(&seen, column, word.as_slice(), kept);
+            let wrote = out.append(word.as_slice());
+            drop(word);
+            wrote?;
         }
         Ok(())
     }
@@ -187,6 +190,19 @@ impl<'a> Names<'a> {
             _ => &[],
         }
     }
+}
+
+/// Writes the words of a halt that stand before its event.
+fn write_halt(alloc: Global, out: &mut Blob, count: u32) -> Result<(), Memory>
+    ensures ok { OnOk result (out.new ≡ ((out.old ++ codes "halt ") ++ decimal count) ++ codes " ") }
+    ensures err { OnErr result (take (length out.old) out.new ≡ out.old) }
+{
+    out.append(b"halt ")?;
+    let digits = number_word(alloc, u64::from(count))?;
+    let wrote = out.append(digits.as_slice());
+    drop(digits);
+    wrote?;
+    out.append(b" ")
 }
 
 fn named_word(alloc: Global, names: &NameTable<'_>, number: u32) -> Result<Blob, Memory>

@@ -1,6 +1,7 @@
 -- What is kept of an accepted script: it is a scenario.
-use Rattle.std.proofs.Common.{◌≡◌, ℕ, ◌^◌, ◌<◌, ◌≤◌, nat_lt, Bool, true, ◌&&◌, List, [], ◌∷◌, length, All, IfSome, arith, refl}
+use Rattle.std.proofs.Common.{◌≡◌, ℕ, ◌^◌, ◌<◌, ◌≤◌, nat_lt, Bool, true, ◌&&◌, List, [], ◌∷◌, length, All, IfSome, Result, Ok, Err, arith, refl}
 use Rattle.std.specs.List.{list_all}
+use Rattle.std.specs.Prelude.{OnOk}
 use Rattle.std.proofs.lemmas.Bool.{and_from, lt-ltb}
 use Rattle.std.proofs.lemmas.List.Elements.{All-head, All-tail, All-weaker}
 use Rattle.geo_base.specs.Name.{is_name}
@@ -70,6 +71,11 @@ declared_scripted s k = record {
   of_a_topic = k.of_a_topic;
 }
 
-pub scenario_is : (d : Declarations) (steps : Steps) → IsDeclared d.setup → 0 < length d.setup.topics → All IsClient d.setup.clients → IfSome d.chance IsChance → All (IsStep d.setup) steps.list → IsScenario (script_with (record { declared = d; steps = steps }))
-scenario_is d steps known some clients chance all =
-    record { setup = scripted d.setup known some; clients = clients; chance = chance; steps = all }
+scenario_is : (d : Declarations) (steps : Steps) → IsScripted d.setup → All IsClient d.setup.clients → IfSome d.chance IsChance → All (IsStep d.setup) steps.list → IsScenario (script_with (record { declared = d; steps = steps }))
+scenario_is d steps known clients chance all =
+    record { setup = known; clients = clients; chance = chance; steps = all }
+
+-- so is what makes a script with whatever steps, with these
+pub completed_is : {T E : Type 0} (r : Result T E) (d : Declarations) (steps : Steps) → OnOk r (IsScripted d.setup) → All IsClient d.setup.clients → IfSome d.chance IsChance → All (IsStep d.setup) steps.list → OnOk r (IsScenario (script_with (record { declared = d; steps = steps })))
+completed_is (Ok u) d steps known clients chance all = scenario_is d steps known clients chance all
+completed_is (Err e) d steps known clients chance all = tt

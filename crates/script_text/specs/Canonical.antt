@@ -35,6 +35,20 @@ replication_word false = codes "local"
 abbrev pub ident_words : List Word → Ident → List Word
 ident_words clusters i = name_at clusters i.origin ∷ i.producer ∷ decimal i.seq ∷ []
 
+abbrev pub head_word : Line → Word
+head_word line.Produce = codes "produce"
+head_word (line.Pub seq to key text) = codes "pub"
+head_word (line.Sub sub kind earliest replicated) = codes "sub"
+head_word (line.Flow permits) = codes "flow"
+head_word (line.Ack i) = codes "ack"
+head_word (line.AckTo i) = codes "ackto"
+head_word line.AckAll = codes "ackall"
+head_word line.Unsub = codes "unsub"
+head_word line.Close = codes "close"
+head_word line.CloseProducer = codes "closep"
+head_word line.Ping = codes "ping"
+head_word (line.Move x) = codes "move"
+
 abbrev pub line_words : List Word → Line → List Word
 line_words clusters line.Produce = codes "produce" ∷ []
 line_words clusters (line.Pub seq to key text) =

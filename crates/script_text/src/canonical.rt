@@ -1,9 +1,10 @@
 //! The text that writes what a script declares.
-ghost use Rattle.std.specs.Prelude.{◌≡◌, [], ◌∷◌, ◌++◌, Ok, IfOk, OnOk};
+ghost use Rattle.std.specs.Prelude.{◌≡◌, [], ◌∷◌, ◌++◌, Ok, IfOk, OnOk, codes};
 ghost use Rattle.std.specs.Fmt.{decimal};
 ghost use Rattle.geo_base.specs.Setup.{Setup};
+ghost use Rattle.script_names.specs.Names.{name_at};
 ghost use Rattle.script_rows.specs.Written.{key_word, targets_word};
-ghost use Rattle.script_text.specs.Canonical.{all_lines_text, chance_text, clients_text, declarations_text, declared_alone, ident_words, kind_word, ledger_text, line_words, lines_text, names_text, pushed, replication_word, start_word};
+ghost use Rattle.script_text.specs.Canonical.{all_lines_text, chance_text, clients_text, declarations_text, declared_alone, head_word, ident_words, kind_word, ledger_text, line_words, lines_text, names_text, pushed, replication_word, start_word};
 ghost use Rattle.script_text.specs.Naming.{names_of};
 ghost use Rattle.script_text.specs.Rules.{script_of};
 
@@ -31,19 +32,39 @@ pub fn write_declarations(alloc: Global, scenario: &Scenario) -> Result<Blob, Me
 }
 
 /// The text, by the names of the script.
-#[tactic(auto, using(crate::proofs::Written::all_written))]
 fn written(alloc: Global, names: &Names<'_>, scenario: &Scenario) -> Result<Blob, Memory>
     requires { names.now ≡ names_of scenario.now.setup }
     ensures { IfOk result (λ text. text ≡ declarations_text scenario.now.setup scenario.now.chance) }
 {
     let mut out = Blob::from_slice(alloc, b"geo 1\n")?;
-    write_ledger(alloc, &mut out, scenario.per_ledger())?;
-    write_chance(alloc, &mut out, scenario.chance())?;
-    write_names(&mut out, b"cluster", scenario.clusters())?;
-    write_names(&mut out, b"topic", scenario.topics())?;
-    write_clients(&mut out, names, scenario.clients())?;
-    write_all_lines(alloc, &mut out, names.clusters(), scenario.clients())?;
-    Ok(out)
+    match write_rows(alloc, &mut out, names, scenario) {
+        Ok(()) => Ok(out),
+        Err(Memory) => {
+            drop(out);
+            Err(Memory)
+        }
+    }
+}
+
+/// All rows after the first.
+#[tactic(auto, using(crate::proofs::Written::all_written))]
+fn write_rows(
+    alloc: Global,
+    out: &mut Blob,
+    names: &Names<'_>,
+    scenario: &Scenario,
+) -> Result<(), Memory>
+    requires names { names.now ≡ names_of scenario.now.setup }
+    requires begun { out.old ≡ codes "geo 1\n" }
+    ensures { OnOk result (out.new ≡ declarations_text scenario.now.setup scenario.now.chance) }
+{
+    write_ledger(alloc, out, scenario.per_ledger())?;
+    write_chance(alloc, out, scenario.chance())?;
+    write_names(out, b"cluster", scenario.clusters())?;
+    write_names(out, b"topic", scenario.topics())?;
+    write_clients(out, names, scenario.clients())?;
+    write_all_lines(alloc, out, names.clusters(), scenario.clients())?;
+    Ok(())
 }
 
 /// A word after a space.
@@ -110,13 +131,22 @@ fn write_clients(out: &mut Blob, names: &Names<'_>, clients: &[ClientDecl]) -> R
     ensures { OnOk result (out.new ≡ out.old ++ clients_text names.now.clusters names.now.topics clients.now) }
 {
     for client in clients {
-        out.append(b"client")?;
-        push_word(out, client.name().as_bytes())?;
-        push_word(out, names.topics().name(client.topic() as usize))?;
-        push_word(out, names.clusters().name(client.cluster() as usize))?;
-        out.append(b"\n")?;
+        write_client(out, names, client)?;
     }
     Ok(())
+}
+
+/// `client C T X`
+fn write_client(out: &mut Blob, names: &Names<'_>, client: &ClientDecl) -> Result<(), Memory>
+    ensures { OnOk result (out.new ≡ pushed (out.old ++ codes "client")
+        (client.now.name ∷ name_at names.now.topics client.now.topic
+        ∷ name_at names.now.clusters client.now.cluster ∷ []) ++ 10 ∷ []) }
+{
+    out.append(b"client")?;
+    push_word(out, client.name().as_bytes())?;
+    push_word(out, names.topics().name(client.topic() as usize))?;
+    push_word(out, names.clusters().name(client.cluster() as usize))?;
+    out.append(b"\n")
 }
 
 /// The lines of each client.
@@ -163,10 +193,9 @@ fn push_line(
 ) -> Result<(), Memory>
     ensures { OnOk result (out.new ≡ pushed out.old (line_words clusters.now line.now)) }
 {
+    push_word(out, head_word(line))?;
     match line {
-        Line::Produce => push_word(out, b"produce"),
         Line::Pub { seq, to, key, text } => {
-            push_word(out, b"pub")?;
             push_number(alloc, out, *seq)?;
             push_targets(alloc, out, clusters, *to)?;
             push_content(out, key, text)
@@ -177,31 +206,18 @@ fn push_line(
             earliest,
             replicated,
         } => {
-            push_word(out, b"sub")?;
             push_word(out, sub.as_bytes())?;
             push_choices(out, *kind, *earliest, *replicated)
         }
-        Line::Flow { permits } => {
-            push_word(out, b"flow")?;
-            push_number(alloc, out, u64::from(*permits))
-        }
-        Line::Ack { ident } => {
-            push_word(out, b"ack")?;
-            push_ident(alloc, out, clusters, ident)
-        }
-        Line::AckTo { ident } => {
-            push_word(out, b"ackto")?;
-            push_ident(alloc, out, clusters, ident)
-        }
-        Line::AckAll => push_word(out, b"ackall"),
-        Line::Unsub => push_word(out, b"unsub"),
-        Line::Close => push_word(out, b"close"),
-        Line::CloseProducer => push_word(out, b"closep"),
-        Line::Ping => push_word(out, b"ping"),
-        Line::Move { cluster } => {
-            push_word(out, b"move")?;
-            push_word(out, clusters.name(*cluster as usize))
-        }
+        Line::Flow { permits } => push_number(alloc, out, u64::from(*permits)),
+        Line::Ack { ident } | Line::AckTo { ident } => push_ident(alloc, out, clusters, ident),
+        Line::Move { cluster } => push_word(out, clusters.name(*cluster as usize)),
+        Line::Produce
+        | Line::AckAll
+        | Line::Unsub
+        | Line::Close
+        | Line::CloseProducer
+        | Line::Ping => Ok(()),
     }
 }
 
@@ -257,6 +273,25 @@ fn push_targets(
             let word = list_word(alloc, clusters, mask)?;
             push_word(out, word.as_slice())
         }
+    }
+}
+
+fn head_word(line: &Line) -> &'static [u8]
+    ensures { result.now ≡ head_word line.now }
+{
+    match line {
+        Line::Produce => b"produce",
+        Line::Pub { .. } => b"pub",
+        Line::Sub { .. } => b"sub",
+        Line::Flow { .. } => b"flow",
+        Line::Ack { .. } => b"ack",
+        Line::AckTo { .. } => b"ackto",
+        Line::AckAll => b"ackall",
+        Line::Unsub => b"unsub",
+        Line::Close => b"close",
+        Line::CloseProducer => b"closep",
+        Line::Ping => b"ping",
+        Line::Move { .. } => b"move",
     }
 }
 

@@ -2,8 +2,11 @@
 ghost use Rattle.std.specs.Prelude.{◌≡◌, ◌<◌, true, false, length, IfOk, OnOk};
 ghost use Rattle.geo_base.specs.Name.{is_name};
 ghost use Rattle.script_names.specs.Names.{is_among};
+ghost use Rattle.script_rows.specs.Names.{with_role};
+ghost use Rattle.script_rows.specs.Rows.{role_of};
+ghost use Rattle.script_rows.specs.Values.{line_of};
 ghost use Rattle.script_text.specs.Adding.{progress_after};
-ghost use Rattle.script_text.specs.Drafts.{CanAdd, CanAddHeading, IsDeclared, Judges, drafted, drafted_act, drafted_client, drafted_cluster, drafted_line, drafted_topic, drafted_with, no_draft};
+ghost use Rattle.script_text.specs.Drafts.{CanAdd, CanAddHeading, IsDeclared, Judges, drafted, drafted_act, drafted_client, drafted_cluster, drafted_line, drafted_topic, drafted_with, no_draft, noted_line};
 ghost use Rattle.script_text.specs.Subs.{AreKnown};
 
 use crate::chance::{Chance, chance_of};
@@ -89,24 +92,29 @@ impl<'a> Draft<'a> {
         requires { CanAdd self.old kind values.now }
         ensures { OnOk result (self.new ≡ drafted self.old kind values.now) }
     {
+        self.progress = progress_after(self.progress, kind);
         match kind {
-            Kind::Other(LineKind::Ledger) => self.per_ledger = u64::from(item_at(values, 0)),
-            Kind::Other(LineKind::Chance) => self.chance = Some(chance_of(values)),
-            Kind::Other(LineKind::Cluster) => self.add_cluster(alloc, &name_at(values, 0))?,
-            Kind::Other(LineKind::Topic) => self.add_topic(alloc, &name_at(values, 0))?,
+            Kind::Other(LineKind::Ledger) => {
+                self.per_ledger = u64::from(item_at(values, 0));
+                Ok(())
+            }
+            Kind::Other(LineKind::Chance) => {
+                self.chance = Some(chance_of(values));
+                Ok(())
+            }
+            Kind::Other(LineKind::Cluster) => self.add_cluster(alloc, &name_at(values, 0)),
+            Kind::Other(LineKind::Topic) => self.add_topic(alloc, &name_at(values, 0)),
             Kind::Other(LineKind::Client) => {
                 self.add_client(
                     alloc,
                     &name_at(values, 0),
                     item_at(values, 1),
                     item_at(values, 2),
-                )?
+                )
             }
-            Kind::Do(act) => self.add_line(alloc, act, values)?,
-            _ => {}
+            Kind::Do(act) => self.add_line(alloc, act, values),
+            _ => Ok(()),
         }
-        self.progress = progress_after(self.progress, kind);
-        Ok(())
     }
 
     /// `cluster X`
@@ -166,11 +174,8 @@ impl<'a> Draft<'a> {
     {
         let client = item_at(values, 0);
         let said = rest(values);
-        self.names.note_role(client, act.role());
-        if act == ActKind::Sub {
-            let topic = self.clients[client as usize].topic();
-            self.names.note_sub(topic, name_at(said, 0).as_bytes())?;
-        }
+        let topic = self.clients[client as usize].topic();
+        note_line(&mut self.names, client, topic, act, said)?;
         let line = line_of(alloc, act, said)?;
         self.clients[client as usize].push_line(line)
     }
@@ -190,6 +195,27 @@ impl<'a> Draft<'a> {
             Sequence::from_vec(clients),
         );
         Declarations::new(alloc, self.progress, self.chance, setup)
+    }
+}
+
+/// What a client's line makes of the names: the client's role, and a subscription of its topic.
+fn note_line<'a>(
+    names: &mut Names<'a>,
+    client: u32,
+    topic: u32,
+    act: ActKind,
+    said: &[Value<'a>],
+) -> Result<(), Memory>
+    requires client { client < length names.old.members }
+    requires topic { topic < length names.old.subs }
+    ensures { OnOk result (names.new
+        ≡ noted_line (with_role names.old client (role_of act)) topic (line_of act said.now)) }
+{
+    names.note_role(client, act.role());
+    if act == ActKind::Sub {
+        names.note_sub(topic, name_at(said, 0).as_bytes())
+    } else {
+        Ok(())
     }
 }
 

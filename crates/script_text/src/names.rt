@@ -1,5 +1,5 @@
 //! The names of a script in tables.
-ghost use Rattle.std.specs.Prelude.{◌≡◌, length, map, IfOk, OnOk};
+ghost use Rattle.std.specs.Prelude.{◌≡◌, [], length, map, IfOk, OnOk};
 ghost use Rattle.std.specs.List.{list_any, range_with_len};
 ghost use Rattle.geo_base.specs.Scripted.{AreDistinct, is_move, is_produce};
 ghost use Rattle.geo_base.specs.Setup.{Declared, sub_names};
@@ -53,8 +53,13 @@ impl Declarations {
     {
         let setup = self.setup();
         let clusters = table_of(alloc, setup.clusters())?;
-        let topics = table_of(alloc, setup.topics())?;
-        Ok(NodeNames { clusters, topics })
+        match table_of(alloc, setup.topics()) {
+            Ok(topics) => Ok(NodeNames { clusters, topics }),
+            Err(Memory) => {
+                drop(clusters);
+                Err(Memory)
+            }
+        }
     }
 
     /// The names of the clients, and what is asked of each.
@@ -69,63 +74,120 @@ impl Declarations {
     }
 
     /// The subscriptions of each topic.
-    #[tactic(auto, using(crate::proofs::Tables::one_table, crate::proofs::Tables::subs_apart))]
     fn sub_tables(&self, alloc: Global) -> Result<Vec<NameTable<'_>>, Memory>
         ensures { IfOk result (λ tables. tables.items
             ≡ map (sub_names self.now.setup) (range_with_len 0 (length self.now.setup.topics))) }
     {
         let mut tables = Vec::new(alloc);
+        match self.add_sub_tables(alloc, &mut tables) {
+            Ok(()) => Ok(tables),
+            Err(Memory) => {
+                drop(tables);
+                Err(Memory)
+            }
+        }
+    }
+
+    /// The same, into tables that are none yet.
+    #[tactic(auto, using(crate::proofs::Tables::one_table, crate::proofs::Tables::subs_apart))]
+    fn add_sub_tables<'b>(
+        &'b self,
+        alloc: Global,
+        tables: &mut Vec<NameTable<'b>>,
+    ) -> Result<(), Memory>
+        requires fresh { tables.old.items ≡ [] }
+        ensures { OnOk result (tables.new.items
+            ≡ map (sub_names self.now.setup) (range_with_len 0 (length self.now.setup.topics))) }
+    {
         let count = self.setup().topics().len();
         for topic in 0..count {
             let table = table_of(alloc, self.sub_names(topic as u32))?;
-            match tables.push(table) {
-                Ok(()) => {}
-                Err(_) => return Err(Memory),
-            }
+            tables.push(table)?;
         }
-        Ok(tables)
+        Ok(())
     }
 }
 
 /// A table of names that are told apart.
-#[tactic(auto, using(crate::proofs::Tables::fresh, crate::proofs::Tables::one_taken))]
 fn table_of<K>(alloc: Global, names: &[Name<K>]) -> Result<NameTable<'_>, Memory>
     requires apart { AreDistinct names.now }
     ensures { IfOk result (λ table. table ≡ names.now) }
 {
     let mut table = NameTable::new(alloc);
+    match add_names(&mut table, names) {
+        Ok(()) => Ok(table),
+        Err(Memory) => {
+            drop(table);
+            Err(Memory)
+        }
+    }
+}
+
+/// Names that are told apart, into a table without names.
+#[tactic(auto, using(crate::proofs::Tables::fresh, crate::proofs::Tables::one_taken))]
+fn add_names<'a, K>(table: &mut NameTable<'a>, names: &'a [Name<K>]) -> Result<(), Memory>
+    requires fresh { table.old ≡ [] }
+    requires apart { AreDistinct names.now }
+    ensures { OnOk result (table.new ≡ names.now) }
+{
     for name in names {
         table.push(name.as_str().as_bytes())?;
     }
-    Ok(table)
+    Ok(())
 }
 
 /// The names of clients that are told apart.
-#[tactic(auto, using(crate::proofs::Tables::fresh_after, crate::proofs::Tables::one_mapped))]
 fn client_table(alloc: Global, clients: &[ClientDecl]) -> Result<NameTable<'_>, Memory>
     requires apart { AreDistinct (map (λ (d : Declared). d.name) clients.now) }
     ensures { IfOk result (λ table. table ≡ map (λ (d : Declared). d.name) clients.now) }
 {
     let mut table = NameTable::new(alloc);
+    match add_clients(&mut table, clients) {
+        Ok(()) => Ok(table),
+        Err(Memory) => {
+            drop(table);
+            Err(Memory)
+        }
+    }
+}
+
+/// The names of clients that are told apart, into a table without names.
+#[tactic(auto, using(crate::proofs::Tables::fresh_after, crate::proofs::Tables::one_mapped))]
+fn add_clients<'a>(table: &mut NameTable<'a>, clients: &'a [ClientDecl]) -> Result<(), Memory>
+    requires fresh { table.old ≡ [] }
+    requires apart { AreDistinct (map (λ (d : Declared). d.name) clients.now) }
+    ensures { OnOk result (table.new ≡ map (λ (d : Declared). d.name) clients.now) }
+{
     for client in clients {
         table.push(client.name().as_bytes())?;
     }
-    Ok(table)
+    Ok(())
 }
 
 /// What is asked of clients.
-#[tactic(auto, using(crate::proofs::Tables::one_mapped))]
 fn members_of(alloc: Global, clients: &[ClientDecl]) -> Result<Vec<Member>, Memory>
     ensures { IfOk result (λ members. members.items ≡ map member_of clients.now) }
 {
     let mut members = Vec::new(alloc);
-    for client in clients {
-        match members.push(member_of(client)) {
-            Ok(()) => {}
-            Err(_) => return Err(Memory),
+    match add_members(&mut members, clients) {
+        Ok(()) => Ok(members),
+        Err(Memory) => {
+            drop(members);
+            Err(Memory)
         }
     }
-    Ok(members)
+}
+
+/// What is asked of clients, where nothing is said yet.
+#[tactic(auto, using(crate::proofs::Tables::one_mapped))]
+fn add_members(members: &mut Vec<Member>, clients: &[ClientDecl]) -> Result<(), Memory>
+    requires fresh { members.old.items ≡ [] }
+    ensures { OnOk result (members.new.items ≡ map member_of clients.now) }
+{
+    for client in clients {
+        members.push(member_of(client))?;
+    }
+    Ok(())
 }
 
 /// What is asked of a client.

@@ -1,12 +1,14 @@
 //! The reader of a script.
 ghost use Rattle.std.specs.Prelude.{◌≡◌, ℕ, ◌+◌, ◌<◌, ◌≤◌, ◌^◌, ◌⊎◌, length, All, Err, Ok, IfOk, IfSome, OnOk};
-ghost use Rattle.script_text.specs.Drafts.{Answers, Finishes, Goes, IsDeclared, StartsWithStep, no_draft, so_far};
+ghost use Rattle.geo_base.specs.Scripted.{IsScripted};
+ghost use Rattle.script_text.specs.Drafts.{Answers, Finishes, Goes, IsDeclared, StartsWithStep, Takes, no_draft, so_far};
 ghost use Rattle.script_text.specs.Kept.{IsKept};
 ghost use Rattle.script_text.specs.Naming.{names_of};
 ghost use Rattle.script_text.specs.Recent.{IsNothing};
-ghost use Rattle.script_text.specs.Rules.{at_line, completed, script_from, script_of};
+ghost use Rattle.script_text.specs.Rules.{at_line, completed, script_from, script_of, script_with};
 ghost use Rattle.script_text.specs.Scenario.{IsChance, IsClient, IsScenario, IsStep};
 ghost use Rattle.script_text.specs.Script.{Script, no_line, no_steps};
+ghost use Rattle.script_text.specs.Script as scripts;
 
 use crate::declarations::Declarations;
 use crate::draft::Draft;
@@ -152,7 +154,7 @@ impl<'a> Draft<'a> {
 
 impl Declarations {
     /// The script of what is declared and of the lines that are left, of which the first has a number.
-    #[tactic(auto, using(crate::proofs::Answered::part_refused))]
+    #[tactic(auto, using(crate::proofs::Answered::not_taken))]
     fn read_rest(self, alloc: Global, lines: Lines<'_>, first: u64) -> Result<Scenario, ScriptFault>
         requires clients { All IsClient self.setup.clients }
         requires chance { IfSome self.chance IsChance }
@@ -162,8 +164,57 @@ impl Declarations {
         ensures known { IfOk result IsScenario }
     {
         let mut steps = Steps::new(alloc);
-        let end = self.read_steps(alloc, &mut steps, lines, first)?;
-        complete(self, steps, end)
+        match self.read_all(alloc, &mut steps, lines, first) {
+            Ok(()) => Ok(Scenario::new(self, steps)),
+            Err(fault) => {
+                drop(steps);
+                drop(self);
+                Err(fault)
+            }
+        }
+    }
+
+    /// Takes in the steps that lines schedule, of which the first has a number, and looks whether all makes a script.
+    fn read_all(
+        &self,
+        alloc: Global,
+        steps: &mut Steps,
+        lines: Lines<'_>,
+        first: u64,
+    ) -> Result<(), ScriptFault>
+        requires clients { All IsClient self.now.setup.clients }
+        requires chance { IfSome self.now.chance IsChance }
+        requires fresh { steps.old ≡ no_steps }
+        requires starts { StartsWithStep lines }
+        requires few { first + length lines ≤ 2 ^ 32 }
+        ensures takes { Takes result (script_with (record { declared = self.now; steps = steps.new }))
+            (script_from first (so_far self.now) lines.entry) }
+        ensures known { OnOk result (IsScenario (script_with (record { declared = self.now; steps = steps.new }))) }
+    {
+        let end = self.read_steps(alloc, steps, lines, first)?;
+        self.complete(end)
+    }
+
+    /// Whether what is declared makes a script with whatever steps; `number` is that of the line after the last.
+    #[tactic(auto, using(crate::proofs::Accepted::scripted))]
+    fn complete(&self, number: u64) -> Result<(), ScriptFault>
+        ensures takes { (steps : scripts.Steps) → Takes result (script_with (record { declared = self.now; steps = steps }))
+            (at_line number (completed (record { declared = self.now; steps = steps })) Ok) }
+        ensures known { OnOk result (IsScripted self.now.setup) }
+    {
+        if !self.progress().begun {
+            return Err(ScriptFault::Rule {
+                line: number,
+                rule: Rule::Head.number(),
+            });
+        }
+        if self.setup().topics().len() == 0 {
+            return Err(ScriptFault::Rule {
+                line: number,
+                rule: Rule::Lone.number(),
+            });
+        }
+        Ok(())
     }
 
     /// Takes in the steps that lines schedule, of which the first has a number, and answers that of the line after the last.
@@ -254,28 +305,4 @@ impl Declarations {
         }
         Ok(number)
     }
-}
-
-/// The script that the lines make; `number` is that of the line after the last.
-#[tactic(auto, using(crate::proofs::Accepted::scenario_is))]
-fn complete(declared: Declarations, steps: Steps, number: u64) -> Result<Scenario, ScriptFault>
-    requires clients { All IsClient declared.setup.clients }
-    requires chance { IfSome declared.chance IsChance }
-    requires steps { All (IsStep declared.setup) steps.list }
-    ensures answers { Answers result (at_line number (completed (record { declared = declared; steps = steps })) Ok) }
-    ensures known { IfOk result IsScenario }
-{
-    if !declared.progress().begun {
-        return Err(ScriptFault::Rule {
-            line: number,
-            rule: Rule::Head.number(),
-        });
-    }
-    if declared.setup().topics().len() == 0 {
-        return Err(ScriptFault::Rule {
-            line: number,
-            rule: Rule::Lone.number(),
-        });
-    }
-    Ok(Scenario::new(declared, steps))
 }

@@ -1,5 +1,5 @@
 use Rattle.std.proofs.Common.{◌≡◌, take}
-use Rattle.script_text.proofs.names.table_of.Given as goal
+use Rattle.script_text.proofs.names.add_names.Given as goal
 
 abbrev pub invariant-loop-name : goal.invariant-loop-name
 invariant-loop-name g l = l.table ≡ take l.name-index l.names

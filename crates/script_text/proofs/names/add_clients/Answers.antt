@@ -1,5 +1,5 @@
 use Rattle.script_text.proofs.Tables.{fresh_after}
-use Rattle.script_text.proofs.names.client_table.Goals as goal
+use Rattle.script_text.proofs.names.add_clients.Goals as goal
 
 pub push-requires : goal.push-requires
 push-requires c =
