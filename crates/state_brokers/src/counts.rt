@@ -7,7 +7,7 @@ use geo_base::limits::{EVENTS, SENT_BYTES};
 use state_items::{ItemFault, MOST_COUNT, Rule, judge, number_at, number_within};
 
 /// Events that were done, idle ones, rounds of settling, and the bytes of all frames that were sent.
-#[derive(Clone, Copy, Drop, PartialEq, Eq)]
+#[derive(Clone, Copy, Drop)]
 pub struct Counts {
     pub events: u64,
     pub idle: u64,

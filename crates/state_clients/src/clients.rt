@@ -13,7 +13,7 @@ use state_items::{ItemFault, MOST_COUNT, Rule, judge, number_at, number_within, 
 use std::alloc::Global;
 
 /// Where a client is, which connection was its last, and how many of its lines are done.
-#[derive(Clone, Copy, Drop, PartialEq, Eq)]
+#[derive(Clone, Copy, Drop)]
 pub(crate) struct Place {
     pub(crate) cluster: u32,
     pub(crate) connection: u64,
@@ -21,7 +21,7 @@ pub(crate) struct Place {
 }
 
 /// A client's receipts, duplicates and errors.
-#[derive(Clone, Copy, Drop, PartialEq, Eq)]
+#[derive(Clone, Copy, Drop)]
 pub(crate) struct Tally {
     pub(crate) receipts: u64,
     pub(crate) duplicates: u64,

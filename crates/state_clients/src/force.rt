@@ -9,7 +9,7 @@ use state_items::{ItemFault, Rule, judge, number_at};
 use std::alloc::Global;
 
 /// A kind of line that can be in force, or wait for its receipt.
-#[derive(Clone, Copy, Drop, PartialEq, Eq)]
+#[derive(Clone, Copy, Drop)]
 pub(crate) enum LineKind {
     Produce,
     Sub,
@@ -18,7 +18,7 @@ pub(crate) enum LineKind {
 }
 
 /// The indexes of the lines in force.
-#[derive(Clone, Copy, Drop, PartialEq, Eq)]
+#[derive(Clone, Copy, Drop)]
 pub(crate) struct Force {
     pub(crate) produce: Option<usize>,
     pub(crate) sub: Option<usize>,

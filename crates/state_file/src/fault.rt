@@ -5,7 +5,7 @@ use state_items::ItemFault;
 use thiserror::Error;
 
 /// Why a file was not loaded.
-#[derive(Clone, Copy, Debug, Drop, PartialEq, Eq, Error)]
+#[derive(Clone, Copy, Debug, Drop, Error)]
 pub enum StateFault {
     /// The item whose first byte is at the offset breaks the rule of a number.
     #[error("bad state: offset {offset} rule {rule}")]

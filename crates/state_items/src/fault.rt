@@ -9,14 +9,14 @@ use std::alloc::{AllocError, AllocFailed};
 
 /// The first item that breaks a rule, and the lowest rule that it breaks. The item is told by how many bytes there are from its
 /// first one on.
-#[derive(Clone, Copy, Drop, PartialEq, Eq)]
+#[derive(Clone, Copy, Drop)]
 pub struct Broken {
     pub left: usize,
     pub rule: Rule,
 }
 
 /// Why an item was not read.
-#[derive(Clone, Copy, Drop, PartialEq, Eq)]
+#[derive(Clone, Copy, Drop)]
 pub enum ItemFault {
     /// An item breaks a rule.
     Broken(Broken),

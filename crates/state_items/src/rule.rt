@@ -3,7 +3,7 @@ ghost use Rattle.std.specs.Prelude.{◌≡◌};
 ghost use Rattle.state_items.specs.Numbers.{number_of};
 
 /// What an item of a state file can break. Where an item breaks several rules, the first of them here is told.
-#[derive(Clone, Copy, Drop, PartialEq, Eq)]
+#[derive(Clone, Copy, Drop)]
 pub enum Rule {
     /// The bytes, or the body, reach beyond the item.
     Whole,

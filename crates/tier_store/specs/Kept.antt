@@ -38,5 +38,8 @@ pub record TierState : Type 0 where
   pub calls : ℕ
   pub faults : ℕ
 
+abbrev pub kept_of : List (ℕ × List ℕ) → Kept
+kept_of rows k = lookup (is_at (nat_cmp k)) rows
+
 abbrev pub kept_in : TierState → Kept
-kept_in t k = lookup (is_at (nat_cmp k)) t.rows
+kept_in t k = kept_of t.rows k

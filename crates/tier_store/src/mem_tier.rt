@@ -1,7 +1,7 @@
 //! A tier in memory.
 ghost use Rattle.std.specs.Prelude.{◌≡◌, ◌≤◌, IfOk, OnOk, OnErr, IsErr, IsErrOf, Contains, []};
 ghost use Rattle.geo_io.specs.Faults.{Rose, Stood, one_more};
-ghost use Rattle.tier_store.specs.Kept.{IsRead, KeepsAll, MayPut, Puts, kept_in};
+ghost use Rattle.tier_store.specs.Kept.{IsRead, KeepsAll, MayPut, Puts, kept_in, kept_of};
 
 use crate::tier::{Failed, Held, Tier, TierGet};
 use geo_base::{Blob, Memory};
@@ -72,14 +72,8 @@ impl Tier for MemTier {
         if self.plan.next_fails() {
             return Err(Failed);
         }
-        match Blob::from_slice(self.alloc, bytes) {
-            Ok(copy) => match self.kept.insert(ledger, copy) {
-                Ok(_) => Ok(()),
-                Err(_) => {
-                    self.plan.count_fault();
-                    Err(Failed)
-                }
-            },
+        match keep(self.alloc, &mut self.kept, ledger, bytes) {
+            Ok(()) => Ok(()),
             Err(Memory) => {
                 self.plan.count_fault();
                 Err(Failed)
@@ -109,5 +103,22 @@ impl Tier for MemTier {
             }
             None => Ok(Held::No),
         }
+    }
+}
+
+/// Keeps a copy of bytes in a map, in place of what it has for a ledger. An `Err` is want of memory.
+fn keep(
+    alloc: Global,
+    kept: &mut BTreeMap<u64, Blob>,
+    ledger: u64,
+    bytes: &[u8],
+) -> Result<(), Memory>
+    ensures ok { OnOk result (Puts (kept_of kept.old.entries) (kept_of kept.new.entries) ledger bytes.now) }
+    ensures err { OnErr result (MayPut (kept_of kept.old.entries) (kept_of kept.new.entries) ledger bytes.now) }
+{
+    let copy = Blob::from_slice(alloc, bytes)?;
+    match kept.insert(ledger, copy) {
+        Ok(_) => Ok(()),
+        Err(_) => Err(Memory),
     }
 }

@@ -41,7 +41,7 @@ impl From<Failed> for OffloadFault {
 }
 
 /// Why an entry was not read. The list of entries is as it was.
-#[derive(Clone, Copy, Debug, Drop, PartialEq, Eq, Error)]
+#[derive(Clone, Copy, Debug, Drop, Error)]
 pub enum TierFault {
     /// The tier failed; its count of faults rose in this call.
     #[error("the tier failed")]
