@@ -47,6 +47,20 @@ may_act s a t x m (Seeks n i) h =
     let le : nat_le i (length m.entries) ≡ true = (broken_none 11 (nat_le i (length m.entries)) None seven.1).0 in
     grind (arith, nat_tests, le)
 
+pub place_broken : (a b c : Bool) (o : Option ℕ) (rule : ℕ) → Some rule ≡ unless_broken 2 a (unless_broken 3 b (unless_broken 4 c None))
+    → Some rule ≡ unless_broken 2 a (unless_broken 3 b (unless_broken 4 c o))
+place_broken true true true o rule h = absurd (none-some rule (sym h))
+place_broken true true false o rule h = h
+place_broken true false c o rule h = h
+place_broken false b c o rule h = h
+
+pub place_holds : (a b c : Bool) (o told : Option ℕ) → None ≡ unless_broken 2 a (unless_broken 3 b (unless_broken 4 c None)) → told ≡ o
+    → told ≡ unless_broken 2 a (unless_broken 3 b (unless_broken 4 c o))
+place_holds true true true o told h is = is
+place_holds true true false o told h is = absurd (none-some 4 h)
+place_holds true false c o told h is = absurd (none-some 3 h)
+place_holds false b c o told h is = absurd (none-some 2 h)
+
 pub write_may : (s : Setup) (a : Mirrors) (t x : ℕ) (act : Act) → refused s a (Writes t x act) ≡ None → MayAct (mirror_at s a t x) act
 unfolding refused
 write_may s a t x act h = may_act s a t x (mirror_at s a t x) act h

@@ -1,15 +1,15 @@
 //! The rules of entries that are appended.
-ghost use Rattle.std.specs.Prelude.{◌≡◌, ◌<◌, Some, length, IfOk};
+ghost use Rattle.std.specs.Prelude.{◌≡◌, ◌<◌, None, Some, length, IfOk};
 ghost use Rattle.geo_base.specs.Audit.{act_refused, is_cut, may_snapshot, may_stand, may_update, passes_local, tells_entry};
 ghost use Rattle.geo_base.specs.Mirror.{index_at, mirror_at, mirror_sub};
 ghost use Rattle.geo_base.specs.TraceItems.{Appends};
-ghost use Rattle.audit.specs.Appends.{covers_other};
+ghost use Rattle.audit.specs.Appends.{covers_other, marker_refused, place_refused};
 ghost use Rattle.audit_mirrors.specs.Covers.{entries_of};
 ghost use Rattle.audit.specs.Numbers.{AreSized};
 
 use crate::mirrors::{AllMirrors, At, cluster_count, number_of};
 use audit_entries::{first_position, is_meant_for, name_same, names_each};
-use audit_mirrors::{Pair, TopicMirror};
+use audit_mirrors::{Pair, TopicMirror, unless_broken};
 use geo_base::{ClusterPosition, Content, Entry, Marker, Memory, Position, Text};
 use script_text::Scenario;
 use std::alloc::Global;
@@ -208,6 +208,7 @@ impl AllMirrors {
     }
 
     /// The lowest rule that an appended entry breaks.
+    #[tactic(auto, using(crate::proofs::Judging::place_broken, crate::proofs::Judging::place_holds))]
     pub(crate) fn append_refused(
         &mut self,
         alloc: Global,
@@ -224,6 +225,27 @@ impl AllMirrors {
         ensures same { self.new ≡ self.old }
         ensures refused { IfOk result (λ refused. refused ≡ act_refused scenario.now.setup self.old at.topic at.cluster (mirror_at scenario.now.setup self.old at.topic at.cluster) (Appends position.now entry.now by.now)) }
     {
+        match self.place_refused(alloc, scenario, at, position, entry)? {
+            Some(rule) => Ok(Some(rule)),
+            None => self.marker_refused(alloc, scenario, at, entry, by),
+        }
+    }
+
+    /// The lowest rule that an appended entry breaks where it stands, whatever its marker says.
+    fn place_refused(
+        &self,
+        alloc: Global,
+        scenario: &Scenario,
+        at: At,
+        position: &Position,
+        entry: &Entry,
+    ) -> Result<Option<u32>, Memory>
+        requires sized { AreSized scenario.now.setup self.now }
+        requires topic { at.topic < length scenario.now.setup.topics }
+        requires cluster { at.cluster < length scenario.now.setup.clusters }
+        requires origin { entry.now.ident.origin < length scenario.now.setup.clusters }
+        ensures { IfOk result (λ refused. refused ≡ place_refused scenario.now.setup self.now at.topic at.cluster position.now entry.now None) }
+    {
         let number = number_of(scenario, at.topic, at.cluster);
         let stored = self.topics()[number].stored();
         if !stored.is_above(position) {
@@ -232,16 +254,31 @@ impl AllMirrors {
         if !stored.accepts(alloc, &entry.ident)? {
             return Ok(Some(3));
         }
-        if !self.may_stand(alloc, scenario, at, entry)? {
-            return Ok(Some(4));
-        }
+        Ok(unless_broken(4, self.may_stand(alloc, scenario, at, entry)?))
+    }
+
+    /// The lowest rule that an appended entry breaks by what its marker says.
+    fn marker_refused(
+        &mut self,
+        alloc: Global,
+        scenario: &Scenario,
+        at: At,
+        entry: &Entry,
+        by: &Option<Position>,
+    ) -> Result<Option<u32>, Memory>
+        requires sized { AreSized scenario.now.setup self.old }
+        requires topic { at.topic < length scenario.now.setup.topics }
+        requires cluster { at.cluster < length scenario.now.setup.clusters }
+        ensures same { self.new ≡ self.old }
+        ensures refused { IfOk result (λ refused. refused ≡ marker_refused scenario.now.setup self.old at.topic at.cluster entry.now by.now) }
+    {
         if !self.may_snapshot(alloc, scenario, at, entry)? {
             return Ok(Some(5));
         }
-        let topic = &self.topics()[number];
-        if !may_update(alloc, scenario, topic, at.cluster, entry, by)? {
-            return Ok(Some(6));
-        }
-        Ok(None)
+        let topic = &self.topics()[number_of(scenario, at.topic, at.cluster)];
+        Ok(unless_broken(
+            6,
+            may_update(alloc, scenario, topic, at.cluster, entry, by)?,
+        ))
     }
 }

@@ -36,7 +36,9 @@ fn audit_lines(alloc: Global, scenario: &Scenario, lines: &[u8]) -> Result<u64, 
     ensures refused { (event rule : ℕ) → result ≡ Err (fault.Rule event rule) → lines_audited scenario.now.setup (opening_mirrors scenario.now.setup) (cut_by 10 lines.now) ≡ Err (record { event = event; rule = rule }) }
 {
     let names = Names::new(alloc, scenario.clusters(), scenario.topics())?;
-    audit_named(alloc, scenario, &names, lines)
+    let audited = audit_named(alloc, scenario, &names, lines);
+    drop(names);
+    audited
 }
 
 /// Audits such lines, whose names are looked up in tables.
@@ -51,5 +53,7 @@ fn audit_named(
     ensures refused { (event rule : ℕ) → result ≡ Err (fault.Rule event rule) → lines_audited scenario.now.setup (opening_mirrors scenario.now.setup) (cut_by 10 lines.now) ≡ Err (record { event = event; rule = rule }) }
 {
     let mut mirrors = AllMirrors::new(alloc, scenario)?;
-    mirrors.read_all(alloc, scenario, names, lines)
+    let audited = mirrors.read_all(alloc, scenario, names, lines);
+    drop(mirrors);
+    audited
 }

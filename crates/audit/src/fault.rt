@@ -3,7 +3,7 @@ use geo_base::Memory;
 use thiserror::Error;
 
 /// The first refused line of a trace, or want of memory.
-#[derive(Clone, Copy, Debug, Drop, PartialEq, Eq, Error)]
+#[derive(Clone, Copy, Debug, Drop, Error)]
 pub enum AuditFault {
     /// The number of the last event that was accepted, 0 where none was, and the lowest rule that the next line breaks, of 1 to 11.
     #[error("event {event} rule {rule}")]

@@ -167,9 +167,29 @@ impl AllMirrors {
         let Some(line) = line_of(alloc, names, line)? else {
             return Err(AuditFault::Rule { event, rule: 1 });
         };
-        self.accept(alloc, scenario, &line)?;
-        self.tell(alloc, scenario, line)?;
-        Ok(())
+        self.take(alloc, scenario, line)
+    }
+
+    /// Where no rule refuses a line, what it tells is done. A fault of a rule comes exactly where one does, with the last event and the
+    /// lowest such rule.
+    fn take(&mut self, alloc: Global, scenario: &Scenario, line: Line) -> Result<(), AuditFault>
+        requires sized { AreSized scenario.now.setup self.old }
+        requires numbers { IsItemOf scenario.now.setup (item_said line) }
+        ensures accepted { OnOk result (item_refused scenario.now.setup self.old (Some (item_said line)) ≡ None) }
+        ensures told { OnOk result (self.new ≡ told_if scenario.now.setup self.old (Some (item_said line))) }
+        ensures rule { (event rule : ℕ) → result ≡ Err (fault.Rule event rule) → item_refused scenario.now.setup self.old (Some (item_said line)) ≡ Some rule }
+        ensures event { (event rule : ℕ) → result ≡ Err (fault.Rule event rule) → event ≡ self.old.events }
+    {
+        match self.accept(alloc, scenario, &line) {
+            Ok(()) => {
+                self.tell(alloc, scenario, line)?;
+                Ok(())
+            }
+            Err(fault) => {
+                drop(line);
+                Err(fault)
+            }
+        }
     }
 
     /// Reads all lines of a text: how many events have begun, where no rule refuses one. A fault of a rule comes exactly where one

@@ -1,5 +1,5 @@
 //! All topics of a trace.
-ghost use Rattle.std.specs.Prelude.{◌≡◌, ◌<◌, ◌+◌, [], ◌∷◌, ◌++◌, None, length, take, slice_index_or, slice_set, IfOk, IfSome, OnOk};
+ghost use Rattle.std.specs.Prelude.{◌≡◌, ◌<◌, ◌+◌, ◌*◌, [], ◌∷◌, ◌++◌, None, length, replicate, take, slice_index_or, slice_set, IfOk, IfSome, OnOk};
 ghost use Rattle.std.specs.List.{list_all};
 ghost use Rattle.cursor_acks.specs.Ranges.{indexes_of};
 ghost use Rattle.geo_base.specs.Mirror.{acted, index_at, mirror_number, no_mirror, opening_mirrors, told};
@@ -38,7 +38,7 @@ impl Model for AllMirrors {
 }
 
 /// A topic and a cluster, by their numbers.
-#[derive(Clone, Copy, Drop, PartialEq, Eq)]
+#[derive(Clone, Copy, Drop)]
 pub(crate) struct At {
     pub(crate) topic: u32,
     pub(crate) cluster: u32,
@@ -55,7 +55,8 @@ pub(crate) fn cluster_count(scenario: &Scenario) -> u32
 pub(crate) fn number_of(scenario: &Scenario, topic: u32, cluster: u32) -> usize
     requires topic { topic < length scenario.now.setup.topics }
     requires cluster { cluster < length scenario.now.setup.clusters }
-    ensures { result ≡ mirror_number scenario.now.setup topic cluster }
+    ensures number { result ≡ mirror_number scenario.now.setup topic cluster }
+    ensures within { result < length scenario.now.setup.topics * length scenario.now.setup.clusters }
 {
     topic as usize * scenario.clusters().len() + cluster as usize
 }
@@ -70,6 +71,25 @@ fn index_in(topic: &TopicMirror, position: &Position) -> Option<usize>
     // it says that there are as many
     let _entries = stored.entries();
     topic.index_at(position)
+}
+
+/// So many topics, where there is none, of which nothing was told, and of which nothing is needed.
+#[tactic(auto, using(std::proofs::lemmas::List::replicate_more))]
+fn add_topics(
+    alloc: Global,
+    topics: &mut Vec<TopicMirror>,
+    covers: &mut Vec<CoverList>,
+    count: usize,
+) -> Result<(), Memory>
+    requires no_topic { topics.old.items ≡ [] }
+    requires no_cover { covers.old.items ≡ [] }
+    ensures topics { OnOk result (topics.new.items ≡ replicate count no_mirror) }
+    ensures covers { OnOk result (covers.new.items ≡ replicate count []) }
+{
+    for _number in 0..count {
+        add_topic(alloc, topics, covers)?;
+    }
+    Ok(())
 }
 
 /// One more topic of which nothing was told, and of which nothing is needed.
@@ -88,21 +108,25 @@ fn add_topic(
 
 impl AllMirrors {
     /// Nothing was told. An `Err` is want of memory.
-    #[tactic(auto, using(crate::proofs::Within::opening_held, std::proofs::lemmas::List::replicate_more))]
+    #[tactic(auto, using(crate::proofs::Within::opening_held))]
     pub(crate) fn new(alloc: Global, scenario: &Scenario) -> Result<AllMirrors, Memory>
         ensures { IfOk result (λ mirrors. mirrors ≡ opening_mirrors scenario.now.setup) }
     {
         let count = scenario.topics().len() * scenario.clusters().len();
         let mut topics = Vec::new(alloc);
         let mut covers = Vec::new(alloc);
-        for _number in 0..count {
-            add_topic(alloc, &mut topics, &mut covers)?;
+        match add_topics(alloc, &mut topics, &mut covers, count) {
+            Ok(()) => Ok(AllMirrors {
+                topics,
+                covers,
+                events: 0,
+            }),
+            Err(memory) => {
+                drop(topics);
+                drop(covers);
+                Err(memory)
+            }
         }
-        Ok(AllMirrors {
-            topics,
-            covers,
-            events: 0,
-        })
     }
 
     /// The number of the last event.

@@ -13,7 +13,7 @@ use std::marker::Model;
 
 /// What passes over an entry: a marker's acknowledgement over markers alone, and that of an update of a cluster over markers and over
 /// what was meant for the cluster.
-#[derive(Clone, Copy, Drop, PartialEq, Eq)]
+#[derive(Clone, Copy, Drop, PartialEq)]
 pub enum Passed {
     Markers,
     By(u32),

@@ -27,7 +27,7 @@ pub struct Acked<'a> {
 }
 
 /// An update of another cluster that an acknowledgement follows: its cluster, and the index here that it names.
-#[derive(Clone, Copy, Drop, PartialEq, Eq)]
+#[derive(Clone, Copy, Drop)]
 pub(crate) struct Followed {
     pub(crate) cluster: u32,
     pub(crate) index: u64,

@@ -28,7 +28,7 @@ impl Model for Needed {
 }
 
 /// A cluster with its topic, and the topic at another cluster, by their numbers.
-#[derive(Clone, Copy, Drop, PartialEq, Eq)]
+#[derive(Clone, Copy, Drop)]
 pub struct Pair {
     pub own: u32,
     pub here: usize,

@@ -65,9 +65,16 @@ impl SubSlots {
         ensures ok { OnOk result (self.new ≡ self.old ++ Some sub ∷ []) }
         ensures err { OnErr result (self.new ≡ self.old) }
     {
-        make_way(alloc, &mut self.slots, &mut self.places, &sub)?;
-        self.slots.push_reserved(Some(sub));
-        Ok(())
+        match make_way(alloc, &mut self.slots, &mut self.places, &sub) {
+            Ok(()) => {
+                self.slots.push_reserved(Some(sub));
+                Ok(())
+            }
+            Err(memory) => {
+                drop(sub);
+                Err(memory)
+            }
+        }
     }
 
     /// A slot is emptied.

@@ -70,7 +70,9 @@ impl Stored {
         ensures { IfOk result (λ new. new ≡ accepts self.now.entries ident.now) }
     {
         let stream = Stream::of(alloc, ident)?;
-        match self.streams.check(&stream, ident.seq) {
+        let verdict = self.streams.check(&stream, ident.seq);
+        drop(stream);
+        match verdict {
             Verdict::New => Ok(true),
             Verdict::Seen(_) => Ok(false),
         }
@@ -88,7 +90,9 @@ impl Stored {
         ensures { IfOk result (λ place. MatchOption place (StandsNowhere entry.now self.now.entries) (StandsAt entry.now self.now.entries)) }
     {
         let identity = Identity::of(alloc, &entry.ident)?;
-        Ok(place_among(self.entries.as_slice(), &self.places, entry, &identity))
+        let place = place_among(self.entries.as_slice(), &self.places, entry, &identity);
+        drop(identity);
+        Ok(place)
     }
 
     /// Whether an entry stands here.
@@ -170,9 +174,30 @@ fn tell(
 {
     streams.reserve(1)?;
     let stream = Stream::of(alloc, ident)?;
+    match tell_place(alloc, places, ident, place) {
+        Ok(()) => {
+            streams.note(stream, ident.seq);
+            Ok(())
+        }
+        Err(memory) => {
+            drop(stream);
+            Err(memory)
+        }
+    }
+}
+
+/// The table tells that the entry of an identity stands at a place. It stays where memory is wanting.
+fn tell_place(
+    alloc: Global,
+    places: &mut IndexMap<Identity, usize>,
+    ident: &Ident,
+    place: usize,
+) -> Result<(), Memory>
+    ensures place { OnOk result (places.new.entries ≡ insert_entry is_identity places.old.entries (identity_of ident.now) place) }
+    ensures err_places { OnErr result (places.new.entries ≡ places.old.entries) }
+{
     let identity = Identity::of(alloc, ident)?;
     places.insert(identity, place)?;
-    streams.note(stream, ident.seq);
     Ok(())
 }
 

@@ -1,11 +1,13 @@
 -- The lines of a broker's writes, and what is needed to make them.
-use Rattle.std.specs.Prelude.{ℕ, ◌<◌, List, [], ◌∷◌, ◌++◌, length, ⊤}
+use Rattle.std.specs.Prelude.{ℕ, ◌<◌, ◌+◌, List, [], ◌∷◌, ◌++◌, length, ⊤}
 use Rattle.std.specs.List.{All}
 use Rattle.geo_base.specs.declared.entry.Entry.{Entry}
 use Rattle.geo_base.specs.declared.event.Event.{Event}
 use Rattle.geo_base.specs.declared.event.Event.TheVariants as event
 use Rattle.geo_base.specs.Broker.{Site, cluster_name}
+use Rattle.geo_base.specs.Cursor.{below}
 use Rattle.geo_base.specs.TraceItems.{Act}
+use Rattle.geo_base.specs.Updating.{passed_over}
 use Rattle.broker_subs.specs.declared.writing.SubWrite.{SubWrite}
 use Rattle.broker_subs.specs.declared.writing.SubWrite.TheVariants as sub_write
 use Rattle.broker_state.specs.declared.write.BookWrite.{BookWrite}
@@ -32,6 +34,13 @@ SubIsWithin es (sub_write.Acks is) = All (λ i. i < length es) is
 SubIsWithin es (sub_write.AckTo i) = i < length es
 SubIsWithin es (sub_write.Passed i from runs) = i < length es
 SubIsWithin es w = ⊤
+
+-- the indexes that a write acknowledges
+abbrev pub indexes_acked : List Entry → SubWrite → List ℕ
+indexes_acked es (sub_write.Acks is) = is
+indexes_acked es (sub_write.AckTo i) = below (i + 1)
+indexes_acked es (sub_write.Passed i from runs) = passed_over from 0 (i + 1) es
+indexes_acked es w = []
 
 abbrev pub IsWithin : List Entry → BookWrite → Type 0
 IsWithin es (book_write.Sub w) = SubIsWithin es w

@@ -1,16 +1,17 @@
 //! The lines of an event's writes.
-ghost use Rattle.std.specs.Prelude.{◌≡◌, ◌++◌, take, OnOk, OnErr, length};
+ghost use Rattle.std.specs.Prelude.{◌≡◌, ◌++◌, take, IfOk, OnOk, OnErr, length};
 ghost use Rattle.broker_state.specs.Fits.{PlanFits};
 ghost use Rattle.broker_state.specs.Plan.{plan_in};
 ghost use Rattle.broker_state.specs.Writes.{machine_write};
 ghost use Rattle.broker_subs.specs.Steps.{machine_sub_write};
-ghost use Rattle.geo_base.specs.TraceItems.{Appends};
+ghost use Rattle.geo_base.specs.Broker.{sub_named};
+ghost use Rattle.geo_base.specs.TraceItems.{Acks, Appends};
 ghost use Rattle.geo_base.specs.Topic.{next_position};
-ghost use Rattle.geo_base.specs.Traced.{act_of, cause_of, snapshot_told};
+ghost use Rattle.geo_base.specs.Traced.{act_of, cause_of, cursor_of, gained, snapshot_told};
 ghost use Rattle.trace_acts.specs.Acts.{acts_before};
 ghost use Rattle.trace_acts.specs.Naming.{act_line};
 ghost use Rattle.trace_events.specs.Snapshots.{HaveSeen, Knows};
-ghost use Rattle.trace_events.specs.Writes.{IsWithin, ReadsWithin, SubIsWithin, lines_of, naming};
+ghost use Rattle.trace_events.specs.Writes.{IsWithin, ReadsWithin, SubIsWithin, indexes_acked, lines_of, naming};
 
 use crate::cause::cause_of;
 use crate::naming::naming;
@@ -115,25 +116,61 @@ fn add_sub_write(
     ensures ok { OnOk result (lines.new ≡ lines.old ++ lines_of node.now.site (act_of node.now.site cause node.now.broker (machine_sub_write sub.now node.now.broker.entries write.now))) }
     ensures err { OnErr result (take (length lines.old) lines.new ≡ lines.old) }
 {
-    let at = naming(node);
+    match write {
+        SubWrite::Acks(_) | SubWrite::AckTo(_) | SubWrite::Passed { .. } => {
+            add_gained(alloc, lines, node, cause, sub, write)
+        }
+        SubWrite::Seek(index) => add_seek(lines, &naming(node), sub, *index),
+        SubWrite::Alter { .. } => Ok(()),
+    }
+}
+
+/// The line of what a write of acknowledgements gains.
+fn add_gained(
+    alloc: Global,
+    lines: &mut Blob,
+    node: &Broker,
+    cause: Cause,
+    sub: &[u8],
+    write: &SubWrite,
+) -> Result<(), Memory>
+    requires { SubIsWithin node.now.broker.entries write.now }
+    ensures ok { OnOk result (lines.new ≡ lines.old ++ act_line (naming node.now.site) (Acks sub.now (gained (cursor_of (sub_named node.now.broker.subs sub.now)) (indexes_acked node.now.broker.entries write.now)) cause)) }
+    ensures err { OnErr result (take (length lines.old) lines.new ≡ lines.old) }
+{
+    let gained = gained_by(alloc, node, sub, write)?;
+    let added = add_acks(lines, &naming(node), sub, &gained, cause);
+    drop(gained);
+    added
+}
+
+/// The indexes that the subscription of a name gains by a write.
+fn gained_by(alloc: Global, node: &Broker, sub: &[u8], write: &SubWrite) -> Result<Cursor, Memory>
+    requires { SubIsWithin node.now.broker.entries write.now }
+    ensures { IfOk result (λ c. c.indexes ≡ gained (cursor_of (sub_named node.now.broker.subs sub.now)) (indexes_acked node.now.broker.entries write.now)) }
+{
     let none = Cursor::none(alloc);
-    let cursor = cursor_of(node, sub, &none);
+    let gained = gained_over(alloc, node, cursor_of(node, sub, &none), write);
+    drop(none);
+    gained
+}
+
+/// The indexes that a cursor gains by a write.
+fn gained_over(
+    alloc: Global,
+    node: &Broker,
+    cursor: &Cursor,
+    write: &SubWrite,
+) -> Result<Cursor, Memory>
+    requires { SubIsWithin node.now.broker.entries write.now }
+    ensures { IfOk result (λ c. c.indexes ≡ gained cursor.now.indexes (indexes_acked node.now.broker.entries write.now)) }
+{
     let store = node.store();
     let len = store.len() as u64;
     match write {
-        SubWrite::Acks(indexes) => {
-            let gained = gained_each(alloc, cursor, indexes.as_slice(), len)?;
-            add_acks(lines, &at, sub, &gained, cause)
-        }
-        SubWrite::AckTo(index) => {
-            let gained = gained_to(alloc, cursor, *index, len)?;
-            add_acks(lines, &at, sub, &gained, cause)
-        }
-        SubWrite::Passed { index, from, .. } => {
-            let gained = gained_passed(alloc, cursor, store, *index, *from)?;
-            add_acks(lines, &at, sub, &gained, cause)
-        }
-        SubWrite::Seek(index) => add_seek(lines, &at, sub, *index),
-        SubWrite::Alter { .. } => Ok(()),
+        SubWrite::Acks(indexes) => gained_each(alloc, cursor, indexes.as_slice(), len),
+        SubWrite::AckTo(index) => gained_to(alloc, cursor, *index, len),
+        SubWrite::Passed { index, from, .. } => gained_passed(alloc, cursor, store, *index, *from),
+        SubWrite::Seek(_) | SubWrite::Alter { .. } => Ok(Cursor::none(alloc)),
     }
 }

@@ -1,5 +1,6 @@
 //! An entry in a line.
-ghost use Rattle.std.specs.Prelude.{◌≡◌, ◌≤◌, length, IfOk};
+ghost use Rattle.std.specs.Prelude.{◌≡◌, ◌≤◌, [], length, IfOk};
+ghost use Rattle.geo_base.specs.Client.{target_names};
 ghost use Rattle.trace_lines.specs.Entries.{data_of, entry_with, kind_of, what_of};
 
 use crate::line::What;
@@ -7,7 +8,7 @@ use crate::markers::{own_update_of, request_of, response_of, snapshot_of, unread
 use crate::names::{Names, target_names};
 use crate::texts::{are_printable, key_of};
 use crate::words::LineWords;
-use geo_base::{Blob, Content, Entry, Ident, Memory, Metadata, Targets};
+use geo_base::{Blob, Content, Entry, Ident, Memory, Metadata, ProducerName, Targets, Text};
 use script_names::{NameTable, is_word};
 use std::alloc::Global;
 
@@ -83,23 +84,64 @@ fn kind_of(
     }
 }
 
+/// What names an entry, its producer where it stands in the line.
+#[derive(Clone, Copy, Drop)]
+pub(crate) struct Named<'a> {
+    pub(crate) origin: u32,
+    pub(crate) producer: &'a str,
+    pub(crate) seq: u64,
+}
+
 /// The entry that the words of a line tell.
 pub(crate) fn entry_with(
     alloc: Global,
     names: &Names<'_>,
-    ident: Ident,
+    named: Named<'_>,
     to: Targets,
     what: What,
 ) -> Result<Entry, Memory>
-    ensures { IfOk result (λ entry. entry ≡ entry_with names.now.clusters ident to what) }
+    ensures { IfOk result (λ entry. entry ≡ entry_with names.now.clusters (record { origin = named.entry.origin; producer = named.entry.producer.now; seq = named.entry.seq }) to what) }
 {
-    let named = target_names(alloc, names.cluster_names(), to)?;
-    let meta = Metadata::new(alloc, 0, what.key, named, Blob::new(alloc))?;
-    Ok(Entry {
-        ident,
-        content: what.content,
-        to,
-        meta,
-        payload: what.payload,
-    })
+    let What {
+        content,
+        key,
+        payload,
+        by: _by,
+    } = what;
+    match ident_and_meta(alloc, names, named, to, key) {
+        Ok((ident, meta)) => Ok(Entry {
+            ident,
+            content,
+            to,
+            meta,
+            payload,
+        }),
+        Err(memory) => {
+            drop(content);
+            drop(payload);
+            Err(memory)
+        }
+    }
+}
+
+/// What names an entry, and what stands beside what it is.
+fn ident_and_meta(
+    alloc: Global,
+    names: &Names<'_>,
+    named: Named<'_>,
+    to: Targets,
+    key: Option<Text>,
+) -> Result<(Ident, Metadata), Memory>
+    ensures ident { IfOk result (λ parts. parts.0 ≡ record { origin = named.entry.origin; producer = named.entry.producer.now; seq = named.entry.seq }) }
+    ensures meta { IfOk result (λ parts. parts.1 ≡ record { publish_time = 0; key = key; names = target_names 0 to names.now.clusters; rest = [] }) }
+{
+    let targets = target_names(alloc, names.cluster_names(), to)?;
+    let meta = Metadata::new(alloc, 0, key, targets, Blob::new(alloc))?;
+    let producer = Text::from_str(alloc, named.producer)?;
+    let ident = Ident {
+        origin: named.origin,
+        producer: ProducerName::from_text(producer),
+        seq: named.seq,
+    };
+    Ok((ident, meta))
 }

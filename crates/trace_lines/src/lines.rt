@@ -7,14 +7,14 @@ ghost use Rattle.trace_lines.specs.Ranges.{ranges_from, ranges_of};
 ghost use Rattle.trace_lines.specs.Said.{act_said, item_said};
 ghost use Rattle.trace_lines.specs.Words.{start_of};
 
-use crate::entries::{entry_with, what_of};
+use crate::entries::{Named, entry_with, what_of};
 use crate::line::{Line, Written};
 use crate::names::{Names, declared, targets_of};
 use crate::numbers::{may_follow, number, position_of, range_of};
 use crate::ranges::AckedRanges;
-use crate::texts::{sub_of, text_of};
+use crate::texts::{sub_of, text_in};
 use crate::words::LineWords;
-use geo_base::{Cause, Ident, Memory, ProducerName};
+use geo_base::{Cause, Memory, Text, name_text};
 use script_names::{Parts, is_word};
 use std::alloc::Global;
 
@@ -138,7 +138,7 @@ fn append_of(
     let Some(origin) = declared(names.clusters(), head.origin) else {
         return Ok(None);
     };
-    let Some(producer) = text_of(alloc, head.producer)? else {
+    let Some(producer) = text_in(head.producer) else {
         return Ok(None);
     };
     let Some(seq) = number(head.seq) else {
@@ -150,13 +150,13 @@ fn append_of(
     let Some(what) = what_of(alloc, names.clusters(), origin == cluster, words)? else {
         return Ok(None);
     };
-    let ident = Ident {
+    let named = Named {
         origin,
-        producer: ProducerName::from_text(producer),
+        producer,
         seq,
     };
     let by = what.by;
-    let entry = entry_with(alloc, names, ident, to, what)?;
+    let entry = entry_with(alloc, names, named, to, what)?;
     Ok(Some(Written::Appends {
         position,
         entry,
@@ -198,13 +198,14 @@ fn create_of(alloc: Global, words: LineWords<'_>) -> Result<Option<Written>, Mem
     let Some(start) = words.last_word() else {
         return Ok(None);
     };
-    let Some(sub) = sub_of(alloc, sub)? else {
+    let Some(sub) = name_text(sub) else {
         return Ok(None);
     };
-    match start_of(start) {
-        None => Ok(None),
-        Some(latest) => Ok(Some(Written::Creates { sub, latest })),
-    }
+    let Some(latest) = start_of(start) else {
+        return Ok(None);
+    };
+    let sub = Text::from_str(alloc, sub)?;
+    Ok(Some(Written::Creates { sub, latest }))
 }
 
 /// Whether a subscription begins at Latest.
@@ -244,16 +245,17 @@ fn ack_of(alloc: Global, words: LineWords<'_>) -> Result<Option<Written>, Memory
     let Some(ranges) = words.next_word() else {
         return Ok(None);
     };
-    let Some(sub) = sub_of(alloc, sub)? else {
+    let Some(sub) = name_text(sub) else {
         return Ok(None);
     };
     let Some(ranges) = ranges_of(alloc, ranges)? else {
         return Ok(None);
     };
-    match cause_of(words) {
-        None => Ok(None),
-        Some(cause) => Ok(Some(Written::Acks { sub, ranges, cause })),
-    }
+    let Some(cause) = cause_of(words) else {
+        return Ok(None);
+    };
+    let sub = Text::from_str(alloc, sub)?;
+    Ok(Some(Written::Acks { sub, ranges, cause }))
 }
 
 /// `client`, `marker` or `update POSITION`
@@ -310,11 +312,12 @@ fn seek_of(alloc: Global, words: LineWords<'_>) -> Result<Option<Written>, Memor
     let Some(index) = words.last_word() else {
         return Ok(None);
     };
-    let Some(sub) = sub_of(alloc, sub)? else {
+    let Some(sub) = name_text(sub) else {
         return Ok(None);
     };
-    match number(index) {
-        None => Ok(None),
-        Some(index) => Ok(Some(Written::Seeks { sub, index })),
-    }
+    let Some(index) = number(index) else {
+        return Ok(None);
+    };
+    let sub = Text::from_str(alloc, sub)?;
+    Ok(Some(Written::Seeks { sub, index }))
 }

@@ -1,5 +1,6 @@
 //! Markers in a line.
-ghost use Rattle.std.specs.Prelude.{◌≡◌, IfOk};
+ghost use Rattle.std.specs.Prelude.{◌≡◌, [], None, Some, IfOk, MatchOption};
+ghost use Rattle.geo_base.specs.declared.entry.Content.TheVariants as contents;
 ghost use Rattle.trace_lines.specs.Entries.{by_of, cluster_positions_of, marked, own_update_of, request_of, response_of, snapshot_of, told_positions_of, unread_of, update_of};
 
 use crate::line::{ToldPositions, What};
@@ -23,6 +24,14 @@ fn marked(alloc: Global, content: Content, by: Option<Position>) -> What
     }
 }
 
+/// What is a marker.
+fn marker_what(alloc: Global, marker: Marker, by: Option<Position>) -> Result<Option<What>, Memory>
+    ensures { IfOk result (λ what. what ≡ Some (marked (contents.Marked marker) by)) }
+{
+    let marker = BoxedMarker::new(alloc, marker)?;
+    Ok(Some(marked(alloc, Content::Marked(marker), by)))
+}
+
 /// `request ID CLUSTER`
 pub(crate) fn request_of(
     alloc: Global,
@@ -44,9 +53,7 @@ pub(crate) fn request_of(
     let Some(source) = place_of(alloc, clusters, source)? else {
         return Ok(None);
     };
-    let marker = Marker::Request { id, source };
-    let content = Content::Marked(BoxedMarker::new(alloc, marker)?);
-    Ok(Some(marked(alloc, content, None)))
+    marker_what(alloc, Marker::Request { id, source }, None)
 }
 
 /// `response ID CLUSTER=L:E`
@@ -70,9 +77,7 @@ pub(crate) fn response_of(
     let Some(answer) = cluster_position_of(alloc, clusters, answer)? else {
         return Ok(None);
     };
-    let marker = Marker::Response { id, answer };
-    let content = Content::Marked(BoxedMarker::new(alloc, marker)?);
-    Ok(Some(marked(alloc, content, None)))
+    marker_what(alloc, Marker::Response { id, answer }, None)
 }
 
 /// `snapshot ID L:E CLUSTER=L:E ..`
@@ -99,9 +104,7 @@ pub(crate) fn snapshot_of(
     let Some(remote) = cluster_positions_of(alloc, clusters, words)? else {
         return Ok(None);
     };
-    let marker = Marker::Snapshot { id, local, remote };
-    let content = Content::Marked(BoxedMarker::new(alloc, marker)?);
-    Ok(Some(marked(alloc, content, None)))
+    marker_what(alloc, Marker::Snapshot { id, local, remote }, None)
 }
 
 /// `update SUB CLUSTER=L:E ..`
@@ -122,9 +125,7 @@ pub(crate) fn update_of(
     let Some(remote) = cluster_positions_of(alloc, clusters, words)? else {
         return Ok(None);
     };
-    let marker = Marker::Update { sub, remote };
-    let content = Content::Marked(BoxedMarker::new(alloc, marker)?);
-    Ok(Some(marked(alloc, content, None)))
+    marker_what(alloc, Marker::Update { sub, remote }, None)
 }
 
 /// `update SUB CLUSTER=L:E .. by L:E`, of the own cluster
@@ -145,12 +146,8 @@ pub(crate) fn own_update_of(
     let Some(told) = told_positions_of(alloc, clusters, words)? else {
         return Ok(None);
     };
-    let marker = Marker::Update {
-        sub,
-        remote: told.remote,
-    };
-    let content = Content::Marked(BoxedMarker::new(alloc, marker)?);
-    Ok(Some(marked(alloc, content, Some(told.by))))
+    let ToldPositions { remote, by } = told;
+    marker_what(alloc, Marker::Update { sub, remote }, Some(by))
 }
 
 /// `unread`
@@ -185,7 +182,6 @@ fn cluster_positions_of(
 }
 
 /// Positions of clusters, and behind them `by L:E`.
-#[tactic(auto, using(crate::proofs::SoFar::told_so_far))]
 fn told_positions_of(
     alloc: Global,
     clusters: &NameTable<'_>,
@@ -193,13 +189,38 @@ fn told_positions_of(
 ) -> Result<Option<ToldPositions>, Memory>
     ensures { IfOk result (λ told. told ≡ told_positions_of clusters.now words.entry) }
 {
-    let mut words = words;
     let mut remote = Sequence::new(alloc);
+    match add_told(alloc, &mut remote, clusters, words) {
+        Ok(Some(by)) => Ok(Some(ToldPositions { remote, by })),
+        Ok(None) => {
+            drop(remote);
+            Ok(None)
+        }
+        Err(memory) => {
+            drop(remote);
+            Err(memory)
+        }
+    }
+}
+
+/// Adds positions of clusters to none; the position behind them and `by`.
+#[tactic(auto, using(crate::proofs::SoFar::told_so_far))]
+fn add_told(
+    alloc: Global,
+    remote: &mut Sequence<ClusterPosition>,
+    clusters: &NameTable<'_>,
+    words: LineWords<'_>,
+) -> Result<Option<Position>, Memory>
+    requires { remote.old ≡ [] }
+    ensures { IfOk result (λ by. MatchOption by (told_positions_of clusters.now words.entry ≡ None)
+        (λ p. told_positions_of clusters.now words.entry ≡ Some (record { remote = remote.new; by = p }))) }
+{
+    let mut words = words;
     while let Some(word) = words.next_word() {
         if is_word(word, b"by") {
             return match by_of(words) {
                 None => Ok(None),
-                Some(by) => Ok(Some(ToldPositions { remote, by })),
+                Some(by) => Ok(Some(by)),
             };
         }
         let Some(position) = cluster_position_of(alloc, clusters, word)? else {

@@ -1,5 +1,5 @@
 //! The names that a script declares, and the words of a line that name them.
-ghost use Rattle.std.specs.Prelude.{◌≡◌, ◌≤◌, length, IfOk};
+ghost use Rattle.std.specs.Prelude.{◌≡◌, ◌≤◌, [], ◌++◌, length, IfOk, OnOk};
 ghost use Rattle.geo_base.specs.Client.{target_names};
 ghost use Rattle.geo_base.specs.Scripted.{AreDistinct};
 ghost use Rattle.trace_lines.specs.Words.{cluster_position_of, declared, pair_in, place_of, targets_of};
@@ -45,11 +45,18 @@ impl<'a> Names<'a> {
         requires topics { AreDistinct topics.now }
         ensures { IfOk result (λ names. names ≡ record { clusters = clusters.now; topics = topics.now }) }
     {
-        Ok(Names {
-            names: clusters,
-            clusters: table_of(alloc, clusters)?,
-            topics: table_of(alloc, topics)?,
-        })
+        let table = table_of(alloc, clusters)?;
+        match table_of(alloc, topics) {
+            Ok(topics) => Ok(Names {
+                names: clusters,
+                clusters: table,
+                topics,
+            }),
+            Err(memory) => {
+                drop(table);
+                Err(memory)
+            }
+        }
     }
 
     /// The clusters by their names.
@@ -77,16 +84,31 @@ impl<'a> Names<'a> {
 }
 
 /// A table of names that are told apart.
-#[tactic(auto, using(crate::proofs::Fresh::fresh))]
-pub(crate) fn table_of<K>(alloc: Global, names: &[Name<K>]) -> Result<NameTable<'_>, Memory>
+fn table_of<K>(alloc: Global, names: &[Name<K>]) -> Result<NameTable<'_>, Memory>
     requires apart { AreDistinct names.now }
     ensures { IfOk result (λ table. table ≡ names.now) }
 {
     let mut table = NameTable::new(alloc);
+    match add_names(&mut table, names) {
+        Ok(()) => Ok(table),
+        Err(memory) => {
+            drop(table);
+            Err(memory)
+        }
+    }
+}
+
+/// Adds names that are told apart to a table that has none.
+#[tactic(auto, using(crate::proofs::Fresh::fresh))]
+fn add_names<'a, K>(table: &mut NameTable<'a>, names: &'a [Name<K>]) -> Result<(), Memory>
+    requires none { table.old ≡ [] }
+    requires apart { AreDistinct names.now }
+    ensures { OnOk result (table.new ≡ names.entry.now) }
+{
     for name in names {
         table.push(name.as_str().as_bytes())?;
     }
-    Ok(table)
+    Ok(())
 }
 
 /// The number of a name that is declared.
@@ -188,10 +210,29 @@ fn named_clusters(
     ensures { IfOk result (λ names. names ≡ target_names 0 (Targets.Only bits) clusters.now) }
 {
     let mut names = Sequence::new(alloc);
+    match add_named(alloc, &mut names, clusters, bits) {
+        Ok(()) => Ok(names),
+        Err(memory) => {
+            drop(names);
+            Err(memory)
+        }
+    }
+}
+
+/// Adds the names of a target list's clusters, in cluster order.
+fn add_named(
+    alloc: Global,
+    names: &mut Sequence<Text>,
+    clusters: &[ClusterName],
+    bits: u8,
+) -> Result<(), Memory>
+    requires { length clusters.now ≤ CLUSTERS }
+    ensures { OnOk result (names.new ≡ names.old ++ target_names 0 (Targets.Only bits) clusters.now) }
+{
     for (number, name) in clusters.iter().enumerate() {
         if Targets::Only(bits).contains(number as u32) {
             names.push(Text::from_str(alloc, name.as_str())?)?;
         }
     }
-    Ok(names)
+    Ok(())
 }

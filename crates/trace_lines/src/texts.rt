@@ -1,5 +1,5 @@
 //! Texts of a line: names of subscriptions, keys, ids, and what a message says.
-ghost use Rattle.std.specs.Prelude.{◌≡◌, nat_le, ◌&&◌, IfOk};
+ghost use Rattle.std.specs.Prelude.{◌≡◌, true, false, nat_le, ◌&&◌, IfOk, MatchOption};
 ghost use Rattle.std.specs.List.{list_all};
 ghost use Rattle.trace_lines.specs.Words.{is_printable, is_text, key_of, sub_of, text_of};
 
@@ -27,17 +27,28 @@ pub(crate) fn is_text(word: &[u8]) -> bool
     !word.is_empty() && are_printable(word)
 }
 
-/// A text.
+/// The text of a word where it stands; None exactly where it is none.
 #[tactic(auto, using(crate::proofs::Printable::text_utf8))]
+pub(crate) fn text_in(word: &[u8]) -> Option<&str>
+    ensures { MatchOption result (is_text word.now ≡ false)
+        (λ text. (text.now ≡ word.now) × (is_text word.now ≡ true)) }
+{
+    if !is_text(word) {
+        return None;
+    }
+    match str::from_utf8(word) {
+        Ok(text) => Some(text),
+        Err(_) => unreachable!(),
+    }
+}
+
+/// A text.
 pub(crate) fn text_of(alloc: Global, word: &[u8]) -> Result<Option<Text>, Memory>
     ensures { IfOk result (λ text. text ≡ text_of word.now) }
 {
-    if !is_text(word) {
-        return Ok(None);
-    }
-    match str::from_utf8(word) {
-        Ok(text) => Ok(Some(Text::from_str(alloc, text)?)),
-        Err(_) => unreachable!(),
+    match text_in(word) {
+        None => Ok(None),
+        Some(text) => Ok(Some(Text::from_str(alloc, text)?)),
     }
 }
 

@@ -15,7 +15,7 @@ returns-then-not-branch-clause-cut c =
     let none : c.in_ok-covers_other.field-0 ≡ false = grind (arith, c.if-not-branch.true) in
     let fails : is_cut_at s a t x c.args.remote.now c.args.local y ≡ false =
     other_cut s a c.loop-other.self t x c.args.remote.now c.args.local y c.number_of-here.result c.number_of.result c.first_position.result c.in_ok-covers_other.field-0
-    c.loop-other.invariant.same c.number_of-here.ensures c.number_of.ensures c.first_position.ensures other c.in_ok-covers_other.ensures.covers
+    c.loop-other.invariant.same c.number_of-here.ensures.number c.number_of.ensures.number c.first_position.ensures other c.in_ok-covers_other.ensures.covers
     ∙ none in
     sym (cut_ends (is_cut_at s a t x c.args.remote.now c.args.local) y (length s.clusters) lt fails) ∙ c.loop-other.invariant.rest
 
@@ -30,7 +30,7 @@ loop-other-preserved c =
           let one : w.in_ok-covers_other.field-0 ≡ true = grind (arith, w.if-not-branch.false) in
           let holds : is_cut_at s a t x c.args.remote.now c.args.local y ≡ true =
           other_cut s a c.loop-other.self t x c.args.remote.now c.args.local y c.number_of-here.result c.number_of.result w.first_position.result w.in_ok-covers_other.field-0
-          c.loop-other.invariant.same c.number_of-here.ensures c.number_of.ensures w.first_position.ensures other w.in_ok-covers_other.ensures.covers
+          c.loop-other.invariant.same c.number_of-here.ensures.number c.number_of.ensures.number w.first_position.ensures other w.in_ok-covers_other.ensures.covers
           ∙ one in
           record {
             same = w.self-is ∙ (w.in_ok-covers_other.ensures.same ∙ c.loop-other.invariant.same);

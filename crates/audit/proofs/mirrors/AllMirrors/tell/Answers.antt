@@ -12,5 +12,5 @@ use Rattle.audit.proofs.mirrors.AllMirrors.tell.Goals as goal
 pub write-requires-clause-may : goal.write-requires-clause-may
 write-requires-clause-may c =
     let s : Setup = c.args.scenario.now.setup in let a : Mirrors = c.args.self.now in
-    subst (λ (n : ℕ). MayAct (slice_index_or a.topics n no_mirror) (act_said c.in-Writes.written)) (sym c.number_of.ensures)
+    subst (λ (n : ℕ). MayAct (slice_index_or a.topics n no_mirror) (act_said c.in-Writes.written)) (sym c.number_of.ensures.number)
     (write_may s a c.in-Writes.topic c.in-Writes.cluster (act_said c.in-Writes.written) (ap (λ (l : Line). refused s a (item_said l)) (sym c.in-Writes.is) ∙ c.requires.accepted))

@@ -1,7 +1,7 @@
 use Rattle.std.proofs.Common.{◌≡◌, length, option_map}
 use Rattle.trace_lines.specs.Entries.{told_positions_of}
 use Rattle.trace_lines.proofs.Told.{behind}
-use Rattle.trace_lines.proofs.markers.told_positions_of.Given as goal
+use Rattle.trace_lines.proofs.markers.add_told.Given as goal
 
 -- the positions so far and those of the rest make the whole
 abbrev pub invariant-loop-word : goal.invariant-loop-word

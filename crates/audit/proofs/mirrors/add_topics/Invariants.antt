@@ -1,6 +1,6 @@
 use Rattle.std.proofs.Common.{◌≡◌, [], replicate}
 use Rattle.geo_base.specs.Mirror.{no_mirror}
-use Rattle.audit.proofs.mirrors.AllMirrors.new.Given as goal
+use Rattle.audit.proofs.mirrors.add_topics.Given as goal
 
 abbrev pub invariant-loop-number : goal.invariant-loop-number
 invariant-loop-number l = record {
