@@ -24,7 +24,10 @@ pub fn run_script(alloc: Global, scenario: &Scenario) -> Result<World, RunFault>
     let mut world = World::new(alloc, scenario)?;
     match world.run(alloc, scenario, scenario.steps()) {
         Ok(()) => Ok(world),
-        Err(fault) => Err(fault),
+        Err(fault) => {
+            world.let_go();
+            Err(fault)
+        }
     }
 }
 
@@ -35,7 +38,9 @@ pub fn save_script(alloc: Global, scenario: Scenario) -> Result<Blob, RunFault>
     ensures large { (limit : ℕ) → result ≡ Err (RunFault.TooLarge limit) → passed_limit (stopped scenario) ≡ Some limit }
 {
     let saved = saved_run(alloc, scenario)?;
-    Ok(save(alloc, &saved)?)
+    let bytes = save(alloc, &saved);
+    saved.let_go();
+    Ok(bytes?)
 }
 
 /// The state that the stop behind a script's run leaves, or the limit that they pass.
@@ -46,8 +51,17 @@ fn saved_run(alloc: Global, scenario: Scenario) -> Result<Saved, RunFault>
     ensures within { OnOk result (passed_limit (stopped scenario) ≡ None) }
     ensures large { (limit : ℕ) → result ≡ Err (RunFault.TooLarge limit) → passed_limit (stopped scenario) ≡ Some limit }
 {
-    let world = run_script(alloc, &scenario)?;
-    world.saved(alloc, scenario)
+    match run_script(alloc, &scenario) {
+        Ok(world) => {
+            let saved = world.saved(alloc, scenario);
+            world.let_go();
+            saved
+        }
+        Err(fault) => {
+            drop(scenario);
+            Err(fault)
+        }
+    }
 }
 
 /// The world at the end of a run that goes on from a state, and what its script declares.
@@ -69,6 +83,10 @@ pub fn resume(alloc: Global, saved: Saved, steps: &StepList) -> Result<Resumed, 
     let (scenario, mut world) = World::from_saved(alloc, saved)?;
     match world.run(alloc, &scenario, steps) {
         Ok(()) => Ok(Resumed { scenario, world }),
-        Err(fault) => Err(fault),
+        Err(fault) => {
+            drop(scenario);
+            world.let_go();
+            Err(fault)
+        }
     }
 }

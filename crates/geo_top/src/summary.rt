@@ -17,7 +17,6 @@ use world::World;
 const TOPIC: u32 = 0;
 
 /// Appends the summary of the run of a number, which left a world; nothing where memory is wanting.
-#[tactic(auto, unfolding(crate::specs::Summary::summary_lines))]
 pub fn append_summary(
     alloc: Global,
     out: &mut Blob,
@@ -30,11 +29,28 @@ pub fn append_summary(
     ensures err { OnErr result (out.new ≡ out.old) }
 {
     let mut lines = Blob::new(alloc);
-    add(&mut lines, big_line(alloc, number)?)?;
-    add_stored(alloc, &mut lines, scenario, world)?;
-    add(&mut lines, String::from_str(alloc, "quiet\n")?)?;
-    add_head(alloc, &mut lines, world)?;
+    add_summary(alloc, &mut lines, number, scenario, world)?;
     out.append(lines.as_slice())
+}
+
+/// Appends it behind no other line.
+#[tactic(auto, unfolding(crate::specs::Summary::summary_lines))]
+fn add_summary(
+    alloc: Global,
+    lines: &mut Blob,
+    number: u32,
+    scenario: &Scenario,
+    world: &World,
+) -> Result<(), Memory>
+    requires at { IsAt scenario.now.setup world.now }
+    requires none { lines.old ≡ [] }
+    ensures { OnOk result (lines.new ≡ summary number scenario.now.setup (shown_world world.now)) }
+{
+    add(lines, big_line(alloc, number)?)?;
+    add_stored(alloc, lines, scenario, world)?;
+    add(lines, String::from_str(alloc, "quiet\n")?)?;
+    add_head(alloc, lines, world)?;
+    Ok(())
 }
 
 /// The number, and what each generated run has.

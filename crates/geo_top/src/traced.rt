@@ -16,12 +16,17 @@ pub fn trace_script(alloc: Global, scenario: &Scenario) -> Result<Blob, RunFault
     ensures within { OnOk result (passed_limit scenario.now ≡ None) }
     ensures large { (limit : ℕ) → result ≡ Err (RunFault.TooLarge limit) → passed_limit scenario.now ≡ Some limit }
 {
-    let mut world = World::new(alloc, scenario)?;
     let head = head(alloc, scenario)?;
+    let mut world = World::new(alloc, scenario)?;
     let mut trace = Trace::behind(alloc, head);
-    match trace.run(alloc, &mut world, scenario, scenario.steps()) {
+    let told = trace.run(alloc, &mut world, scenario, scenario.steps());
+    world.let_go();
+    match told {
         Ok(()) => Ok(trace.into_text()),
-        Err(fault) => Err(fault),
+        Err(fault) => {
+            drop(trace);
+            Err(fault)
+        }
     }
 }
 

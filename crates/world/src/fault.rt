@@ -3,7 +3,7 @@ use geo_base::Memory;
 use thiserror::Error;
 
 /// What was done before stays done.
-#[derive(Clone, Copy, Debug, Drop, PartialEq, Eq, Error)]
+#[derive(Clone, Copy, Debug, Drop, Error)]
 pub enum RunFault {
     /// The next event would pass the limit of this number: 2, events and idle events together above 2,000,000; 3, the bytes of all
     /// frames above 1 GiB (own: so that every run ends, in bounded memory).

@@ -63,10 +63,14 @@ impl Unused {
         let topics = scenario.topics().len();
         let clusters = scenario.clusters().len();
         let clients = scenario.clients().len();
+        // the links last, since nothing may fail while they are owned
+        let broker_clocks = vec![in alloc; 0u64; topics * clusters]?;
+        let client_clocks = vec![in alloc; 0u64; clients]?;
+        let links = Links::new(alloc, topics, clusters, clients)?;
         Ok(Unused {
-            links: Links::new(alloc, topics, clusters, clients)?,
-            broker_clocks: vec![in alloc; 0; topics * clusters]?,
-            client_clocks: vec![in alloc; 0; clients]?,
+            links,
+            broker_clocks,
+            client_clocks,
         })
     }
 }

@@ -2,6 +2,8 @@
 ghost use Rattle.std.specs.Prelude.{◌≡◌, ◌<◌, ◌≤◌, ◌*◌, ◌/◌, ◌%◌, true, false, [], length, map, IfOk, OnOk};
 ghost use Rattle.client.specs.State.{stopped};
 ghost use Rattle.geo_base.specs.Scripted.{IsScripted};
+ghost use Rattle.geo_base.specs.Setup.{sub_names};
+ghost use Rattle.geo_base.specs.World.{site};
 ghost use Rattle.state_file.specs.Known.{IsKnownBehind, IsKnownState};
 ghost use Rattle.state_file.specs.State.{state_of};
 ghost use Rattle.state_items.specs.Fitting.{AllFit};
@@ -17,9 +19,9 @@ ghost use Rattle.world_kept.specs.Standing.{Stands};
 use crate::opening::Unused;
 use crate::world::World;
 use broker::Broker;
-use broker_state::Plan;
+use broker_state::{Plan, Site};
 use client::{Client, ClientState};
-use geo_base::{Entry, Memory};
+use geo_base::{Entry, Memory, SubName};
 use node_starts::{new_site, sub_names};
 use script_text::Scenario;
 use state_brokers::{Counts, NodeParts};
@@ -43,8 +45,14 @@ impl World {
             nodes,
             clients,
         } = saved;
-        let world = resumed_world(alloc, &scenario, counts, nodes, clients)?;
-        Ok((scenario, world))
+        match resumed_world(alloc, &scenario, counts, nodes, clients) {
+            Ok(world) => Ok((scenario, world)),
+            Err(memory) => {
+                // by a call, so that the end of a scenario is proved by itself
+                drop(scenario);
+                Err(memory)
+            }
+        }
     }
 }
 
@@ -104,15 +112,40 @@ fn revived_node(
     ensures { IfOk result (λ v. IsRevived scenario.now.setup number (broker_of part) v) }
 {
     if !are_few(part.entries.as_slice()) {
+        // by a call, so that the end of what is durable is proved by itself
+        drop(part);
         return Err(Memory);
     }
     let clusters = scenario.clusters().len();
     let topic = (number / clusters) as u32;
     let cluster = (number % clusters) as u32;
+    let durable = part.into_durable(alloc, cluster, scenario.per_ledger())?;
+    match known_there(alloc, scenario, topic, cluster) {
+        Ok((site, names)) => {
+            Broker::from_durable(alloc, topic, site, names, durable, scenario.clients().len())
+        }
+        Err(memory) => {
+            drop(durable);
+            Err(memory)
+        }
+    }
+}
+
+/// What a broker knows of the setup, and the names of its topic's subscriptions.
+fn known_there(
+    alloc: Global,
+    scenario: &Scenario,
+    topic: u32,
+    cluster: u32,
+) -> Result<(Site, Vec<SubName>), Memory>
+    requires topic { topic < length scenario.now.setup.topics }
+    requires cluster { cluster < length scenario.now.setup.clusters }
+    ensures site { IfOk result (λ x. x.0 ≡ site scenario.now.setup topic cluster) }
+    ensures names { IfOk result (λ x. x.1.items ≡ sub_names scenario.now.setup topic) }
+{
     let site = new_site(alloc, scenario, topic, cluster)?;
     let names = sub_names(alloc, scenario, topic)?;
-    let durable = part.into_durable(alloc, cluster, scenario.per_ledger())?;
-    Broker::from_durable(alloc, topic, site, names, durable, scenario.clients().len())
+    Ok((site, names))
 }
 
 /// Whether a topic's entries are fewer than 2^32, so that its counts have room to grow.

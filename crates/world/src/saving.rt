@@ -40,13 +40,19 @@ impl World {
         ensures saves { (w : Machine) → Stands scenario.setup (kept_of self.now) w → Saves scenario w result }
         ensures can { IfOk result (λ v. CanSave (state_of v)) }
     {
-        let parts = self.parts_behind_stop(alloc)?;
-        Ok(Saved {
-            scenario: scenario.without_steps(alloc),
-            counts: parts.counts,
-            nodes: parts.nodes,
-            clients: parts.clients,
-        })
+        match self.parts_behind_stop(alloc) {
+            Ok(parts) => Ok(Saved {
+                scenario: scenario.without_steps(alloc),
+                counts: parts.counts,
+                nodes: parts.nodes,
+                clients: parts.clients,
+            }),
+            Err(fault) => {
+                // by a call, so that the end of a scenario is proved by itself
+                drop(scenario);
+                Err(fault)
+            }
+        }
     }
 
     /// What that stop would leave, but for the declarations.
@@ -101,9 +107,17 @@ fn saved_node(alloc: Global, node: &Broker) -> Result<NodeParts, Memory>
     ensures rests { IfOk result (λ p. HaveRests p.entries.items) }
 {
     let mut durable = node.durable(alloc)?;
-    durable.store.reserve(1)?;
-    let _ledger = durable.store.open_ledger();
-    NodeParts::of_durable(alloc, durable)
+    match durable.store.reserve(1) {
+        Ok(()) => {
+            let _ledger = durable.store.open_ledger();
+            NodeParts::of_durable(alloc, durable)
+        }
+        Err(memory) => {
+            // by a call, so that the end of what is durable is proved by itself
+            drop(durable);
+            Err(memory)
+        }
+    }
 }
 
 /// What a stop leaves of clients.

@@ -85,6 +85,11 @@ impl World {
     {
         &self.clients[client as usize]
     }
+
+    /// Lets the world go, as `drop` does: a crate that calls this need not show again how each part of a world ends.
+    pub fn let_go(self) {
+        drop(self)
+    }
 }
 
 /// The number of a broker among all.

@@ -1,5 +1,5 @@
 //! What the program is to write, made whole before its first byte goes out.
-ghost use Rattle.std.specs.Prelude.{◌≡◌, IfOk, string_bytes};
+ghost use Rattle.std.specs.Prelude.{◌≡◌, ◌++◌, ◌∷◌, [], codes, decimal, IfOk, string_bytes};
 ghost use Rattle.geo_top.specs.Outputs.{refused};
 ghost use Rattle.geo_top.specs.Statuses.{refusal_line};
 
@@ -34,18 +34,28 @@ fn refusal_line(alloc: Global, status: Status) -> Result<String, Memory>
             alloc,
             "usage: geo run, live WORKERS TURNS, big NUMBER, save, resume, audit, compact HORIZON, tiered KEEP, trace\n",
         )?),
-        Status::BadScript { line, rule } => Ok(format!(in alloc;
-            "bad script line {line} rule {rule}\n"
-        )?),
+        Status::BadScript { line, rule } => ruled_line(alloc, "bad script line ", line, rule),
         Status::ReadFault => Ok(String::from_str(alloc, "read fault\n")?),
-        Status::TooLarge(limit) => Ok(format!(in alloc; "too large {limit}\n")?),
-        Status::BadState { offset, rule } => Ok(format!(in alloc;
-            "bad state at {offset} rule {rule}\n"
-        )?),
-        Status::StateVersion(number) => Ok(format!(in alloc; "bad state version {number}\n")?),
-        Status::AuditRefused { event, rule } => Ok(format!(in alloc;
-            "audit refused {event} rule {rule}\n"
-        )?),
+        Status::TooLarge(limit) => numbered_line(alloc, "too large ", limit),
+        Status::BadState { offset, rule } => ruled_line(alloc, "bad state at ", offset, rule),
+        Status::StateVersion(number) => {
+            numbered_line(alloc, "bad state version ", u64::from(number))
+        }
+        Status::AuditRefused { event, rule } => ruled_line(alloc, "audit refused ", event, rule),
         Status::Ok | Status::WriteFault | Status::OutOfMemory => Ok(String::new(alloc)),
     }
+}
+
+/// The line of a refusal that has a number.
+fn numbered_line(alloc: Global, what: &str, number: u64) -> Result<String, Memory>
+    ensures { IfOk result (λ line. string_bytes line ≡ what.now ++ (decimal number ++ 10 ∷ [])) }
+{
+    Ok(format!(in alloc; "{what}{number}\n")?)
+}
+
+/// The line of a refusal that tells the place where a rule is broken, and the rule.
+fn ruled_line(alloc: Global, what: &str, place: u64, rule: u32) -> Result<String, Memory>
+    ensures { IfOk result (λ line. string_bytes line ≡ what.now ++ (decimal place ++ (codes " rule " ++ (decimal rule ++ 10 ∷ [])))) }
+{
+    Ok(format!(in alloc; "{what}{place} rule {rule}\n")?)
 }

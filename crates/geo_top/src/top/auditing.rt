@@ -22,7 +22,11 @@ pub fn answer_to_audit(alloc: Global, bytes: &[u8]) -> Result<Answer, Memory>
     let start = trace_start(bytes);
     let trace = &bytes[start..];
     match read_script(alloc, &bytes[..start]) {
-        Ok(scenario) => judge(alloc, &scenario, trace),
+        Ok(scenario) => {
+            let answer = judge(alloc, &scenario, trace);
+            drop(scenario);
+            answer
+        }
         Err(ScriptFault::Rule { line, rule }) => refusal(alloc, Status::BadScript { line, rule }),
         Err(ScriptFault::Memory) => Err(Memory),
     }

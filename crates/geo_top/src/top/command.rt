@@ -19,7 +19,7 @@ const MOST_HORIZON: u64 = 2_000_000;
 const MOST_KEEP: u64 = 1_000_000;
 
 /// What the program can be asked to do.
-#[derive(Clone, Copy, Drop, PartialEq, Eq)]
+#[derive(Clone, Copy, Drop)]
 pub enum Command {
     /// Read an input, and do something with it.
     Reads(Reading),
@@ -28,7 +28,7 @@ pub enum Command {
 }
 
 /// What is done with an input.
-#[derive(Clone, Copy, Drop, PartialEq, Eq)]
+#[derive(Clone, Copy, Drop)]
 pub enum Reading {
     /// A script is run, and something of its run is shown.
     Script(Shown),
@@ -41,7 +41,7 @@ pub enum Reading {
 }
 
 /// What is shown of the run of a script.
-#[derive(Clone, Copy, Drop, PartialEq, Eq)]
+#[derive(Clone, Copy, Drop)]
 pub enum Shown {
     /// Its report.
     Report,

@@ -33,7 +33,11 @@ pub fn answer_to_script(alloc: Global, shown: Shown, bytes: Blob) -> Result<Answ
     let read = read_script(alloc, bytes.as_slice());
     give_back(bytes);
     match read {
-        Ok(scenario) => answer_to_scenario(alloc, shown, &scenario),
+        Ok(scenario) => {
+            let answer = answer_to_scenario(alloc, shown, &scenario);
+            drop(scenario);
+            answer
+        }
         Err(ScriptFault::Rule { line, rule }) => refusal(alloc, Status::BadScript { line, rule }),
         Err(ScriptFault::Memory) => Err(Memory),
     }
@@ -78,7 +82,9 @@ fn reported(alloc: Global, scenario: &Scenario) -> Result<Blob, RunFault>
     ensures large { (limit : ℕ) → result ≡ Err (RunFault.TooLarge limit) → passed_limit scenario.now ≡ Some limit }
 {
     let world = run_script(alloc, scenario)?;
-    Ok(report(alloc, scenario, &world)?)
+    let bytes = report(alloc, scenario, &world);
+    world.let_go();
+    Ok(bytes?)
 }
 
 /// The compacted views of the world at the end of a script's run.
@@ -88,7 +94,9 @@ fn compacted(alloc: Global, scenario: &Scenario, horizon: u64) -> Result<Blob, R
     ensures large { (limit : ℕ) → result ≡ Err (RunFault.TooLarge limit) → passed_limit scenario.now ≡ Some limit }
 {
     let world = run_script(alloc, scenario)?;
-    Ok(compacted_views(alloc, scenario, &world, horizon)?)
+    let bytes = compacted_views(alloc, scenario, &world, horizon);
+    world.let_go();
+    Ok(bytes?)
 }
 
 /// The topics of the world at the end of a script's run, whose closed ledgers move to tiers.
@@ -99,7 +107,9 @@ fn tiered(alloc: Global, scenario: &Scenario, keep: u64) -> Result<Blob, RunFaul
     ensures large { (limit : ℕ) → result ≡ Err (RunFault.TooLarge limit) → passed_limit scenario.now ≡ Some limit }
 {
     let world = run_script(alloc, scenario)?;
-    Ok(tiered_topics(alloc, scenario, &world, keep)?)
+    let bytes = tiered_topics(alloc, scenario, &world, keep);
+    world.let_go();
+    Ok(bytes?)
 }
 
 /// The summary of the run that a number generates, or the limit that the run passes.
@@ -107,7 +117,9 @@ pub fn answer_to_number(alloc: Global, number: u32) -> Result<Answer, Memory>
     ensures { IfOk result (λ a. a ≡ answer_to_big number) }
 {
     let scenario = generated(alloc, number)?;
-    answer_to_its_run(alloc, number, &scenario)
+    let answer = answer_to_its_run(alloc, number, &scenario);
+    drop(scenario);
+    answer
 }
 
 /// The summary of a number's run, or the limit that it passes.
@@ -134,7 +146,9 @@ fn summed_up(alloc: Global, number: u32, scenario: &Scenario) -> Result<Blob, Ru
     ensures large { (limit : ℕ) → result ≡ Err (RunFault.TooLarge limit) → passed_limit scenario.now ≡ Some limit }
 {
     let world = run_script(alloc, scenario)?;
-    Ok(summary(alloc, number, scenario, &world)?)
+    let bytes = summary(alloc, number, scenario, &world);
+    world.let_go();
+    Ok(bytes?)
 }
 
 /// The script of a number's run.

@@ -8,7 +8,7 @@ ghost use Rattle.script_text.specs.Schedule.{schedule_of};
 ghost use Rattle.state_file.specs.Known.{IsKnownState};
 ghost use Rattle.state_file.specs.State.{state_of};
 
-use crate::run::{resume, save_script};
+use crate::run::{Resumed, resume, save_script};
 use crate::top::answer::{Answer, refusal};
 use crate::top::given_back::give_back;
 use crate::top::status::Status;
@@ -88,9 +88,20 @@ fn resumed_answer(alloc: Global, saved: Saved, lines: &[u8]) -> Result<Answer, M
     ensures { IfOk result (λ a. a ≡ answer_to_resumed (state_of saved) (schedule_of (state_of saved).scenario.setup lines.now)) }
 {
     match read_schedule(alloc, &saved.scenario, lines) {
-        Ok(steps) => run_on(alloc, saved, &steps),
-        Err(ScriptFault::Rule { line, rule }) => refusal(alloc, Status::BadScript { line, rule }),
-        Err(ScriptFault::Memory) => Err(Memory),
+        Ok(steps) => {
+            let answer = run_on(alloc, saved, &steps);
+            drop(steps);
+            answer
+        }
+        Err(fault) => {
+            saved.let_go();
+            match fault {
+                ScriptFault::Rule { line, rule } => {
+                    refusal(alloc, Status::BadScript { line, rule })
+                }
+                ScriptFault::Memory => Err(Memory),
+            }
+        }
     }
 }
 
@@ -120,5 +131,9 @@ fn reported_on(alloc: Global, saved: Saved, steps: &StepList) -> Result<Blob, Ru
     ensures large { (limit : ℕ) → result ≡ Err (RunFault.TooLarge limit) → resumed_limit (state_of saved) steps.now ≡ Some limit }
 {
     let resumed = resume(alloc, saved, steps)?;
-    Ok(report(alloc, &resumed.scenario, &resumed.world)?)
+    let bytes = report(alloc, &resumed.scenario, &resumed.world);
+    let Resumed { scenario, world } = resumed;
+    drop(scenario);
+    world.let_go();
+    Ok(bytes?)
 }
