@@ -1,17 +1,19 @@
 //! The answer to a script whose nodes run on threads.
 ghost use Rattle.std.specs.Prelude.{◌≡◌, ◌<◌, ◌≤◌, ℕ, List, IfOk, None, OnErr, length};
+ghost use Rattle.std.specs.Arc.{arc_value};
 ghost use Rattle.geo_io.specs.Faults.{Stood};
 ghost use Rattle.geo_live.specs.LiveAnswers.{IsLiveAnswer, IsLiveRead, IsLiveReady};
 ghost use Rattle.geo_top.specs.declared.top.status.Status.TheVariants as status;
 ghost use Rattle.live_output.specs.LiveRuns.{TellsRun};
 
 use crate::words::Live;
-use geo_base::Memory;
 use geo_base::limits::INPUT_BYTES;
+use geo_base::{Blob, Memory};
 use geo_io::{Gate, ReadFault, Source, read_all};
 use geo_top::{Answer, Status, refusal};
 use live_output::live_output;
 use live_run::live;
+use node_book::BookList;
 use script_text::{Scenario, ScriptFault, read_script};
 use std::alloc::Global;
 use std::sync::{Arc, Wait};
@@ -87,9 +89,25 @@ fn answer_to_scenario<R: Threads + Wait + Sync, G: Gate + Sync>(
     ensures tells { IfOk result (λ a. TellsRun scenario a.bytes) }
 {
     let scenario = Arc::new(alloc, scenario)?;
-    let books = live(rt, alloc, &scenario, asked.workers, asked.turns, gate)?;
     Ok(Answer {
         status: Status::Ok,
-        bytes: live_output(alloc, &scenario, &books)?,
+        bytes: output_of(rt, alloc, asked, &scenario, gate)?,
     })
+}
+
+/// The bytes of it; the books that the threads leave are let go.
+fn output_of<R: Threads + Wait + Sync, G: Gate + Sync>(
+    rt: &R,
+    alloc: Global,
+    asked: Live,
+    scenario: &Arc<Scenario>,
+    gate: &G,
+) -> Result<Blob, Memory>
+    requires { 0 < asked.workers }
+    ensures { IfOk result (TellsRun (arc_value scenario.now)) }
+{
+    let books = live(rt, alloc, scenario, asked.workers, asked.turns, gate)?;
+    let output = live_output(alloc, scenario, &books);
+    BookList::let_go(books);
+    output
 }

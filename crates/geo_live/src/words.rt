@@ -12,7 +12,7 @@ const MOST_WORKERS: u64 = 64;
 const MOST_TURNS: u64 = 2_000_000;
 
 /// What `live WORKERS TURNS` asks for: so many workers, each with so many turns.
-#[derive(Clone, Copy, Drop, PartialEq, Eq)]
+#[derive(Clone, Copy, Drop)]
 pub(crate) struct Live {
     pub workers: u32,
     pub turns: u64,

@@ -12,7 +12,7 @@ use geo_base::Memory;
 use std::alloc::Global;
 
 /// A packet that a node took and that is not the one that was sent, with the stamp of the event that took it.
-#[derive(Clone, Copy, Drop, PartialEq, Eq)]
+#[derive(Clone, Copy, Drop)]
 pub struct PacketDifference {
     pub node: usize,
     pub stamp: u64,

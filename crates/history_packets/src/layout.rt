@@ -6,14 +6,14 @@ use geo_base::Peer;
 use std::marker::Model;
 
 /// The topic of a client, and the cluster that it is declared at.
-#[derive(Clone, Copy, Drop, PartialEq, Eq)]
+#[derive(Clone, Copy, Drop)]
 pub struct Home {
     pub topic: u32,
     pub cluster: u32,
 }
 
 /// The other end of what a node shares with a peer: the peer's number, and as what it knows the node.
-#[derive(Clone, Copy, Drop, PartialEq, Eq)]
+#[derive(Clone, Copy, Drop)]
 pub struct FarEnd {
     pub node: usize,
     pub peer: Peer,

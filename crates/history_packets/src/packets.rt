@@ -1,5 +1,6 @@
 //! Packets of histories: whether two are equal, and the two of a difference.
 ghost use Rattle.std.specs.Prelude.{◌≡◌, ◌<◌, ◌^◌, IfOk, false, length, slice_get, true};
+ghost use Rattle.std.specs.Option.{option_copied};
 ghost use Rattle.history_packets.specs.Differences.{Takes, sent_there};
 ghost use Rattle.history_packets.specs.Firsts.{IsDifference};
 ghost use Rattle.history_packets.specs.Kept.{kept_by};
@@ -36,31 +37,40 @@ pub fn packets_of(
     let events = histories[difference.node].events();
     let done = &events[found.place];
     let taken = match &done.taken {
-        Some(taken) => copied(alloc, taken)?,
+        Some(taken) => taken,
         None => unreachable!(),
     };
     let end = layout.end_of(difference.node, found.peer);
+    let sent = sent_at(alloc, histories, end, found.index)?;
+    let sent = copied_if(alloc, sent)?;
     Ok(Packets {
-        sent: sent_at(alloc, histories, end, found.index)?,
-        taken,
+        sent,
+        taken: copied(alloc, taken)?,
     })
 }
 
-/// A copy of the packet that a node sent to a peer at a place; None where there is none.
-fn sent_at(
+/// The packet that a node sent to a peer at a place; None where there is none.
+fn sent_at<'a>(
     alloc: Global,
-    histories: &[History<'_>],
+    histories: &[History<'a>],
     end: FarEnd,
     place: usize,
-) -> Result<Option<WirePacket>, Memory>
-    ensures { IfOk result (λ o. o ≡ slice_get (sent_to end.peer (kept_by histories.now end.node)) place) }
+) -> Result<Option<&'a WirePacket>, Memory>
+    ensures { IfOk result (λ o. option_copied o ≡ slice_get (sent_to end.peer (kept_by histories.now end.node)) place) }
 {
     if end.node >= histories.len() {
         return Ok(None);
     }
     let outbox = Outbox::of(alloc, histories[end.node].events())?;
-    match outbox.get(end.peer, place) {
-        Some(sent) => Ok(Some(copied(alloc, sent)?)),
+    Ok(outbox.get(end.peer, place))
+}
+
+/// A copy of a packet, where there is one.
+fn copied_if(alloc: Global, packet: Option<&WirePacket>) -> Result<Option<WirePacket>, Memory>
+    ensures { IfOk result (λ o. o ≡ option_copied packet.entry) }
+{
+    match packet {
+        Some(packet) => Ok(Some(copied(alloc, packet)?)),
         None => Ok(None),
     }
 }

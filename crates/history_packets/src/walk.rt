@@ -19,7 +19,7 @@ use wire_ends::WirePacket;
 
 /// A packet that a node took from a peer and that is not the one that was sent: the place of the event in the node's history,
 /// and how many packets the node took from that peer before.
-#[derive(Clone, Copy, Drop, PartialEq, Eq)]
+#[derive(Clone, Copy, Drop)]
 pub struct Found {
     pub place: usize,
     pub peer: Peer,

@@ -192,3 +192,15 @@ pub none_settled : {T : Type 0} (s : Setup) (es : List Step) (steps_of : T → L
     → (run_under all_limits s es).ended ≡ None → IfOk r (λ p. steps_of p ≡ longest s [] es) → IfOk r (λ p. steps_of p ≡ with_settling s es)
 none_settled s es steps_of (Ok p) h none is = without_settling s es (steps_of p) h none is
 none_settled s es steps_of (Err e) h none is = tt
+
+-- where it passes none, the step that says so stands behind all others
+pub settled_steps : {T : Type 0} (s : Setup) (es : List Step) (steps_of : T → List Step) (r : Result T Memory) → fits s (es ++ step.Settle ∷ []) ≡ true
+    → IfOk r (λ p. steps_of p ≡ es ++ step.Settle ∷ []) → IfOk r (λ p. steps_of p ≡ with_settling s es)
+settled_steps s es steps_of (Ok p) h is = is ∙ sym (with_settled s es h)
+settled_steps s es steps_of (Err e) h is = tt
+
+pub settled_at : {T : Type 0} (n : Script) (es : List Step) (w : WorldBook) (steps_of : T → List Step) (world_of : T → WorldBook) (r : Result T Memory)
+    → IfOk r (λ p. steps_of p ≡ es) → IfOk r (λ p. world_of p ≡ w) → IsPlayed n es w → IfOk r (λ p. IsPlayed n (steps_of p) (world_of p))
+settled_at n es w steps_of world_of (Ok p) is here at =
+    subst (λ (fs : List Step). IsPlayed n fs (world_of p)) (sym is) (subst (λ (b : WorldBook). IsPlayed n es b) (sym here) at)
+settled_at n es w steps_of world_of (Err e) is here at = tt

@@ -33,7 +33,9 @@ pub fn live_output<E: End>(
     ensures tells { IfOk result (TellsRun (arc_value scenario.now)) }
 {
     let merged = merge(alloc, scenario, books)?;
-    output_of(alloc, scenario, &merged.steps)
+    let output = output_of(alloc, scenario, &merged.steps);
+    merged.let_go();
+    output
 }
 
 /// The report and the schedule of as many of some events as the limits of a run allow, and of settling behind them where that fits.
@@ -45,7 +47,9 @@ fn output_of(alloc: Global, scenario: &Scenario, steps: &StepList) -> Result<Blo
 {
     let replayed = replay(alloc, scenario, steps)?;
     let played = settle_where_it_fits(alloc, scenario, replayed)?;
-    written(alloc, scenario, &played)
+    let output = written(alloc, scenario, &played);
+    played.let_go();
+    output
 }
 
 /// The report of a run and its schedule, which reads back.

@@ -1,5 +1,6 @@
 //! Runs that are done step by step, up to a limit.
 ghost use Rattle.std.specs.Prelude.{◌≡◌, ◌++◌, ◌∷◌, [], All, IfOk, OnOk, Ok, false, true};
+ghost use Rattle.geo_base.specs.declared.event.Step.TheVariants as kind;
 ghost use Rattle.live_output.specs.Playing.{IsEventStep, IsPlayed};
 ghost use Rattle.live_output.specs.Schedules.{fits, longest, with_settling};
 
@@ -45,6 +46,35 @@ impl Played {
             Err(RunFault::Memory) => Err(Memory),
         }
     }
+
+    /// Does as many of some events as pass no limit.
+    fn does_all(
+        &mut self,
+        alloc: Global,
+        scenario: &Scenario,
+        steps: &StepList,
+    ) -> Result<(), Memory>
+        requires at { IsPlayed scenario.now self.old.steps self.old.world }
+        requires none { self.old.steps ≡ [] }
+        requires events { All (IsEventStep scenario.now.setup) steps.now }
+        ensures steps { OnOk result (self.new.steps ≡ longest scenario.now.setup [] steps.now) }
+        ensures events { OnOk result (All (IsEventStep scenario.now.setup) self.new.steps) }
+        ensures at { OnOk result (IsPlayed scenario.now self.new.steps self.new.world) }
+    {
+        for place in 0..steps.len() {
+            if !self.does(alloc, scenario, steps.at(place))? {
+                return Ok(());
+            }
+        }
+        Ok(())
+    }
+
+    /// Lets the run go.
+    pub fn let_go(self) {
+        let Played { world, steps } = self;
+        world.let_go();
+        drop(steps);
+    }
 }
 
 /// The run of as many of some events as pass no limit. An `Err` is want of memory.
@@ -55,12 +85,13 @@ pub(crate) fn replay(alloc: Global, scenario: &Scenario, steps: &StepList) -> Re
     ensures at { IfOk result (λ p. IsPlayed scenario.now p.steps p.world) }
 {
     let mut played = Played::new(alloc, scenario)?;
-    for place in 0..steps.len() {
-        if !played.does(alloc, scenario, steps.at(place))? {
-            return Ok(played);
+    match played.does_all(alloc, scenario, steps) {
+        Ok(()) => Ok(played),
+        Err(error) => {
+            played.let_go();
+            Err(error)
         }
     }
-    Ok(played)
 }
 
 /// The run with settling behind it, where that passes no limit. An `Err` is want of memory.
@@ -74,17 +105,31 @@ pub(crate) fn settle_where_it_fits(
     ensures steps { IfOk result (λ p. p.steps ≡ with_settling scenario.now.setup played.steps) }
     ensures at { IfOk result (λ p. IsPlayed scenario.now p.steps p.world) }
 {
-    let Played {
-        mut world,
-        mut steps,
-    } = played;
+    let Played { mut world, steps } = played;
     match world.step(alloc, scenario, &Step::Settle) {
-        Ok(()) => {
-            steps.push(Step::Settle)?;
-            Ok(Played { world, steps })
-        }
+        Ok(()) => settled(world, steps),
         // Settling left a part of itself behind: the run is done again without it.
-        Err(RunFault::TooLarge(_)) => replay(alloc, scenario, &steps),
-        Err(RunFault::Memory) => Err(Memory),
+        Err(RunFault::TooLarge(_)) => {
+            world.let_go();
+            replay(alloc, scenario, &steps)
+        }
+        Err(RunFault::Memory) => {
+            world.let_go();
+            Err(Memory)
+        }
+    }
+}
+
+/// A world that has settled behind some steps, with the step that says so.
+fn settled(world: World, mut steps: StepList) -> Result<Played, Memory>
+    ensures steps { IfOk result (λ p. p.steps ≡ steps ++ kind.Settle ∷ []) }
+    ensures world { IfOk result (λ p. p.world ≡ world) }
+{
+    match steps.push(Step::Settle) {
+        Ok(()) => Ok(Played { world, steps }),
+        Err(error) => {
+            world.let_go();
+            Err(error)
+        }
     }
 }

@@ -63,8 +63,7 @@ fn open_topic(
     for cluster in 0..cluster_count(scenario) {
         let ends = rings.broker(alloc, scenario, topic, cluster)?;
         let shared = Arc::try_clone(scenario)?;
-        let book = NodeBook::broker(alloc, shared, topic, cluster, ends)?;
-        books.push(Mutex::new(book))?;
+        books.push(Mutex::new(NodeBook::broker(alloc, shared, topic, cluster, ends)?))?;
     }
     Ok(())
 }
@@ -82,8 +81,7 @@ fn open_clients(
     for client in 0..client_count(scenario) {
         let ends = rings.client(alloc, scenario, client)?;
         let shared = Arc::try_clone(scenario)?;
-        let book = NodeBook::client(alloc, shared, client, ends)?;
-        books.push(Mutex::new(book))?;
+        books.push(Mutex::new(NodeBook::client(alloc, shared, client, ends)?))?;
     }
     Ok(())
 }

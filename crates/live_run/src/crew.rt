@@ -45,7 +45,9 @@ impl Member {
     fn turn<R: Wait>(&mut self, rt: &R, alloc: Global, books: &[LockedBook]) -> Result<(), Memory> {
         for locked in books.iter().skip(self.first).take(self.nodes) {
             let mut book = locked.lock(rt);
-            if self.actor.turn(alloc, &mut book)? {
+            let done = self.actor.turn(alloc, &mut book);
+            drop(book);
+            if done? {
                 break;
             }
         }

@@ -27,6 +27,13 @@ pub struct Merged {
     pub differs: Option<Difference>,
 }
 
+impl Merged {
+    /// Lets the merge go, as `drop` does: a crate that calls this need not show again how each part of a merge ends.
+    pub fn let_go(self) {
+        drop(self)
+    }
+}
+
 /// The merge of the books of a scenario's nodes, in the nodes' order. What it says holds where each history replays, as it does
 /// in a book that a node keeps. An `Err` is want of memory.
 pub fn merge_books(

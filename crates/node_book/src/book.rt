@@ -90,6 +90,11 @@ impl<E: End> NodeBook<E> {
     {
         self.log.clock
     }
+
+    /// Lets the book go, as `drop` does: a crate that calls this need not show again how each part of a node ends.
+    pub fn let_go(self) {
+        drop(self)
+    }
 }
 
 /// The number of the node of a state.

@@ -55,4 +55,9 @@ impl<E: End> BookList<E> {
     {
         self.books.as_slice()
     }
+
+    /// Lets the books go, as `drop` does: a crate that calls this need not show again how each part of a node ends.
+    pub fn let_go(self) {
+        drop(self)
+    }
 }

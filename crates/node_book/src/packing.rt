@@ -157,11 +157,14 @@ fn pack<E: End>(
 {
     let WireOut { to, session, frame } = out;
     let stamp = packed.stamp;
-    let kept = WirePacket {
-        session,
-        stamp,
-        frame: frame.copy(alloc)?,
-    };
+    packed.sent.push(Sent {
+        to,
+        packet: WirePacket {
+            session,
+            stamp,
+            frame: frame.copy(alloc)?,
+        },
+    })?;
     let parcel = ends.pack(
         to,
         WirePacket {
@@ -170,7 +173,6 @@ fn pack<E: End>(
             frame,
         },
     )?;
-    packed.sent.push(Sent { to, packet: kept })?;
     packed.parcels.push(Addressed { to, parcel })?;
     Ok(())
 }
