@@ -277,7 +277,7 @@ fn compare(
 fn compare_new(alloc: Global, scenario: &Scenario, books: &mut Books) -> Result<Told, Memory> {
     let mut world = World::new(alloc, scenario)?;
     let told = compare(alloc, scenario, &mut world, books);
-    drop(world);
+    world.let_go();
     told
 }
 

@@ -89,7 +89,7 @@ fn books_made<R: Threads + Wait + Sync>(
 ) -> Result<usize, Memory> {
     let books = live(rt, alloc, scenario, 2, 200, gate)?;
     let count = books.as_slice().len();
-    drop(books);
+    books.let_go();
     Ok(count)
 }
 
@@ -132,7 +132,7 @@ fn run_fits<R: Threads + Wait + Sync>(
 {
     let books = live(rt, alloc, scenario, workers, turns, &OpenGate)?;
     let fits = fit_together(alloc, scenario, &books);
-    drop(books);
+    books.let_go();
     fits
 }
 
@@ -186,7 +186,7 @@ fn brings_all<R: Threads + Wait + Sync>(
     let books = live(rt, alloc, scenario, 1, 2000, &OpenGate)?;
     let has_three = have_three(books.as_slice());
     let fits = fit_together(alloc, scenario, &books);
-    drop(books);
+    books.let_go();
     Ok(has_three && fits?)
 }
 

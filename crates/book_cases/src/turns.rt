@@ -57,7 +57,7 @@ fn turn_of(
 ) -> Result<Turn, Memory> {
     let mut book = first_book(alloc, scenario)?;
     let turn = turn_at(alloc, scenario, actor, role, &mut book);
-    drop(book);
+    book.let_go();
     turn
 }
 

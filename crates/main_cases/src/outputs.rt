@@ -64,7 +64,7 @@ fn connected(alloc: Global, book: NodeBook<RingEnd>) -> Result<NodeBook<RingEnd>
     match book.act(alloc, &Event::Reconnect { client: 0 }) {
         Ok(true) => Ok(book),
         _ => {
-            drop(book);
+            book.let_go();
             Err(Memory)
         }
     }
@@ -82,7 +82,7 @@ fn three_books(
     match added {
         Ok(()) => Ok(books),
         Err(fault) => {
-            drop(books);
+            books.let_go();
             Err(fault)
         }
     }
@@ -117,7 +117,7 @@ fn written(
 fn written_of_three(alloc: Global, scenario: &Arc<Scenario>) -> Result<Blob, Memory> {
     let books = three_books(alloc, scenario)?;
     let output = written(alloc, scenario, &books);
-    drop(books);
+    books.let_go();
     output
 }
 

@@ -74,7 +74,7 @@ fn made_of<R: Threads + Wait + Sync>(
 ) -> Result<Blob, Memory> {
     let books = live(rt, alloc, scenario, 1, 2000, &OpenGate)?;
     let output = live_output(alloc, scenario, &books);
-    drop(books);
+    books.let_go();
     output
 }
 
