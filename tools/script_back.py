@@ -1,12 +1,12 @@
 #!/usr/bin/env python3
-"""Makes the input and the expected output of crates/script_back from the scripts of the repository.
+"""Makes the scripts' sections of the input and of the expected output of crates/byte_answers from the scripts of the repository.
 
-The input has each script NAME.geo of examples/ and some of runs/ behind a line `== DIRECTORY/NAME`. The output has that line, then the
-script's declarations in their canonical order (geo, ledger where it is not 50000, chance, clusters, topics, clients, the `do` lines
-client by client, each TO list in the order of the clusters), then the lines of its schedule as they stand in the file. The program's
-own output is never read.
+The input has each script NAME.geo of examples/ and some of runs/ behind a line `== DIRECTORY/NAME`; these sections are the last ones, and
+what stands before them stays as it is. The output has that line, then the script's declarations in their canonical order (geo, ledger
+where it is not 50000, chance, clusters, topics, clients, the `do` lines client by client, each TO list in the order of the clusters),
+then the lines of its schedule as they stand in the file. The program's own output is never read.
 
-usage: script_back.py write     writes crates/script_back/stdin and crates/script_back/stdout
+usage: script_back.py write     writes these sections of crates/byte_answers/stdin and crates/byte_answers/stdout
        script_back.py check     says whether they are what `write` would write
 """
 import os
@@ -14,7 +14,9 @@ import re
 import sys
 
 ROOT = os.path.dirname(os.path.dirname(os.path.abspath(__file__)))
-CRATE = os.path.join(ROOT, 'crates', 'script_back')
+CRATE = os.path.join(ROOT, 'crates', 'byte_answers')
+# where the sections of scripts begin
+FIRST = re.compile(r'^== \w+/', re.MULTILINE)
 # of the random schedules one of each kind, and those of all kinds
 RUNS = re.compile(r'.*_1\.geo|all_.\.geo')
 DECLARES = ('geo', 'ledger', 'chance', 'cluster', 'topic', 'client', 'do')
@@ -62,16 +64,25 @@ def made():
     return {'stdin': '\n'.join(given) + '\n', 'stdout': '\n'.join(wanted) + '\n'}
 
 
+def stands(file):
+    """What a file has now: what stands before the sections of scripts, and these."""
+    with open(os.path.join(CRATE, file), encoding='ascii') as given:
+        text = given.read()
+    first = FIRST.search(text)
+    at = first.start() if first else len(text)
+    return text[:at], text[at:]
+
+
 def main(words):
     if words == ['write']:
         for file, text in made().items():
+            before, _ = stands(file)
             with open(os.path.join(CRATE, file), 'w', encoding='ascii') as out:
-                out.write(text)
+                out.write(before + text)
     elif words == ['check']:
         for file, text in made().items():
-            with open(os.path.join(CRATE, file), encoding='ascii') as given:
-                if given.read() != text:
-                    sys.exit('crates/script_back/%s differs' % file)
+            if stands(file)[1] != text:
+                sys.exit('crates/byte_answers/%s differs' % file)
     else:
         sys.exit(__doc__)
 

@@ -1,184 +1,191 @@
-//! Ends in memory, and calls that fail in turn.
-ghost use Rattle.std.specs.Prelude.{◌≤◌, ◌<◌, length, OnOk};
-ghost use Rattle.geo_io.specs.Sink.{Gains};
-ghost use Rattle.geo_io.specs.Ends.{held_of};
+//! Ends of every kind, as code sees them that is generic over an end.
+ghost use Rattle.std.specs.Prelude.{◌≡◌, ◌++◌, IfOk, OnErr};
+ghost use Rattle.std.specs.Option.{option_to_list};
+ghost use Rattle.wire_ends.specs.Looks.{Looked};
 
+use crate::packets::{PING, is_packet, packet, send_packet, take_packet};
 use geo_base::Memory;
-use geo_io::{
-    MemSink, MemSource, ReadFault, Sink, SteadySink, SteadySource, WriteFault, read_all, write_all,
-};
+use link_rings::{RING_PLACES, RingEnd, RingSend, RingTake, ring};
 use std::alloc::Global;
 use std::test::Fail;
+use wire_ends::{End, ListEnd, PART_BYTES, PieceEnd, WirePacket};
 
-const TEN: &[u8] = b"0123456789";
-
-/// Calls of a sink that takes three of ten bytes in each: how many bytes went out before, and which.
-const CALLS: [(u64, u64, &str); 4] = [
-    (1, 0, ""),
-    (2, 3, "012"),
-    (3, 6, "012345"),
-    (4, 9, "012345678"),
-];
-
-/// Whether this is the answer to a read of at most `max` bytes, of a source with so many bytes at most in a call, which fails at
-/// some calls.
-fn is_read(
+/// Takes the next packet from an end and sends a copy on another, and answers the packet; `None` where none is shown or the other
+/// end has too few places for it. For want of memory, too, nothing was taken and nothing sent.
+fn pass_on<E: End, F: End>(
     alloc: Global,
-    input: &[u8],
-    most: usize,
-    fails: &[u64],
-    max: usize,
-    answer: Result<&[u8], ReadFault>,
-) -> bool
-    requires { 0 < most }
+    from: &mut E,
+    to: &mut F,
+) -> Result<Option<WirePacket>, Memory>
+    ensures taken { IfOk result (λ p. E.taken from.new ≡ E.taken from.old ++ option_to_list p) }
+    ensures sent { IfOk result (λ p. F.sent to.new ≡ F.sent to.old ++ option_to_list p) }
+    ensures err { OnErr result ((E.taken from.new ≡ E.taken from.old) × (F.sent to.new ≡ F.sent to.old)) }
+    ensures looked { Looked (E.looks from.old) (E.looks from.new) }
 {
-    match MemSource::new(alloc, input, most, fails) {
-        Ok(mut source) => {
-            let read = read_all(alloc, &mut source, max);
-            drop(source);
-            match &read {
-                Ok(bytes) => answer == Ok(bytes.as_slice()),
-                Err(fault) => answer == Err(*fault),
-            }
-        }
-        Err(_) => false,
+    from.gather()?;
+    let copy = match from.peek() {
+        None => return Ok(None),
+        Some(packet) => copied(alloc, packet)?,
+    };
+    let parcel = to.pack(copy)?;
+    if to.free() < parcel.places() {
+        return Ok(None);
+    }
+    to.send(parcel);
+    Ok(from.take())
+}
+
+fn copied(alloc: Global, packet: &WirePacket) -> Result<WirePacket, Memory>
+    ensures { IfOk result (λ p. p ≡ packet.now) }
+{
+    let frame = packet.frame.copy(alloc)?;
+    Ok(WirePacket {
+        session: packet.session,
+        stamp: packet.stamp,
+        frame,
+    })
+}
+
+/// Whether it is that packet which passes from one end to another; `None` where none passes.
+fn passes<E: End, F: End>(alloc: Global, from: &mut E, to: &mut F) -> Result<Option<bool>, Memory> {
+    match pass_on(alloc, from, to)? {
+        None => Ok(None),
+        packet => Ok(Some(is_packet(packet, 4, &PING))),
     }
 }
 
-/// Whether this is the answer to a write of an output, and the sink then holds these bytes: one that takes so many bytes at most
-/// in a call, and fails at a call.
-fn is_written(
+/// Whether a packet passes from a list of packets over pieces and a ring into another list, and no second one.
+fn passes_all(alloc: Global) -> Result<bool, Memory> {
+    let mut list = ListEnd::new(alloc, 1)?;
+    let passed = passes_list(alloc, &mut list);
+    drop(list);
+    passed
+}
+
+fn passes_list(alloc: Global, list: &mut ListEnd) -> Result<bool, Memory> {
+    list.put(packet(alloc, 4, &PING)?)?;
+    let mut pieces = PieceEnd::new(alloc, PART_BYTES)?;
+    let passed = passes_pieces(alloc, list, &mut pieces);
+    drop(pieces);
+    passed
+}
+
+fn passes_pieces(alloc: Global, list: &mut ListEnd, pieces: &mut PieceEnd) -> Result<bool, Memory> {
+    if passes(alloc, list, pieces)? != Some(true) {
+        return Ok(false);
+    }
+    let mut last = ListEnd::new(alloc, 1)?;
+    let passed = passes_between(alloc, pieces, &mut last);
+    drop(last);
+    passed
+}
+
+/// From pieces over a ring into a list.
+fn passes_between(
     alloc: Global,
-    output: &[u8],
-    most: usize,
-    call: u64,
-    answer: Result<(), WriteFault>,
-    held: &[u8],
-) -> bool
-    requires { 0 < most }
-{
-    match MemSink::new(alloc, most, &[call]) {
-        Ok(mut sink) => {
-            let written = write_all(&mut sink, output);
-            let is_held = sink.bytes() == held;
-            drop(sink);
-            is_held && written == answer
-        }
-        Err(_) => false,
-    }
+    pieces: &mut PieceEnd,
+    last: &mut ListEnd,
+) -> Result<bool, Memory> {
+    let (sends, takes) = ring(alloc, RING_PLACES, 5)?;
+    let mut sends = RingEnd::Send(sends);
+    let mut takes = RingEnd::Take(takes);
+    let sent = passes(alloc, pieces, &mut sends);
+    let taken = is_taken(alloc, &mut takes, last);
+    drop(sends);
+    drop(takes);
+    Ok(sent? == Some(true) && taken?)
 }
 
-/// Ten bytes by three in a call: the calls of a sink end after 3, 6, 9 and 10 bytes, and a source
-/// needs a fifth call to see its end.
-#[test]
-fn each_call_fails_in_turn(rt: HostRuntime) {
-    for (call, out, held) in CALLS.iter() {
-        assert!(rt; is_failing(rt.alloc(), *call, *out, held), "call {call}");
-    }
-    assert!(rt; is_read(rt.alloc(), TEN, 3, &[5], 10, Err(ReadFault::Failed)));
-}
-
-/// Whether a source and a sink that fail at a call are told, the sink with how many bytes went out, and which.
-fn is_failing(alloc: Global, call: u64, out: u64, held: &str) -> bool {
-    let answer = Err(WriteFault { out });
-    is_read(alloc, TEN, 3, &[call], 10, Err(ReadFault::Failed))
-        && is_written(alloc, TEN, 3, call, answer, held.as_bytes())
+/// Whether the packet comes out of the ring into the list, and no second one.
+fn is_taken(alloc: Global, takes: &mut RingEnd, last: &mut ListEnd) -> Result<bool, Memory> {
+    let taken = passes(alloc, takes, last)?;
+    let is_given = is_packet(last.give(), 4, &PING);
+    let second = passes(alloc, takes, last)?;
+    Ok(taken == Some(true) && is_given && second.is_none())
 }
 
 #[test]
-fn a_source_in_memory_gives_all(rt: HostRuntime) {
-    assert!(rt; is_read(rt.alloc(), TEN, 3, &[6], usize::MAX, Ok(TEN)));
-}
-
-#[test]
-fn a_sink_in_memory_takes_all(rt: HostRuntime) {
-    assert!(rt; is_written(rt.alloc(), TEN, 3, 5, Ok(()), TEN));
-}
-
-/// The report of one message into a sink that takes 10 bytes in a call and fails at its third.
-#[test]
-fn a_failing_sink_holds_what_went_out(rt: HostRuntime) {
-    let report = b"events 15 idle 0 rounds 0\n";
-    let answer = Err(WriteFault { out: 20 });
-    assert!(rt; is_written(rt.alloc(), report, 10, 3, answer, b"events 15 idle 0 rou"));
-}
-
-/// How many of four bytes may come, and the answer to a read of them.
-const LIMITS: [(usize, Result<&str, ReadFault>); 4] = [
-    (3, Err(ReadFault::TooLong)),
-    (4, Ok("abcd")),
-    (5, Ok("abcd")),
-    (0, Err(ReadFault::TooLong)),
-];
-
-#[test]
-fn too_long_is_above_the_limit(rt: HostRuntime) {
-    for (max, answer) in LIMITS.iter() {
-        let answer = answer.map(|text| text.as_bytes());
-        assert!(rt;
-            is_read(rt.alloc(), b"abcd", 2, &[], *max, answer),
-            "max {max}"
-        );
-    }
-    assert!(rt; is_read(rt.alloc(), b"", 1, &[], 0, Ok(b"")));
-}
-
-/// An input of several chunks.
-#[test]
-fn a_steady_source_never_fails(rt: HostRuntime) -> Result<(), Fail> {
-    let input = vec![in rt.alloc(); 7u8; 40_000]?;
-    let is_given = is_given(rt.alloc(), &input);
-    drop(input);
-    assert!(rt; is_given);
+fn a_packet_passes_every_kind_of_end(rt: HostRuntime) -> Result<(), Fail> {
+    let passed = passes_all(rt.alloc())?;
+    assert!(rt; passed);
     Ok(())
 }
 
-/// Whether a steady source gives all.
-fn is_given(alloc: Global, input: &[u8]) -> bool {
-    match read_all(alloc, &mut SteadySource::new(input), input.len()) {
-        Ok(bytes) => bytes.as_slice() == input,
-        Err(_) => false,
-    }
+/// Whether a packet in parts, which takes four places, passes to an end; `None` where it does not.
+fn passes_to<E: End>(alloc: Global, to: &mut E) -> Result<Option<bool>, Memory> {
+    let mut pieces = PieceEnd::new(alloc, 5)?;
+    let passed = passes_from(alloc, &mut pieces, to);
+    drop(pieces);
+    passed
 }
 
-/// An output that overflows its buffer.
-#[test]
-fn a_steady_sink_never_fails(rt: HostRuntime) {
-    let mut buffer = [0u8; 5];
-    assert!(rt; overflows(&mut SteadySink::new(&mut buffer)));
+fn passes_from<E: End>(
+    alloc: Global,
+    pieces: &mut PieceEnd,
+    to: &mut E,
+) -> Result<Option<bool>, Memory> {
+    let parcel = pieces.pack(packet(alloc, 4, &PING)?)?;
+    pieces.send(parcel);
+    passes(alloc, pieces, to)
 }
 
-/// Whether an empty sink of five bytes takes three bytes, four and one, and keeps the first five of them.
-fn overflows(sink: &mut SteadySink<'_>) -> bool {
-    is_kept(sink, b"abc", b"abc") && sink.write(b"defg") == Ok(4) && is_kept(sink, b"h", b"abcde")
+/// Whether it passes to a list without places.
+fn passes_full(alloc: Global) -> Result<Option<bool>, Memory> {
+    let mut full = ListEnd::new(alloc, 0)?;
+    let passed = passes_to(alloc, &mut full);
+    drop(full);
+    passed
 }
 
-/// Whether a write succeeds, behind which the sink keeps these bytes.
-fn is_kept(sink: &mut SteadySink<'_>, bytes: &[u8], kept: &[u8]) -> bool {
-    write_all(sink, bytes).is_ok() && sink.bytes() == kept
-}
-
-/// What the clauses give a caller: between ends that never fail, the whole input arrives, and only
-/// want of memory keeps it back.
-fn copied(alloc: Global, input: &[u8], output: &mut SteadySink<'_>) -> Result<(), Memory>
-    requires { length input.now ≤ 100 }
-    ensures { OnOk result (Gains (held_of output.old) (held_of output.new) input.now) }
-{
-    let bytes = match read_all(alloc, &mut SteadySource::new(input), 100) {
-        Ok(bytes) => bytes,
-        Err(ReadFault::Memory) => return Err(Memory),
-        Err(ReadFault::Failed | ReadFault::TooLong) => unreachable!(),
-    };
-    match write_all(output, bytes.as_slice()) {
-        Ok(()) => Ok(()),
-        Err(_) => unreachable!(),
-    }
+/// Whether it passes to a ring of so many places, and comes out of it; `None` where it does not pass.
+fn passes_ring(alloc: Global, places: usize) -> Result<Option<bool>, Memory> {
+    let (mut sends, mut takes) = ring(alloc, places, 5)?;
+    let passed = passes_to(alloc, &mut sends);
+    let taken = take_packet(&mut takes, 4, &PING);
+    drop(sends);
+    drop(takes);
+    let is_taken = taken? == Some(true);
+    Ok(match passed? {
+        None => None,
+        Some(is_same) => Some(is_same && is_taken),
+    })
 }
 
 #[test]
-fn clauses_compose(rt: HostRuntime) {
-    let mut buffer = [0u8; 5];
-    let mut sink = SteadySink::new(&mut buffer);
-    let is_copied = copied(rt.alloc(), b"abc", &mut sink).is_ok();
-    assert!(rt; is_copied && sink.bytes() == b"abc".as_slice());
+fn without_places_nothing_passes(rt: HostRuntime) -> Result<(), Fail> {
+    let alloc = rt.alloc();
+    let full = passes_full(alloc)?;
+    let (three, four) = (passes_ring(alloc, 3)?, passes_ring(alloc, 4)?);
+    assert_eq!(rt; (full, three, four), (None, None, Some(true)));
+    Ok(())
+}
+
+/// How many places of a ring are free once a packet was sent, and once it was gathered; `None` where it has too few.
+fn free_places(
+    alloc: Global,
+    sends: &mut RingSend,
+    takes: &mut RingTake,
+) -> Result<Option<(usize, usize)>, Memory> {
+    if !send_packet(alloc, sends, 4, &PING)? {
+        return Ok(None);
+    }
+    let full = sends.free();
+    takes.gather()?;
+    Ok(Some((full, sends.free())))
+}
+
+/// The same of a new ring of four places.
+fn free_places_of_four(alloc: Global) -> Result<Option<(usize, usize)>, Memory> {
+    let (mut sends, mut takes) = ring(alloc, 4, 5)?;
+    let free = free_places(alloc, &mut sends, &mut takes);
+    drop(sends);
+    drop(takes);
+    free
+}
+
+/// A ring's places are free again once what stood there was gathered.
+#[test]
+fn places_are_free_again(rt: HostRuntime) -> Result<(), Fail> {
+    assert_eq!(rt; free_places_of_four(rt.alloc())?, Some((0, 4)));
+    Ok(())
 }

@@ -1,4 +1,6 @@
-//! Tests of the parts of a broker, in a crate of their own: a crate with tests is proved a second time with them.
+//! Tests of the parts of a broker, and of what is kept: state files, compacted views of a topic, and ledgers in another store. They
+//! stand in a crate of their own, since a crate with tests is proved a second time with them, and in one, since each such crate costs
+//! the gate most of a minute whatever it holds.
 #![tactic(auto)]
 
 #[cfg(test)]
@@ -7,6 +9,8 @@ mod acknowledging;
 mod building;
 #[cfg(test)]
 mod caching;
+#[cfg(test)]
+mod compacting;
 #[cfg(test)]
 mod dispatching;
 #[cfg(test)]
@@ -18,14 +22,22 @@ mod keys;
 #[cfg(test)]
 mod ledgers;
 #[cfg(test)]
+mod loading;
+#[cfg(test)]
 mod offers;
 #[cfg(test)]
 mod replicating;
 #[cfg(test)]
 mod restarting;
 #[cfg(test)]
+mod stored_entries;
+#[cfg(test)]
 mod subscriptions;
 #[cfg(test)]
 mod telling;
+#[cfg(test)]
+mod texts;
+#[cfg(test)]
+mod tiering;
 #[cfg(test)]
 mod updating;

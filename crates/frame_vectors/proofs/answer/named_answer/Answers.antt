@@ -1,6 +1,0 @@
-use Rattle.frame_vectors.proofs.Values.{value_is}
-use Rattle.frame_vectors.proofs.answer.named_answer.Goals as goal
-
-pub returns-in-Ok : goal.returns-in-Ok
-returns-in-Ok c =
-    value_is c.args.names.now c.args.bytes.now c.in-Ok.value c.written_value.result c.in-Ok.ensures.value c.written_value.ensures

@@ -1,0 +1,5 @@
+use Rattle.compaction.specs.Last.{IsCompacted}
+use Rattle.part_cases.proofs.compacting.agree.Given as goal
+
+abbrev pub invariant-loop : goal.invariant-loop
+invariant-loop l = IsCompacted l.topic.entries l.compacted

@@ -1,5 +1,0 @@
-use Rattle.compaction.specs.Last.{IsCompacted}
-use Rattle.store_cases.proofs.compacting.agree.Given as goal
-
-abbrev pub invariant-loop : goal.invariant-loop
-invariant-loop l = IsCompacted l.topic.entries l.compacted

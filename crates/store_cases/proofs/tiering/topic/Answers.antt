@@ -1,5 +1,0 @@
-use Rattle.store_cases.proofs.Told.{store_told}
-use Rattle.store_cases.proofs.tiering.topic.Goals as goal
-
-pub returns : goal.returns
-returns c = store_told c.from_parts.result _ c.in_ok-ledger.ensures.told c.from_parts.ensures
