@@ -19,7 +19,7 @@ fn is_said(alloc: Global, bytes: &[u8], text: &str) -> Result<bool, AllocError> 
 }
 
 /// Rows are a command's bytes and its canonical text.
-const ACCEPTED: [(&[u8], &[u8]); 10] = [
+const ACCEPTED: &[(&[u8], &[u8])] = &[
     // the type and the command in any order, varints with needless groups
     (
         &[
@@ -113,7 +113,7 @@ fn bytes_say_their_command(rt: HostRuntime) -> Result<(), Fail> {
 }
 
 /// Rows are bytes and their first fault.
-const REFUSED: [(&[u8], &str); 24] = [
+const REFUSED: &[(&[u8], &str)] = &[
     // the bytes first
     (&[0x0a, 0x00, 0x0b], "Pb(WireType(3, 2))"),
     (&[0x08], "Pb(Truncated(1, 0))"),
@@ -197,7 +197,7 @@ fn other_bytes_have_a_first_fault(rt: HostRuntime) -> Result<(), Fail> {
 }
 
 /// The bytes of the command below of each kind.
-const WRITTEN: [(Kind, &[u8]); 18] = [
+const WRITTEN: &[(Kind, &[u8])] = &[
     (
         Kind::Connect,
         &[

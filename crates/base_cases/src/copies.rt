@@ -10,7 +10,7 @@ const HERE: Position = Position {
 };
 
 /// The places of a cut in the other clusters.
-const REMOTE: [Option<Position>; 2] = [None, Some(HERE)];
+const REMOTE: &[Option<Position>] = &[None, Some(HERE)];
 
 #[test]
 fn a_cut_is_copied(rt: HostRuntime) -> Result<(), Fail> {
@@ -27,5 +27,5 @@ fn is_copied(alloc: Global) -> Result<bool, Memory> {
     let copy = cut.copy(alloc);
     drop(cut);
     let copy = copy?;
-    Ok(copy.local == HERE && copy.remote.as_slice() == REMOTE.as_slice())
+    Ok(copy.local == HERE && copy.remote.as_slice() == REMOTE)
 }

@@ -79,7 +79,7 @@ const WEST: Node = Node::Broker {
 const CLIENT: Node = Node::Client { client: 1 };
 
 /// Rows are who sends, to whom, and on which link it comes out.
-const TABLE: [(Node, Peer, LinkName); 4] = [
+const TABLE: &[(Node, Peer, LinkName)] = &[
     (
         WEST,
         Peer::Forward(2),
@@ -119,7 +119,7 @@ const TABLE: [(Node, Peer, LinkName); 4] = [
 /// How many rows hold, one after another, before the first that does not.
 fn count_rows(alloc: Global, links: &mut Links) -> Result<u64, Memory> {
     let mut rows = 0u64;
-    for (from, to, link) in TABLE {
+    for &(from, to, link) in TABLE {
         if !comes_first(alloc, links, from, to, link)? {
             return Ok(rows);
         }

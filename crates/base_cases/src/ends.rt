@@ -50,7 +50,7 @@ fn copied(alloc: Global, packet: &WirePacket) -> Result<WirePacket, Memory>
 fn passes<E: End, F: End>(alloc: Global, from: &mut E, to: &mut F) -> Result<Option<bool>, Memory> {
     match pass_on(alloc, from, to)? {
         None => Ok(None),
-        packet => Ok(Some(is_packet(packet, 4, &PING))),
+        packet => Ok(Some(is_packet(packet, 4, PING))),
     }
 }
 
@@ -63,7 +63,7 @@ fn passes_all(alloc: Global) -> Result<bool, Memory> {
 }
 
 fn passes_list(alloc: Global, list: &mut ListEnd) -> Result<bool, Memory> {
-    list.put(packet(alloc, 4, &PING)?)?;
+    list.put(packet(alloc, 4, PING)?)?;
     let mut pieces = PieceEnd::new(alloc, PART_BYTES)?;
     let passed = passes_pieces(alloc, list, &mut pieces);
     drop(pieces);
@@ -99,7 +99,7 @@ fn passes_between(
 /// Whether the packet comes out of the ring into the list, and no second one.
 fn is_taken(alloc: Global, takes: &mut RingEnd, last: &mut ListEnd) -> Result<bool, Memory> {
     let taken = passes(alloc, takes, last)?;
-    let is_given = is_packet(last.give(), 4, &PING);
+    let is_given = is_packet(last.give(), 4, PING);
     let second = passes(alloc, takes, last)?;
     Ok(taken == Some(true) && is_given && second.is_none())
 }
@@ -124,7 +124,7 @@ fn passes_from<E: End>(
     pieces: &mut PieceEnd,
     to: &mut E,
 ) -> Result<Option<bool>, Memory> {
-    let parcel = pieces.pack(packet(alloc, 4, &PING)?)?;
+    let parcel = pieces.pack(packet(alloc, 4, PING)?)?;
     pieces.send(parcel);
     passes(alloc, pieces, to)
 }
@@ -141,7 +141,7 @@ fn passes_full(alloc: Global) -> Result<Option<bool>, Memory> {
 fn passes_ring(alloc: Global, places: usize) -> Result<Option<bool>, Memory> {
     let (mut sends, mut takes) = ring(alloc, places, 5)?;
     let passed = passes_to(alloc, &mut sends);
-    let taken = take_packet(&mut takes, 4, &PING);
+    let taken = take_packet(&mut takes, 4, PING);
     drop(sends);
     drop(takes);
     let is_taken = taken? == Some(true);
@@ -166,7 +166,7 @@ fn free_places(
     sends: &mut RingSend,
     takes: &mut RingTake,
 ) -> Result<Option<(usize, usize)>, Memory> {
-    if !send_packet(alloc, sends, 4, &PING)? {
+    if !send_packet(alloc, sends, 4, PING)? {
         return Ok(None);
     }
     let full = sends.free();

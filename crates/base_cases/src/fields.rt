@@ -63,7 +63,7 @@ fn is_said(alloc: Global, bytes: &[u8], text: &str) -> Result<bool, AllocError> 
 }
 
 /// What stands in the Protocol Buffers encoding, at its bounds. A row is bytes, and what they say.
-const TABLE: [(&[u8], &str); 33] = [
+const TABLE: &[(&[u8], &str)] = &[
     (&[], ""),
     // the guide's two examples
     (&[0x08, 0x96, 0x01], "1 varint 150;"),
@@ -231,7 +231,7 @@ fn fields_are_listed(rt: HostRuntime) -> Result<(), Fail> {
 }
 
 /// A text, and messages of two numbers.
-const OUTER: [Row; 2] = [
+const OUTER: &[Row] = &[
     Row {
         number: 1,
         form: Form::Text,
@@ -244,7 +244,7 @@ const OUTER: [Row; 2] = [
     },
 ];
 
-const INNER: [Row; 2] = [
+const INNER: &[Row] = &[
     Row {
         number: 1,
         form: Form::Varint,
@@ -260,11 +260,11 @@ const INNER: [Row; 2] = [
 /// How many bytes the last embedded message has, if there is one.
 fn size_of_inner(alloc: Global, bytes: &[u8]) -> Result<Option<usize>, MessageFault> {
     let inner = OfTable {
-        rows: &INNER,
+        rows: INNER,
         embedded: Unread,
     };
-    let fields = read_message_with(alloc, &OUTER, &inner, bytes)?;
-    let content = optional_message(&OUTER, &inner, fields.as_slice(), 2);
+    let fields = read_message_with(alloc, OUTER, &inner, bytes)?;
+    let content = optional_message(OUTER, &inner, fields.as_slice(), 2);
     let size = content.map(|content| content.len());
     drop(fields);
     Ok(size)
@@ -280,7 +280,7 @@ fn is_inner(alloc: Global, bytes: &[u8], text: &str) -> Result<bool, AllocError>
 }
 
 /// Rows are bytes, and what the last embedded message's length is, or the fault.
-const EMBEDDED: [(&[u8], &str); 11] = [
+const EMBEDDED: &[(&[u8], &str)] = &[
     (&[0x0a, 0x01, 0x61], "none"),
     (&[0x0a, 0x01, 0x61, 0x12, 0x04, 0x08, 0x01, 0x10, 0x02], "4"),
     // the last of two counts

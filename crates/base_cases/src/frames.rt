@@ -9,18 +9,18 @@ use std::alloc::{AllocError, Global};
 use std::test::Fail;
 
 /// The message `hi` of producer p, replicated from cluster a, as producer 1 sends it.
-const SEND: [u8; 34] = [
+const SEND: &[u8] = &[
     0x00, 0x00, 0x00, 0x1e, 0x00, 0x00, 0x00, 0x0a, 0x08, 0x06, 0x32, 0x06, 0x08, 0x01, 0x10, 0x00,
     0x18, 0x01, 0x00, 0x00, 0x00, 0x0a, 0x0a, 0x01, 0x70, 0x10, 0x00, 0x18, 0x00, 0x2a, 0x01, 0x61,
     0x68, 0x69,
 ];
 
-const PING: [u8; 13] = [
+const PING: &[u8] = &[
     0x00, 0x00, 0x00, 0x09, 0x00, 0x00, 0x00, 0x05, 0x08, 0x12, 0x92, 0x01, 0x00,
 ];
 
 /// The receipt of producer 1's message 0, stored at 0:1.
-const RECEIPT: [u8; 22] = [
+const RECEIPT: &[u8] = &[
     0x00, 0x00, 0x00, 0x12, 0x00, 0x00, 0x00, 0x0e, 0x08, 0x07, 0x3a, 0x0a, 0x08, 0x01, 0x10, 0x00,
     0x1a, 0x04, 0x08, 0x00, 0x10, 0x01,
 ];
@@ -136,11 +136,11 @@ fn is_answered(
 }
 
 /// Rows are a stream, how many frames come of it, how many bytes stand after them, and the fault of a refused one.
-const TABLE: [(&[u8], (u64, usize), &str); 21] = [
+const TABLE: &[(&[u8], (u64, usize), &str)] = &[
     (&[], (0, 0), ""),
     (&[0x00, 0x00, 0x00], (0, 3), ""),
-    (&PING, (1, 0), ""),
-    (&SEND, (1, 0), ""),
+    (PING, (1, 0), ""),
+    (SEND, (1, 0), ""),
     // a PONG, a PING, and the beginning of another frame
     (
         &[
@@ -333,15 +333,15 @@ fn comes_last(alloc: Global, bytes: &[u8]) -> bool {
 
 #[test]
 fn a_frame_comes_with_its_last_byte(rt: HostRuntime) -> Result<(), Fail> {
-    assert!(rt; comes_last(rt.alloc(), &PING));
+    assert!(rt; comes_last(rt.alloc(), PING));
     Ok(())
 }
 
 /// Pieces of a stream that is refused, and the fault that each is answered.
-const PIECES: [(&[u8], &str); 4] = [
-    (&PING, ""),
+const PIECES: &[(&[u8], &str)] = &[
+    (PING, ""),
     (&[0; 4], "Sizes(2)"),
-    (&PING, "Sizes(2)"),
+    (PING, "Sizes(2)"),
     (&[], "Sizes(2)"),
 ];
 
@@ -385,8 +385,8 @@ fn is_ping(alloc: Global, wanted: &[u8]) -> Result<bool, FrameFault> {
 
 #[test]
 fn frames_are_written_byte_for_byte(rt: HostRuntime) -> Result<(), Fail> {
-    assert!(rt; is_send(rt.alloc(), b"hi", &SEND)?);
-    assert!(rt; is_ping(rt.alloc(), &PING)?);
+    assert!(rt; is_send(rt.alloc(), b"hi", SEND)?);
+    assert!(rt; is_ping(rt.alloc(), PING)?);
     Ok(())
 }
 
@@ -448,15 +448,15 @@ fn is_usual_receipt(alloc: Global, wanted: &[u8]) -> Result<bool, Memory> {
 #[test]
 fn frames_of_the_usual_form_are_written_byte_for_byte(rt: HostRuntime) -> Result<(), Fail> {
     let alloc = rt.alloc();
-    assert!(rt; is_usual_send(alloc, "p", &SEND)? == Some(true));
-    assert!(rt; is_usual_receipt(alloc, &RECEIPT)?);
+    assert!(rt; is_usual_send(alloc, "p", SEND)? == Some(true));
+    assert!(rt; is_usual_receipt(alloc, RECEIPT)?);
     assert!(rt; is_written_named(alloc, 128)? == Some(false));
     Ok(())
 }
 
 /// Whether that SEND is seen where it stands; none where it is not, or has no message.
 fn is_send_seen() -> Option<bool> {
-    let view = usual_frame(&SEND)?;
+    let view = usual_frame(SEND)?;
     let message = view.message?;
     let meta = message.meta;
     let is_named = meta.producer == "p" && meta.replicated_from == Some("a");
@@ -466,8 +466,8 @@ fn is_send_seen() -> Option<bool> {
 #[test]
 fn frames_of_the_usual_form_are_seen_where_they_stand(rt: HostRuntime) -> Result<(), Fail> {
     assert!(rt; is_send_seen() == Some(true));
-    assert!(rt; usual_frame(&RECEIPT).is_some());
-    assert!(rt; usual_frame(&PING).is_none());
+    assert!(rt; usual_frame(RECEIPT).is_some());
+    assert!(rt; usual_frame(PING).is_none());
     Ok(())
 }
 

@@ -12,7 +12,7 @@ const NUMBER: u32 = 7;
 const STEPS: usize = 68_014;
 
 /// Some of the steps, by their places.
-const ROWS: [(usize, Event); 14] = [
+const ROWS: &[(usize, Event)] = &[
     (0, Event::Reconnect { client: 0 }),
     (
         9,

@@ -18,7 +18,7 @@ enum Call {
 use Call::{Clear, Forget, ForgetFirst, ForgetTo, Push};
 
 /// A call, and the entries that are held after it.
-const ROWS: [(Call, &[u64]); 19] = [
+const ROWS: &[(Call, &[u64])] = &[
     (Forget(7), &[]),
     (ForgetFirst(3), &[]),
     (ForgetTo(9), &[]),

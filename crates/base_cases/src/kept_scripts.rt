@@ -18,7 +18,7 @@ do q sub x exclusive latest local\ndo p sub y exclusive earliest local\n\
 do q sub y exclusive latest local\ndo p sub z exclusive latest local\noffer t b x\n";
 
 /// Its subscriptions by their topics and numbers, and some that it has not.
-const SUBS: [(u32, u32, &str); 6] = [
+const SUBS: &[(u32, u32, &str)] = &[
     (0, 0, "y"),
     (0, 1, "z"),
     (0, 2, "x"),

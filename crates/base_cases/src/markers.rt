@@ -19,7 +19,7 @@ fn is_said(alloc: Global, kind: u64, bytes: &[u8], text: &str) -> Result<bool, A
 }
 
 /// Rows are a kind, bytes, and their canonical text or their fault.
-const TABLE: [(u64, &[u8], &str); 22] = [
+const TABLE: &[(u64, &[u8], &str)] = &[
     // the request a:0:3 of cluster a
     (
         10,

@@ -13,7 +13,7 @@ use std::test::Fail;
 const TEN: &[u8] = b"0123456789";
 
 /// Calls of a sink that takes three of ten bytes in each: how many bytes went out before, and which.
-const CALLS: [(u64, u64, &str); 4] = [
+const CALLS: &[(u64, u64, &str)] = &[
     (1, 0, ""),
     (2, 3, "012"),
     (3, 6, "012345"),
@@ -104,7 +104,7 @@ fn a_failing_sink_holds_what_went_out(rt: HostRuntime) {
 }
 
 /// How many of four bytes may come, and the answer to a read of them.
-const LIMITS: [(usize, Result<&str, ReadFault>); 4] = [
+const LIMITS: &[(usize, Result<&str, ReadFault>)] = &[
     (3, Err(ReadFault::TooLong)),
     (4, Ok("abcd")),
     (5, Ok("abcd")),

@@ -20,7 +20,7 @@ fn is_said(alloc: Global, bytes: &[u8], text: &str) -> Result<bool, AllocError> 
 }
 
 /// Rows are bytes, and their canonical text or their fault.
-const TABLE: [(&[u8], &str); 20] = [
+const TABLE: &[(&[u8], &str)] = &[
     // producer "p", sequence id 0, publish time 0
     (
         &[0x0a, 0x01, 0x70, 0x10, 0x00, 0x18, 0x00],

@@ -3,7 +3,7 @@ use geo_base::{ClusterName, NameFault, ProducerName, TopicName};
 use std::alloc::Global;
 
 /// Texts, each with why it is no name.
-const ROWS: [(&str, Option<NameFault>); 10] = [
+const ROWS: &[(&str, Option<NameFault>)] = &[
     ("", Some(NameFault::Empty)),
     ("abcdefghijklmnopq", Some(NameFault::TooLong)),
     ("ABCDEFGHIJKLMNOPQ", Some(NameFault::TooLong)),

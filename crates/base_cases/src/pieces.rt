@@ -95,22 +95,22 @@ type Row = (
     &'static [Shown<'static>],
 );
 
-const ROWS: [Row; 9] = [
+const ROWS: &[Row] = &[
     // Parts are joined.
     ("nothing", &[], NONE, &[]),
-    ("two parts", IN_TWO, NONE, &[(4, &PING)]),
+    ("two parts", IN_TWO, NONE, &[(4, PING)]),
     ("not finished", IN_TWO, 2, &[]),
     ("no head", IN_TWO, 0, &[]),
     (
         "a part of no byte",
-        &[Sent::Head(4, 13), Sent::Part(&[]), Sent::Part(&PING)],
+        &[Sent::Head(4, 13), Sent::Part(&[]), Sent::Part(PING)],
         NONE,
-        &[(4, &PING)],
+        &[(4, PING)],
     ),
     // Bytes too many are cut off.
     (
         "bytes too many",
-        &[Sent::Head(4, 13), Sent::Part(FRONT), Sent::Part(&PING)],
+        &[Sent::Head(4, 13), Sent::Part(FRONT), Sent::Part(PING)],
         NONE,
         &[(4, &[0, 0, 0, 9, 0, 0, 0, 0, 9, 0, 0, 0, 5])],
     ),
@@ -118,13 +118,13 @@ const ROWS: [Row; 9] = [
         "a part too many",
         &[
             Sent::Head(4, 13),
-            Sent::Part(&PING),
-            Sent::Part(&PING),
+            Sent::Part(PING),
+            Sent::Part(PING),
             Sent::Head(5, 13),
-            Sent::Part(&PING),
+            Sent::Part(PING),
         ],
         NONE,
-        &[(4, &PING), (5, &PING)],
+        &[(4, PING), (5, PING)],
     ),
     // A head cuts an unfinished packet off.
     (
@@ -133,10 +133,10 @@ const ROWS: [Row; 9] = [
             Sent::Head(4, 13),
             Sent::Part(FRONT),
             Sent::Head(5, 13),
-            Sent::Part(&PING),
+            Sent::Part(PING),
         ],
         NONE,
-        &[(4, &[]), (5, &PING)],
+        &[(4, &[]), (5, PING)],
     ),
     (
         "before any part, by a head of no byte",
@@ -144,10 +144,10 @@ const ROWS: [Row; 9] = [
             Sent::Head(4, 13),
             Sent::Head(5, 0),
             Sent::Head(6, 13),
-            Sent::Part(&PING),
+            Sent::Part(PING),
         ],
         NONE,
-        &[(4, &[]), (5, &[]), (6, &PING)],
+        &[(4, &[]), (5, &[]), (6, PING)],
     ),
 ];
 
@@ -169,13 +169,13 @@ fn pieces_give_packets(rt: HostRuntime) -> Result<(), Fail> {
 }
 
 /// Of a SEND in two parts and a PING: the piece dropped, and the packets that the others give.
-const DROPPED: [(usize, &[Shown<'static>]); 6] = [
-    (0, &[(5, &PING)]),
-    (1, &[(4, &[]), (5, &PING)]),
-    (2, &[(4, &[]), (5, &PING)]),
+const DROPPED: &[(usize, &[Shown<'static>])] = &[
+    (0, &[(5, PING)]),
+    (1, &[(4, &[]), (5, PING)]),
+    (2, &[(4, &[]), (5, PING)]),
     (3, &[(4, &SEND)]),
     (4, &[(4, &SEND)]),
-    (NONE, &[(4, &SEND), (5, &PING)]),
+    (NONE, &[(4, &SEND), (5, PING)]),
 ];
 
 /// The first piece dropped of a SEND, cut there, and a PING, with which the others give something else.
@@ -188,7 +188,7 @@ fn wrong_without(alloc: Global, cut: usize) -> Result<Option<usize>, Memory>
         Sent::Part(front),
         Sent::Part(back),
         Sent::Head(5, 13),
-        Sent::Part(&PING),
+        Sent::Part(PING),
     ];
     for (dropped, shown) in DROPPED.iter() {
         if !gives(alloc, &sent, *dropped, *shown)? {
@@ -208,7 +208,7 @@ fn every_cut_of_a_send_and_every_piece_dropped(rt: HostRuntime) -> Result<(), Fa
 }
 
 /// How many bytes a part has at most, and the places of a PING.
-const PLACES: [(usize, usize); 8] = [
+const PLACES: &[(usize, usize)] = &[
     (1, 14),
     (4, 5),
     (5, 4),
@@ -223,7 +223,7 @@ const PLACES: [(usize, usize); 8] = [
 fn wrong_places(alloc: Global) -> Result<Option<usize>, Memory> {
     for (most, places) in PLACES.iter() {
         if *most == 0
-            || places_of(alloc, *most, &PING)? != *places
+            || places_of(alloc, *most, PING)? != *places
             || places_of(alloc, *most, &[])? != 1
         {
             return Ok(Some(*most));

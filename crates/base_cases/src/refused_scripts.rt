@@ -24,7 +24,7 @@ fn answer(alloc: Global, script: &[u8]) -> Option<(u64, u32)> {
 }
 
 /// Scripts that end without a line feed, each with its answer.
-const UNENDED: [(&str, (u64, u32)); 4] = [
+const UNENDED: &[(&str, (u64, u32))] = &[
     ("# no line feed", (2, 2)),
     ("geo 1", (1, 1)),
     ("cluster\tA", (1, 1)),
@@ -45,7 +45,7 @@ fn a_line_without_a_line_feed_is_refused(rt: HostRuntime) {
 }
 
 /// Sizes of a text, each with the answer to a script with it.
-const SIZES: [(usize, (u64, u32)); 3] = [(0, (7, 19)), (1_024, (7, 19)), (1_025, (7, 14))];
+const SIZES: &[(usize, (u64, u32))] = &[(0, (7, 19)), (1_024, (7, 19)), (1_025, (7, 14))];
 
 #[test]
 fn a_text_has_at_most_1024_bytes(rt: HostRuntime) {

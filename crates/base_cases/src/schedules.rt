@@ -13,7 +13,7 @@ receipt t c a lost\ntake u b a twice\nsnap t c\noffer t b s\nseek t a s 3:14\nse
 halt 0 serve a q\nhalt 8 offer t c s\nsettle\nstop\n";
 
 /// Schedules, each with the line and the rule of its refusal, or how many steps it has and 0.
-const CASES: [(&str, u64, u32); 18] = [
+const CASES: &[(&str, u64, u32)] = &[
     ("", 0, 0),
     ("\n\n", 0, 0),
     ("# no line feed", 0, 0),

@@ -31,7 +31,7 @@ fn are_found(table: &NameTable<'_>) -> bool {
 }
 
 /// Lists of names, each with its mask, and the mask as it is written.
-const MASKS: [(&str, u8, &str); 5] = [
+const MASKS: &[(&str, u8, &str)] = &[
     ("c,a", 5, "a,c"),
     ("b", 2, "b"),
     ("b,b", 2, "b"),
@@ -72,7 +72,7 @@ fn is_mask(alloc: Global, table: &NameTable<'_>, list: &str, mask: u8, written: 
 }
 
 /// Lists, and for each whether it has names alone, a long one, one that is not in the table, and one twice.
-const JUDGED: [(&str, (bool, bool, bool, bool)); 5] = [
+const JUDGED: &[(&str, (bool, bool, bool, bool))] = &[
     ("a,b", (true, false, false, false)),
     ("a,,b", (false, false, true, false)),
     ("a,abcdefghijklmnopq", (true, true, true, false)),
@@ -112,7 +112,7 @@ fn judged(table: &NameTable<'_>, list: &str) -> (bool, bool, bool, bool) {
 }
 
 /// Words, each with the most that it may be, and the number that it is.
-const NUMBERS: [(&str, u64, Option<u64>); 9] = [
+const NUMBERS: &[(&str, u64, Option<u64>)] = &[
     ("0", 0, Some(0)),
     ("00", 9, None),
     ("07", 9, None),

@@ -51,153 +51,139 @@ const MESSAGE_TO_9: &[u8] =
 
 /// What the client does or gets, how many packets it sends, and what it is then: how many lines are done, the `produce`, `sub`
 /// and `flow` lines in force, publishes without receipt, messages held and got, and receipts, duplicates and errors.
-pub type Row = (Act, usize, usize, [Option<usize>; 3], [usize; 3], [u64; 3]);
+pub type Row = (Act, usize, State);
 
 /// A row behind what happens and what is sent.
-pub type State = (usize, [Option<usize>; 3], [usize; 3], [u64; 3]);
+pub type State = (usize, &'static [Option<usize>], [usize; 3], [u64; 3]);
 
-pub const ROWS: [Row; 33] = [
+pub const ROWS: &[Row] = &[
     // No line is done before the client is connected.
-    (Go, 0, 0, [None, None, None], [0, 0, 0], [0, 0, 0]),
-    (Reconnect, 1, 0, [None, None, None], [0, 0, 0], [0, 0, 0]),
+    (Go, 0, (0, &[None, None, None], [0, 0, 0], [0, 0, 0])),
+    (Reconnect, 1, (0, &[None, None, None], [0, 0, 0], [0, 0, 0])),
     // `produce`, two publishes, `sub`, `flow`.
-    (Go, 1, 1, [Some(0), None, None], [0, 0, 0], [0, 0, 0]),
-    (Go, 1, 2, [Some(0), None, None], [1, 0, 0], [0, 0, 0]),
-    (Go, 1, 3, [Some(0), None, None], [2, 0, 0], [0, 0, 0]),
-    (Go, 1, 4, [Some(0), Some(3), None], [2, 0, 0], [0, 0, 0]),
-    (Go, 1, 5, [Some(0), Some(3), Some(4)], [2, 0, 0], [0, 0, 0]),
+    (Go, 1, (1, &[Some(0), None, None], [0, 0, 0], [0, 0, 0])),
+    (Go, 1, (2, &[Some(0), None, None], [1, 0, 0], [0, 0, 0])),
+    (Go, 1, (3, &[Some(0), None, None], [2, 0, 0], [0, 0, 0])),
+    (Go, 1, (4, &[Some(0), Some(3), None], [2, 0, 0], [0, 0, 0])),
+    (
+        Go,
+        1,
+        (5, &[Some(0), Some(3), Some(4)], [2, 0, 0], [0, 0, 0]),
+    ),
     // Nothing is held that could be acknowledged.
-    (Go, 0, 5, [Some(0), Some(3), Some(4)], [2, 0, 0], [0, 0, 0]),
+    (
+        Go,
+        0,
+        (5, &[Some(0), Some(3), Some(4)], [2, 0, 0], [0, 0, 0]),
+    ),
     // An earlier connection, no frame, an unknown cluster, another consumer.
     (
         Get(0, MESSAGE_0),
         0,
-        5,
-        [Some(0), Some(3), Some(4)],
-        [2, 0, 0],
-        [0, 0, 0],
+        (5, &[Some(0), Some(3), Some(4)], [2, 0, 0], [0, 0, 0]),
     ),
     (
         Get(1, b"\x00\x00\x00\x01\x07"),
         0,
-        5,
-        [Some(0), Some(3), Some(4)],
-        [2, 0, 0],
-        [0, 0, 0],
+        (5, &[Some(0), Some(3), Some(4)], [2, 0, 0], [0, 0, 0]),
     ),
     (
         Get(1, MESSAGE_OF_Z),
         0,
-        5,
-        [Some(0), Some(3), Some(4)],
-        [2, 0, 0],
-        [0, 0, 0],
+        (5, &[Some(0), Some(3), Some(4)], [2, 0, 0], [0, 0, 0]),
     ),
     (
         Get(1, MESSAGE_TO_9),
         0,
-        5,
-        [Some(0), Some(3), Some(4)],
-        [2, 0, 0],
-        [0, 0, 0],
+        (5, &[Some(0), Some(3), Some(4)], [2, 0, 0], [0, 0, 0]),
     ),
     (
         Get(1, MESSAGE_0),
         0,
-        5,
-        [Some(0), Some(3), Some(4)],
-        [2, 1, 1],
-        [0, 0, 0],
+        (5, &[Some(0), Some(3), Some(4)], [2, 1, 1], [0, 0, 0]),
     ),
     (
         Get(1, MESSAGE_OF_B),
         0,
-        5,
-        [Some(0), Some(3), Some(4)],
-        [2, 2, 2],
-        [0, 0, 0],
+        (5, &[Some(0), Some(3), Some(4)], [2, 2, 2], [0, 0, 0]),
     ),
     (
         Get(1, MESSAGE_1),
         0,
-        5,
-        [Some(0), Some(3), Some(4)],
-        [2, 3, 3],
-        [0, 0, 0],
+        (5, &[Some(0), Some(3), Some(4)], [2, 3, 3], [0, 0, 0]),
     ),
     // `ack`, `ackto`, `ackall`, `ping`.
-    (Go, 1, 6, [Some(0), Some(3), Some(4)], [2, 2, 3], [0, 0, 0]),
-    (Go, 1, 7, [Some(0), Some(3), Some(4)], [2, 1, 3], [0, 0, 0]),
-    (Go, 1, 8, [Some(0), Some(3), Some(4)], [2, 0, 3], [0, 0, 0]),
-    (Go, 1, 9, [Some(0), Some(3), Some(4)], [2, 0, 3], [0, 0, 0]),
+    (
+        Go,
+        1,
+        (6, &[Some(0), Some(3), Some(4)], [2, 2, 3], [0, 0, 0]),
+    ),
+    (
+        Go,
+        1,
+        (7, &[Some(0), Some(3), Some(4)], [2, 1, 3], [0, 0, 0]),
+    ),
+    (
+        Go,
+        1,
+        (8, &[Some(0), Some(3), Some(4)], [2, 0, 3], [0, 0, 0]),
+    ),
+    (
+        Go,
+        1,
+        (9, &[Some(0), Some(3), Some(4)], [2, 0, 3], [0, 0, 0]),
+    ),
     // Two publishes have no receipt: the producer can't be closed.
-    (Go, 0, 9, [Some(0), Some(3), Some(4)], [2, 0, 3], [0, 0, 0]),
+    (
+        Go,
+        0,
+        (9, &[Some(0), Some(3), Some(4)], [2, 0, 3], [0, 0, 0]),
+    ),
     (
         Get(1, STORED_0),
         0,
-        9,
-        [Some(0), Some(3), Some(4)],
-        [1, 0, 3],
-        [1, 0, 0],
+        (9, &[Some(0), Some(3), Some(4)], [1, 0, 3], [1, 0, 0]),
     ),
     // CONNECT, the three lines in force, one publish.
     (
         Reconnect,
         5,
-        9,
-        [Some(0), Some(3), Some(4)],
-        [1, 0, 3],
-        [1, 0, 0],
+        (9, &[Some(0), Some(3), Some(4)], [1, 0, 3], [1, 0, 0]),
     ),
     (
         Get(1, DUPLICATE_1),
         0,
-        9,
-        [Some(0), Some(3), Some(4)],
-        [1, 0, 3],
-        [1, 0, 0],
+        (9, &[Some(0), Some(3), Some(4)], [1, 0, 3], [1, 0, 0]),
     ),
     (
         Get(2, DUPLICATE_1),
         0,
-        9,
-        [Some(0), Some(3), Some(4)],
-        [0, 0, 3],
-        [1, 1, 0],
+        (9, &[Some(0), Some(3), Some(4)], [0, 0, 3], [1, 1, 0]),
     ),
     // Nothing waits for an answer any more.
     (
         Get(2, REFUSED_1),
         0,
-        9,
-        [Some(0), Some(3), Some(4)],
-        [0, 0, 3],
-        [1, 1, 0],
+        (9, &[Some(0), Some(3), Some(4)], [0, 0, 3], [1, 1, 0]),
     ),
     (
         Get(2, ERROR),
         0,
-        9,
-        [Some(0), Some(3), Some(4)],
-        [0, 0, 3],
-        [1, 1, 1],
+        (9, &[Some(0), Some(3), Some(4)], [0, 0, 3], [1, 1, 1]),
     ),
     // `closep`, `close`, `sub`, `unsub`, `move`.
-    (Go, 1, 10, [None, Some(3), Some(4)], [0, 0, 3], [1, 1, 1]),
+    (Go, 1, (10, &[None, Some(3), Some(4)], [0, 0, 3], [1, 1, 1])),
     (
         Get(2, MESSAGE_0),
         0,
-        10,
-        [None, Some(3), Some(4)],
-        [0, 1, 4],
-        [1, 1, 1],
+        (10, &[None, Some(3), Some(4)], [0, 1, 4], [1, 1, 1]),
     ),
-    (Go, 1, 11, [None, None, None], [0, 0, 4], [1, 1, 1]),
-    (Go, 1, 12, [None, Some(11), None], [0, 0, 4], [1, 1, 1]),
-    (Go, 1, 13, [None, None, None], [0, 0, 4], [1, 1, 1]),
-    (Go, 1, 14, [None, None, None], [0, 0, 4], [1, 1, 1]),
+    (Go, 1, (11, &[None, None, None], [0, 0, 4], [1, 1, 1])),
+    (Go, 1, (12, &[None, Some(11), None], [0, 0, 4], [1, 1, 1])),
+    (Go, 1, (13, &[None, None, None], [0, 0, 4], [1, 1, 1])),
+    (Go, 1, (14, &[None, None, None], [0, 0, 4], [1, 1, 1])),
     // There is no line left.
-    (Go, 0, 14, [None, None, None], [0, 0, 4], [1, 1, 1]),
+    (Go, 0, (14, &[None, None, None], [0, 0, 4], [1, 1, 1])),
 ];
 
 /// An identity.

@@ -7,7 +7,7 @@ ghost use Rattle.client.specs.Changing.{ClientFits};
 ghost use Rattle.client.specs.Counted.{CanConnect, CanCount};
 ghost use Rattle.client.specs.Site.{is_short_line};
 
-use crate::story::{Act, ROWS, State, add_lines};
+use crate::story::{Act, ROWS, Row, State, add_lines};
 use client::{Client, ClientSite, Prepared};
 use geo_base::limits::{CLUSTERS, TEXT_BYTES};
 use geo_base::{
@@ -93,27 +93,29 @@ fn happens(alloc: Global, site: &ClientSite, client: &mut Client, act: Act) -> R
     }
 }
 
-/// The client as a row has it.
-fn state_of(client: &Client) -> State {
+/// Whether the client is as a row has it.
+fn is_state(client: &Client, state: &State) -> bool {
     let view = client.view();
-    (
-        view.done,
-        [view.produce, view.sub, view.flow],
-        [view.unanswered.len(), view.held.len(), view.got.len()],
-        [view.receipts, view.duplicates, view.errors],
-    )
+    let (done, in_force, lists, counts) = state;
+    view.done == *done
+        && [view.produce, view.sub, view.flow].as_slice() == *in_force
+        && [view.unanswered.len(), view.held.len(), view.got.len()] == *lists
+        && [view.receipts, view.duplicates, view.errors] == *counts
+}
+
+/// Whether the client sends and is what a row says, once what happens there has happened.
+fn is_row(alloc: Global, site: &ClientSite, client: &mut Client, row: &Row) -> Result<bool, Memory>
+    requires connection { CanConnect client.old }
+    requires counts { CanCount client.old }
+{
+    let (act, sent, state) = row;
+    Ok(happens(alloc, site, client, *act)? == *sent && is_state(client, state))
 }
 
 /// Whether the client is at each row what the row says.
 fn follows(alloc: Global, site: &ClientSite, client: &mut Client) -> Result<bool, Memory> {
     for row in ROWS.iter() {
-        if !client.can_connect() || !client.can_count() {
-            return Ok(false);
-        }
-        let (act, sent, done, in_force, lists, counts) = *row;
-        if happens(alloc, site, client, act)? != sent
-            || state_of(client) != (done, in_force, lists, counts)
-        {
+        if !client.can_connect() || !client.can_count() || !is_row(alloc, site, client, row)? {
             return Ok(false);
         }
     }

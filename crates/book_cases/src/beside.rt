@@ -117,7 +117,7 @@ fn count_of(is_done: bool) -> u64
 }
 
 /// Which nodes send to which peers, and where and from whom it comes.
-const LINKS: [((usize, Peer), (usize, Peer)); 12] = [
+const LINKS: &[((usize, Peer), (usize, Peer))] = &[
     // The links of both replicators.
     ((WEST, Peer::Forward(1)), (EAST, Peer::Back(0))),
     ((EAST, Peer::Back(0)), (WEST, Peer::Forward(1))),

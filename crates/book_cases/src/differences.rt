@@ -9,7 +9,7 @@ use std::test::Fail;
 use wire_ends::WirePacket;
 
 /// Which rows are wrong and how, and the row whose packet is the first that differs.
-const CASES: [(&[(usize, Wrong)], usize); 21] = [
+const CASES: &[(&[(usize, Wrong)], usize)] = &[
     (&[(1, Wrong::Session)], 1),
     (&[(1, Wrong::Stamp)], 1),
     (&[(1, Wrong::Frame)], 1),

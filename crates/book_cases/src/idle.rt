@@ -7,7 +7,7 @@ use std::sync::Arc;
 use std::test::Fail;
 
 /// At a broker without a session: none of them is done.
-const EVENTS: [Event; 6] = [
+const EVENTS: &[Event] = &[
     // Nothing came, no session is open, no entry is there.
     Event::Serve {
         cluster: 0,

@@ -42,7 +42,7 @@ pub struct Row {
 }
 
 /// A message is published and replicated, and then one more is. The rows are in the order of the merge.
-pub const ROWS: [Row; 8] = [
+pub const ROWS: &[Row] = &[
     Row {
         place: Place::Client,
         event: Event::Go { client: 0 },

@@ -8,7 +8,7 @@ use std::test::Fail;
 
 /// Whether the client connects again, which sends two packets from the first line on, or does its next line, which sends one; how many
 /// packets the broker has taken before it; whether it is done; and how many events are.
-const ROWS: [(bool, u32, bool, usize); 6] = [
+const ROWS: &[(bool, u32, bool, usize)] = &[
     (true, 0, true, 1),
     (false, 0, true, 2),
     // Both places are full, and then one.

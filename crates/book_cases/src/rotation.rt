@@ -8,7 +8,7 @@ use std::test::Fail;
 const SCRIPT: &[u8] =
     b"geo 1\ncluster a\ncluster b\ntopic t\nclient c t a\ndo c sub s exclusive earliest replicated\n";
 
-const WANTED: [Role; 10] = [
+const WANTED: &[Role] = &[
     Role::Sender(Link {
         topic: 0,
         source: 0,
@@ -66,7 +66,7 @@ fn are_numbered(alloc: Global) -> Result<bool, Fail> {
     let scenario = read_script(alloc, SCRIPT)?;
     let roles = roles(alloc, &scenario);
     drop(scenario);
-    Ok(are_same(roles?.as_slice(), &WANTED))
+    Ok(are_same(roles?.as_slice(), WANTED))
 }
 
 fn are_same(roles: &[Role], wanted: &[Role]) -> bool {

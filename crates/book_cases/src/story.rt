@@ -25,7 +25,7 @@ const RESET: Event = Event::Reset {
 };
 
 /// Whether it is the client's, the event, whether it is done, and the node's last stamp then. All that is sent comes before the next one.
-const ROWS: [(bool, Event, bool, u64); 13] = [
+const ROWS: &[(bool, Event, bool, u64)] = &[
     (true, CONNECT, true, 1),
     (false, SERVE, true, 2),
     (true, GET, true, 3),

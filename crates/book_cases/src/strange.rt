@@ -14,7 +14,7 @@ const OTHER: &[u8] = b"geo 1\ncluster a\ncluster b\ntopic t\nclient q t a\n";
 /// and how many steps are left.
 type Case = ([u32; 3], u32, u32, u32, usize);
 
-const CASES: [Case; 5] = [
+const CASES: &[Case] = &[
     ([0, 1, 2], 0, 0, 0, 4),
     ([0, 1, 2], 1, 1, 1, 6),
     ([0, 1, 2], 2, 2, 2, 6),

@@ -94,7 +94,7 @@ fn books_made<R: Threads + Wait + Sync>(
 }
 
 /// How many workers, and how many turns each has.
-const RUNS: [(u32, u64); 3] = [(1, 2000), (2, 1000), (4, 500)];
+const RUNS: &[(u32, u64)] = &[(1, 2000), (2, 1000), (4, 500)];
 
 #[test]
 fn what_is_taken_was_sent_however_threads_run(rt: HostRuntime) -> Result<(), Fail> {
@@ -112,7 +112,7 @@ fn first_other<R: Threads + Wait + Sync>(
     alloc: Global,
     scenario: &Arc<Scenario>,
 ) -> Result<Option<u32>, Memory> {
-    for (workers, turns) in RUNS {
+    for &(workers, turns) in RUNS {
         if !run_fits(rt, alloc, scenario, workers, turns)? {
             return Ok(Some(workers));
         }

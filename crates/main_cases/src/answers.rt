@@ -14,7 +14,7 @@ reset t a b\ntake t a b good\nreceipt t a b good\nread t a b\ntake t a b good\nr
 /// A source that fails at once.
 const UNREAD: Pace = Pace { most: 7, fails: 1 };
 
-const NO_COMMANDS: [&[&str]; 32] = [
+const NO_COMMANDS: &[&[&str]] = &[
     &[],
     &["run", "x"],
     &["--help"],
@@ -52,7 +52,7 @@ const NO_COMMANDS: [&[&str]; 32] = [
 /// Nothing is read for them: the source would fail.
 #[test]
 fn words_that_are_no_command(rt: HostRuntime) -> Result<(), Fail> {
-    for line in NO_COMMANDS {
+    for &line in NO_COMMANDS {
         assert!(rt; are_no_command(rt.alloc(), line)?);
     }
     Ok(())
@@ -70,7 +70,7 @@ fn are_no_command(alloc: Global, line: &[&str]) -> Result<bool, Fail> {
 
 /// A script, the call at which a sink fails that takes ten bytes in a call, and what went out before: a part of the report, or of a
 /// refusal's line.
-const SENT: [(&[u8], u64, &[u8]); 6] = [
+const SENT: &[(&[u8], u64, &[u8])] = &[
     (ONE_MESSAGE, 1, b""),
     (ONE_MESSAGE, 2, b"events 15 "),
     (ONE_MESSAGE, 3, b"events 15 idle 0 rou"),
@@ -85,7 +85,7 @@ const SENT: [(&[u8], u64, &[u8]); 6] = [
 
 #[test]
 fn each_call_of_a_sink_fails_in_turn(rt: HostRuntime) -> Result<(), Fail> {
-    for (script, call, sent) in SENT {
+    for &(script, call, sent) in SENT {
         assert!(rt;
             is_write_fault(rt.alloc(), script, call, sent)?,
             "at call {call}"

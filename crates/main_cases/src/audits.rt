@@ -8,7 +8,7 @@ const SCRIPT: &[u8] =
     b"geo 1\ncluster a\ncluster b\ntopic t\nclient p t a\nclient q t b\nclient c t a\n";
 
 /// Each with the event and the rule of the fault; or the number of events and 0.
-const TRACES: [(&str, u64, u32); 7] = [
+const TRACES: &[(&str, u64, u32)] = &[
     ("", 0, 1),
     ("track\n", 0, 1),
     ("trace\n", 0, 0),
@@ -29,7 +29,7 @@ fn answer(alloc: Global, scenario: &Scenario, trace: &[u8]) -> Result<(u64, u32)
 
 /// The first trace that is answered otherwise than its row says.
 fn first_other(alloc: Global, scenario: &Scenario) -> Result<Option<&'static str>, AllocError> {
-    for (trace, event, rule) in TRACES {
+    for &(trace, event, rule) in TRACES {
         if answer(alloc, scenario, trace.as_bytes())? != (event, rule) {
             return Ok(Some(trace));
         }

@@ -57,10 +57,10 @@ impl MarkerKind {
         ensures { result.now ≡ kind_rows self }
     {
         match self {
-            MarkerKind::Request => &REQUEST_ROWS,
-            MarkerKind::Response => &RESPONSE_ROWS,
-            MarkerKind::Snapshot => &SNAPSHOT_ROWS,
-            MarkerKind::Update => &UPDATE_ROWS,
+            MarkerKind::Request => REQUEST_ROWS,
+            MarkerKind::Response => RESPONSE_ROWS,
+            MarkerKind::Snapshot => SNAPSHOT_ROWS,
+            MarkerKind::Update => UPDATE_ROWS,
         }
     }
 }

@@ -77,8 +77,8 @@ fn request_of(alloc: Global, fields: &[Field]) -> Result<Marker, Memory>
     ensures kind { IfOk result (λ m. marker_kind m ≡ kind.Request) }
     ensures says { IfOk result (Says fields.now) }
 {
-    let id = Text::from_str(alloc, required_text(&REQUEST_ROWS, fields, SNAPSHOT_ID))?;
-    let source = Text::from_str(alloc, required_text(&REQUEST_ROWS, fields, SOURCE_CLUSTER))?;
+    let id = Text::from_str(alloc, required_text(REQUEST_ROWS, fields, SNAPSHOT_ID))?;
+    let source = Text::from_str(alloc, required_text(REQUEST_ROWS, fields, SOURCE_CLUSTER))?;
     Ok(Marker::Request {
         snapshot_id: id,
         source_cluster: source,
@@ -90,9 +90,9 @@ fn response_of(alloc: Global, fields: &[Field]) -> Result<Marker, Memory>
     ensures kind { IfOk result (λ m. marker_kind m ≡ kind.Response) }
     ensures says { IfOk result (Says fields.now) }
 {
-    let id = Text::from_str(alloc, required_text(&RESPONSE_ROWS, fields, SNAPSHOT_ID))?;
+    let id = Text::from_str(alloc, required_text(RESPONSE_ROWS, fields, SNAPSHOT_ID))?;
     let held = required_message(
-        &RESPONSE_ROWS,
+        RESPONSE_ROWS,
         &MarkerKind::Response,
         fields,
         RESPONSE_CLUSTER,
@@ -109,9 +109,9 @@ fn snapshot_of(alloc: Global, fields: &[Field]) -> Result<Marker, Memory>
     ensures kind { IfOk result (λ m. marker_kind m ≡ kind.Snapshot) }
     ensures says { IfOk result (Says fields.now) }
 {
-    let id = Text::from_str(alloc, required_text(&SNAPSHOT_ROWS, fields, SNAPSHOT_ID))?;
+    let id = Text::from_str(alloc, required_text(SNAPSHOT_ROWS, fields, SNAPSHOT_ID))?;
     let held = required_message(
-        &SNAPSHOT_ROWS,
+        SNAPSHOT_ROWS,
         &MarkerKind::Snapshot,
         fields,
         LOCAL_MESSAGE_ID,
@@ -130,10 +130,7 @@ fn update_of(alloc: Global, fields: &[Field]) -> Result<Marker, Memory>
     ensures kind { IfOk result (λ m. marker_kind m ≡ kind.Update) }
     ensures says { IfOk result (Says fields.now) }
 {
-    let name = Text::from_str(
-        alloc,
-        required_text(&UPDATE_ROWS, fields, SUBSCRIPTION_NAME),
-    )?;
+    let name = Text::from_str(alloc, required_text(UPDATE_ROWS, fields, SUBSCRIPTION_NAME))?;
     let clusters = clusters_of(alloc, fields, UPDATE_CLUSTERS)?;
     Ok(Marker::Update {
         subscription_name: name,
@@ -156,10 +153,10 @@ fn position_of(alloc: Global, content: &[u8]) -> Result<Position, Memory>
     requires { RightPosition 0 content.now }
     ensures { IfOk result (IsPositionText content.now) }
 {
-    match read_message_with(alloc, &POSITION_ROWS, &Unread, content) {
+    match read_message_with(alloc, POSITION_ROWS, &Unread, content) {
         Ok(fields) => Ok(Position {
-            ledger: required_varint(&POSITION_ROWS, fields.as_slice(), LEDGER_ID),
-            entry: required_varint(&POSITION_ROWS, fields.as_slice(), ENTRY_ID),
+            ledger: required_varint(POSITION_ROWS, fields.as_slice(), LEDGER_ID),
+            entry: required_varint(POSITION_ROWS, fields.as_slice(), ENTRY_ID),
         }),
         Err(why) => Err(wanting(why)),
     }
@@ -171,7 +168,7 @@ fn cluster_of(alloc: Global, content: &[u8]) -> Result<ClusterMessageId, Memory>
     requires { RightCluster 0 content.now }
     ensures { IfOk result (IsClusterText content.now) }
 {
-    match read_message_with(alloc, &CLUSTER_ROWS, &POSITION_PARTS, content) {
+    match read_message_with(alloc, CLUSTER_ROWS, &POSITION_PARTS, content) {
         Ok(fields) => cluster_of_fields(alloc, fields.as_slice()),
         Err(why) => Err(wanting(why)),
     }
@@ -181,8 +178,8 @@ fn cluster_of_fields(alloc: Global, fields: &[Field]) -> Result<ClusterMessageId
     requires { IsMessageWith RightPosition cluster_rows fields.now }
     ensures { IfOk result (SaysCluster fields.now) }
 {
-    let name = Text::from_str(alloc, required_text(&CLUSTER_ROWS, fields, CLUSTER))?;
-    let held = required_message(&CLUSTER_ROWS, &POSITION_PARTS, fields, MESSAGE_ID);
+    let name = Text::from_str(alloc, required_text(CLUSTER_ROWS, fields, CLUSTER))?;
+    let held = required_message(CLUSTER_ROWS, &POSITION_PARTS, fields, MESSAGE_ID);
     let position = position_of(alloc, held)?;
     Ok(ClusterMessageId {
         cluster: name,

@@ -55,7 +55,7 @@ pub const LEDGER_ID: u32 = 1;
 pub const ENTRY_ID: u32 = 2;
 
 /// The fields of a request.
-pub const REQUEST_ROWS: [Row; 2] = [
+pub const REQUEST_ROWS: &[Row] = &[
     Row {
         number: SNAPSHOT_ID,
         form: Form::Text,
@@ -69,7 +69,7 @@ pub const REQUEST_ROWS: [Row; 2] = [
 ];
 
 /// The fields of a response.
-pub const RESPONSE_ROWS: [Row; 2] = [
+pub const RESPONSE_ROWS: &[Row] = &[
     Row {
         number: SNAPSHOT_ID,
         form: Form::Text,
@@ -83,7 +83,7 @@ pub const RESPONSE_ROWS: [Row; 2] = [
 ];
 
 /// The fields of a snapshot.
-pub const SNAPSHOT_ROWS: [Row; 3] = [
+pub const SNAPSHOT_ROWS: &[Row] = &[
     Row {
         number: SNAPSHOT_ID,
         form: Form::Text,
@@ -102,7 +102,7 @@ pub const SNAPSHOT_ROWS: [Row; 3] = [
 ];
 
 /// The fields of an update.
-pub const UPDATE_ROWS: [Row; 2] = [
+pub const UPDATE_ROWS: &[Row] = &[
     Row {
         number: SUBSCRIPTION_NAME,
         form: Form::Text,
@@ -116,7 +116,7 @@ pub const UPDATE_ROWS: [Row; 2] = [
 ];
 
 /// The fields of a ClusterMessageId.
-pub const CLUSTER_ROWS: [Row; 2] = [
+pub const CLUSTER_ROWS: &[Row] = &[
     Row {
         number: CLUSTER,
         form: Form::Text,
@@ -130,7 +130,7 @@ pub const CLUSTER_ROWS: [Row; 2] = [
 ];
 
 /// The fields of a MarkersMessageIdData.
-pub const POSITION_ROWS: [Row; 2] = [
+pub const POSITION_ROWS: &[Row] = &[
     Row {
         number: LEDGER_ID,
         form: Form::Varint,
@@ -160,22 +160,22 @@ pub fn protocol_numbers()
     ensures message_id { MESSAGE_ID ≡ field.message_id }
     ensures ledger_id { LEDGER_ID ≡ field.ledger_id }
     ensures entry_id { ENTRY_ID ≡ field.entry_id }
-    ensures request_rows { REQUEST_ROWS ≡ field.request_rows }
-    ensures response_rows { RESPONSE_ROWS ≡ field.response_rows }
-    ensures snapshot_rows { SNAPSHOT_ROWS ≡ field.snapshot_rows }
-    ensures update_rows { UPDATE_ROWS ≡ field.update_rows }
-    ensures cluster_rows { CLUSTER_ROWS ≡ field.cluster_rows }
-    ensures position_rows { POSITION_ROWS ≡ field.position_rows }
+    ensures request_rows { REQUEST_ROWS.now ≡ field.request_rows }
+    ensures response_rows { RESPONSE_ROWS.now ≡ field.response_rows }
+    ensures snapshot_rows { SNAPSHOT_ROWS.now ≡ field.snapshot_rows }
+    ensures update_rows { UPDATE_ROWS.now ≡ field.update_rows }
+    ensures cluster_rows { CLUSTER_ROWS.now ≡ field.cluster_rows }
+    ensures position_rows { POSITION_ROWS.now ≡ field.position_rows }
 {}
 
 /// Embedded messages that are each a MarkersMessageIdData.
 pub(crate) const POSITION_PARTS: OfTable<'static, Unread> = OfTable {
-    rows: &POSITION_ROWS,
+    rows: POSITION_ROWS,
     embedded: Unread,
 };
 
 /// Embedded messages that are each a ClusterMessageId.
 pub(crate) const CLUSTER_PARTS: OfTable<'static, OfTable<'static, Unread>> = OfTable {
-    rows: &CLUSTER_ROWS,
+    rows: CLUSTER_ROWS,
     embedded: POSITION_PARTS,
 };

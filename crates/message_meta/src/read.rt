@@ -44,7 +44,7 @@ fn meta_of_bytes(alloc: Global, bytes: &[u8]) -> Result<Meta, MetaFault>
     ensures found { IfOk result (IsMetaText bytes.now) }
     ensures fault { IfErr result (IsWrongOrMemory (WrongMessage rows bytes.now)) }
 {
-    let fields = read_message(alloc, &ROWS, bytes)?;
+    let fields = read_message(alloc, ROWS, bytes)?;
     Ok(meta_of_fields(alloc, fields)?)
 }
 
@@ -54,10 +54,10 @@ fn meta_of_fields(alloc: Global, fields: FieldList) -> Result<Meta, Memory>
     ensures { IfOk result (IsMeta fields) }
 {
     let known = fields.as_slice();
-    let seq = required_varint(&ROWS, known, SEQUENCE_ID);
-    let publish_time = required_varint(&ROWS, known, PUBLISH_TIME);
+    let seq = required_varint(ROWS, known, SEQUENCE_ID);
+    let publish_time = required_varint(ROWS, known, PUBLISH_TIME);
     let replicate_to = texts(alloc, known, REPLICATE_TO)?;
-    let marker = optional_varint(&ROWS, known, MARKER_TYPE);
+    let marker = optional_varint(ROWS, known, MARKER_TYPE);
     let mut rest = fields;
     let producer = match take_text(&mut rest, PRODUCER_NAME) {
         Some(producer) => producer,
@@ -65,7 +65,7 @@ fn meta_of_fields(alloc: Global, fields: FieldList) -> Result<Meta, Memory>
     };
     let replicated_from = take_text(&mut rest, REPLICATED_FROM);
     let key = take_text(&mut rest, PARTITION_KEY);
-    keep_unknown(&mut rest, &ROWS);
+    keep_unknown(&mut rest, ROWS);
     Ok(Meta {
         producer,
         seq,

@@ -27,7 +27,7 @@ pub const REPLICATE_TO: u32 = 7;
 pub const MARKER_TYPE: u32 = 20;
 
 /// The numbers and types of PulsarApi.proto, but for the number of `marker_type`, which is this project's own.
-pub const ROWS: [Row; 7] = [
+pub const ROWS: &[Row] = &[
     Row {
         number: PRODUCER_NAME,
         form: Form::Text,
@@ -74,5 +74,5 @@ pub fn protocol_numbers()
     ensures partition_key { PARTITION_KEY ≡ field.partition_key }
     ensures replicate_to { REPLICATE_TO ≡ field.replicate_to }
     ensures marker_type { MARKER_TYPE ≡ field.marker_type }
-    ensures rows { ROWS ≡ field.rows }
+    ensures rows { ROWS.now ≡ field.rows }
 {}

@@ -79,7 +79,7 @@ fn first_other(alloc: Global) -> Result<Option<usize>, Memory> {
     Ok(None)
 }
 
-const TABLE: [Row; 12] = [
+const TABLE: &[Row] = &[
     Row {
         len: 5,
         calls: &[],

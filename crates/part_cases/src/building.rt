@@ -19,7 +19,7 @@ struct Row {
     said: &'static str,
 }
 
-const TABLE: [Row; 5] = [
+const TABLE: &[Row] = &[
     // one remote cluster: its answer makes the snapshot, an answer to an earlier one does not
     Row {
         id: "a:0:1",

@@ -17,7 +17,7 @@ struct Row {
     said: &'static str,
 }
 
-const TABLE: [Row; 6] = [
+const TABLE: &[Row] = &[
     // a snapshot is passed where its local index is below the mark, and once
     Row {
         calls: &[

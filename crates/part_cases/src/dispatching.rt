@@ -40,7 +40,7 @@ const LEN: u64 = 5;
 
 const MARKER: u64 = 3;
 
-const TABLE: [Row; 7] = [
+const TABLE: &[Row] = &[
     // an exclusive consumer leaves no place for another
     Row {
         calls: &[

@@ -37,7 +37,7 @@ struct Row {
 }
 
 /// Checks of a table that has 3 of producer p at cluster 0, and of one of a topic with 1, 2, 3 of p and 0 of q.
-const TABLE: [Row; 7] = [
+const TABLE: &[Row] = &[
     Row {
         origin: 0,
         producer: "p",

@@ -17,7 +17,7 @@ struct Row {
     given: &'static str,
 }
 
-const TABLE: [Row; 8] = [
+const TABLE: &[Row] = &[
     Row {
         kind: SubKind::KeyShared,
         clients: &[(0, 9), (1, 9)],

@@ -24,7 +24,7 @@ struct Row {
     said: &'static str,
 }
 
-const TABLE: [Row; 4] = [
+const TABLE: &[Row] = &[
     Row {
         per_ledger: 2,
         steps: &[],

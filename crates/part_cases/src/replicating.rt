@@ -28,7 +28,7 @@ struct Stored {
 /// How many entries the topic of the table has.
 const LEN: u64 = 7;
 
-const TOPIC: [Stored; 7] = [
+const TOPIC: &[Stored] = &[
     Stored {
         origin: OWN,
         marker: false,
@@ -87,7 +87,7 @@ struct Row {
     said: &'static str,
 }
 
-const TABLE: [Row; 5] = [
+const TABLE: &[Row] = &[
     // nothing is read while the session is closed or opening; only its own success opens it
     Row {
         calls: &[

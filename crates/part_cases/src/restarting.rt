@@ -27,7 +27,7 @@ struct Row {
     said: &'static str,
 }
 
-const TABLE: [Row; 10] = [
+const TABLE: &[Row] = &[
     Row {
         writes: &[],
         said: "next 0:0; senders 0 0 0; p new, marker 0",

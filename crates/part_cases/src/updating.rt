@@ -36,7 +36,7 @@ const MIXED: &[Stored] = &[
     Stored::ForAll(2),
 ];
 
-const TABLE: [Row; 6] = [
+const TABLE: &[Row] = &[
     // a message of cluster 0 for cluster 2 alone is not passed over by an update of cluster 1
     Row {
         topic: MIXED,
@@ -195,7 +195,7 @@ fn updates_pass_over_what_could_be_had(rt: HostRuntime) -> Result<(), Memory> {
 }
 
 /// The remote positions of a cut, by cluster.
-const REMOTE: [Option<Position>; 3] = [
+const REMOTE: &[Option<Position>] = &[
     None,
     Some(Position {
         ledger: 0,
@@ -208,7 +208,7 @@ const REMOTE: [Option<Position>; 3] = [
 ];
 
 /// The clusters that an update of that cut names, each with a ledger and an entry.
-const NAMED: [(u32, u64, u64); 2] = [(1, 0, 1), (2, 2, 0)];
+const NAMED: &[(u32, u64, u64)] = &[(1, 0, 1), (2, 2, 0)];
 
 /// Adds these remote positions.
 fn add_remote(remote: &mut Sequence<Option<Position>>) -> Result<(), Memory> {

@@ -61,8 +61,8 @@ fn connect(alloc: Global, fields: &[Field]) -> Result<Command, Memory>
     ensures { IfOk result (Tells kind.Connect fields.now) }
 {
     Ok(Command::Connect {
-        client_version: text(alloc, &CONNECT, fields, 1)?,
-        protocol_version: optional_varint(&CONNECT, fields, 4),
+        client_version: text(alloc, CONNECT, fields, 1)?,
+        protocol_version: optional_varint(CONNECT, fields, 4),
     })
 }
 
@@ -71,8 +71,8 @@ fn connected(alloc: Global, fields: &[Field]) -> Result<Command, Memory>
     ensures { IfOk result (Tells kind.Connected fields.now) }
 {
     Ok(Command::Connected {
-        server_version: text(alloc, &CONNECTED, fields, 1)?,
-        protocol_version: optional_varint(&CONNECTED, fields, 2),
+        server_version: text(alloc, CONNECTED, fields, 1)?,
+        protocol_version: optional_varint(CONNECTED, fields, 2),
     })
 }
 
@@ -82,14 +82,14 @@ fn subscribe(alloc: Global, fields: &[Field]) -> Result<Command, Memory>
     ensures { IfOk result (Tells kind.Subscribe fields.now) }
 {
     Ok(Command::Subscribe {
-        topic: text(alloc, &SUBSCRIBE, fields, 1)?,
-        subscription: text(alloc, &SUBSCRIBE, fields, 2)?,
-        sub_type: sub_kind(required_varint(&SUBSCRIBE, fields, 3)),
-        consumer_id: required_varint(&SUBSCRIBE, fields, 4),
-        request_id: required_varint(&SUBSCRIBE, fields, 5),
-        consumer_name: text_where_there(alloc, &SUBSCRIBE, fields, 6)?,
-        initial_position: flag(&SUBSCRIBE, fields, 13),
-        replicate_subscription_state: flag(&SUBSCRIBE, fields, 14),
+        topic: text(alloc, SUBSCRIBE, fields, 1)?,
+        subscription: text(alloc, SUBSCRIBE, fields, 2)?,
+        sub_type: sub_kind(required_varint(SUBSCRIBE, fields, 3)),
+        consumer_id: required_varint(SUBSCRIBE, fields, 4),
+        request_id: required_varint(SUBSCRIBE, fields, 5),
+        consumer_name: text_where_there(alloc, SUBSCRIBE, fields, 6)?,
+        initial_position: flag(SUBSCRIBE, fields, 13),
+        replicate_subscription_state: flag(SUBSCRIBE, fields, 14),
     })
 }
 
@@ -111,10 +111,10 @@ fn producer(alloc: Global, fields: &[Field]) -> Result<Command, Memory>
     ensures { IfOk result (Tells kind.Producer fields.now) }
 {
     Ok(Command::Producer {
-        topic: text(alloc, &PRODUCER, fields, 1)?,
-        producer_id: required_varint(&PRODUCER, fields, 2),
-        request_id: required_varint(&PRODUCER, fields, 3),
-        producer_name: text_where_there(alloc, &PRODUCER, fields, 4)?,
+        topic: text(alloc, PRODUCER, fields, 1)?,
+        producer_id: required_varint(PRODUCER, fields, 2),
+        request_id: required_varint(PRODUCER, fields, 3),
+        producer_name: text_where_there(alloc, PRODUCER, fields, 4)?,
     })
 }
 
@@ -123,9 +123,9 @@ fn send(fields: &[Field]) -> Command
     ensures { Tells kind.Send fields.now result }
 {
     Command::Send {
-        producer_id: required_varint(&SEND, fields, 1),
-        sequence_id: required_varint(&SEND, fields, 2),
-        num_messages: number_or(&SEND, fields, 3, 1),
+        producer_id: required_varint(SEND, fields, 1),
+        sequence_id: required_varint(SEND, fields, 2),
+        num_messages: number_or(SEND, fields, 3, 1),
     }
 }
 
@@ -135,9 +135,9 @@ fn send_receipt(alloc: Global, fields: &[Field]) -> Result<Command, Memory>
     ensures { IfOk result (Tells kind.SendReceipt fields.now) }
 {
     Ok(Command::SendReceipt {
-        producer_id: required_varint(&SEND_RECEIPT, fields, 1),
-        sequence_id: required_varint(&SEND_RECEIPT, fields, 2),
-        message_id: optional_id(alloc, &SEND_RECEIPT, fields, 3)?,
+        producer_id: required_varint(SEND_RECEIPT, fields, 1),
+        sequence_id: required_varint(SEND_RECEIPT, fields, 2),
+        message_id: optional_id(alloc, SEND_RECEIPT, fields, 3)?,
     })
 }
 
@@ -146,10 +146,10 @@ fn send_error(alloc: Global, fields: &[Field]) -> Result<Command, Memory>
     ensures { IfOk result (Tells kind.SendError fields.now) }
 {
     Ok(Command::SendError {
-        producer_id: required_varint(&SEND_ERROR, fields, 1),
-        sequence_id: required_varint(&SEND_ERROR, fields, 2),
-        error: required_varint(&SEND_ERROR, fields, 3),
-        message: text(alloc, &SEND_ERROR, fields, 4)?,
+        producer_id: required_varint(SEND_ERROR, fields, 1),
+        sequence_id: required_varint(SEND_ERROR, fields, 2),
+        error: required_varint(SEND_ERROR, fields, 3),
+        message: text(alloc, SEND_ERROR, fields, 4)?,
     })
 }
 
@@ -159,8 +159,8 @@ fn message(alloc: Global, fields: &[Field]) -> Result<Command, Memory>
     ensures { IfOk result (Tells kind.Message fields.now) }
 {
     Ok(Command::Message {
-        consumer_id: required_varint(&MESSAGE, fields, 1),
-        message_id: required_id(alloc, &MESSAGE, fields, 2)?,
+        consumer_id: required_varint(MESSAGE, fields, 1),
+        message_id: required_id(alloc, MESSAGE, fields, 2)?,
     })
 }
 
@@ -171,9 +171,9 @@ fn ack(alloc: Global, fields: &[Field]) -> Result<Command, Memory>
     ensures { IfOk result (Tells kind.Ack fields.now) }
 {
     Ok(Command::Ack {
-        consumer_id: required_varint(&ACK, fields, 1),
-        ack_type: ack_kind(required_varint(&ACK, fields, 2)),
-        message_id: all_ids(alloc, &ACK, fields, 3)?,
+        consumer_id: required_varint(ACK, fields, 1),
+        ack_type: ack_kind(required_varint(ACK, fields, 2)),
+        message_id: all_ids(alloc, ACK, fields, 3)?,
     })
 }
 
@@ -193,8 +193,8 @@ fn flow(fields: &[Field]) -> Command
     ensures { Tells kind.Flow fields.now result }
 {
     Command::Flow {
-        consumer_id: required_varint(&FLOW, fields, 1),
-        message_permits: required_varint(&FLOW, fields, 2),
+        consumer_id: required_varint(FLOW, fields, 1),
+        message_permits: required_varint(FLOW, fields, 2),
     }
 }
 
@@ -203,8 +203,8 @@ fn unsubscribe(fields: &[Field]) -> Command
     ensures { Tells kind.Unsubscribe fields.now result }
 {
     Command::Unsubscribe {
-        consumer_id: required_varint(&UNSUBSCRIBE, fields, 1),
-        request_id: required_varint(&UNSUBSCRIBE, fields, 2),
+        consumer_id: required_varint(UNSUBSCRIBE, fields, 1),
+        request_id: required_varint(UNSUBSCRIBE, fields, 2),
     }
 }
 
@@ -213,7 +213,7 @@ fn success(fields: &[Field]) -> Command
     ensures { Tells kind.Success fields.now result }
 {
     Command::Success {
-        request_id: required_varint(&SUCCESS, fields, 1),
+        request_id: required_varint(SUCCESS, fields, 1),
     }
 }
 
@@ -222,9 +222,9 @@ fn error(alloc: Global, fields: &[Field]) -> Result<Command, Memory>
     ensures { IfOk result (Tells kind.Error fields.now) }
 {
     Ok(Command::Error {
-        request_id: required_varint(&ERROR, fields, 1),
-        error: required_varint(&ERROR, fields, 2),
-        message: text(alloc, &ERROR, fields, 3)?,
+        request_id: required_varint(ERROR, fields, 1),
+        error: required_varint(ERROR, fields, 2),
+        message: text(alloc, ERROR, fields, 3)?,
     })
 }
 
@@ -233,8 +233,8 @@ fn close_producer(fields: &[Field]) -> Command
     ensures { Tells kind.CloseProducer fields.now result }
 {
     Command::CloseProducer {
-        producer_id: required_varint(&CLOSE_PRODUCER, fields, 1),
-        request_id: required_varint(&CLOSE_PRODUCER, fields, 2),
+        producer_id: required_varint(CLOSE_PRODUCER, fields, 1),
+        request_id: required_varint(CLOSE_PRODUCER, fields, 2),
     }
 }
 
@@ -243,8 +243,8 @@ fn close_consumer(fields: &[Field]) -> Command
     ensures { Tells kind.CloseConsumer fields.now result }
 {
     Command::CloseConsumer {
-        consumer_id: required_varint(&CLOSE_CONSUMER, fields, 1),
-        request_id: required_varint(&CLOSE_CONSUMER, fields, 2),
+        consumer_id: required_varint(CLOSE_CONSUMER, fields, 1),
+        request_id: required_varint(CLOSE_CONSUMER, fields, 2),
     }
 }
 
@@ -253,7 +253,7 @@ fn producer_success(alloc: Global, fields: &[Field]) -> Result<Command, Memory>
     ensures { IfOk result (Tells kind.ProducerSuccess fields.now) }
 {
     Ok(Command::ProducerSuccess {
-        request_id: required_varint(&PRODUCER_SUCCESS, fields, 1),
-        producer_name: text(alloc, &PRODUCER_SUCCESS, fields, 2)?,
+        request_id: required_varint(PRODUCER_SUCCESS, fields, 1),
+        producer_name: text(alloc, PRODUCER_SUCCESS, fields, 2)?,
     })
 }

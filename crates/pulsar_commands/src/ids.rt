@@ -46,7 +46,7 @@ fn judge_fields(alloc: Global, content: &[u8]) -> Result<(), MessageFault>
     ensures right { OnOk result (IdRight 0 content.now) }
     ensures wrong { IfErr result (IsWrongOrMemory (IdWrong 0 content.now)) }
 {
-    read_message_with(alloc, &ID_ROWS, &Unread, content)?;
+    read_message_with(alloc, ID_ROWS, &Unread, content)?;
     Ok(())
 }
 
@@ -81,10 +81,10 @@ fn position_of_fields(alloc: Global, content: &[u8]) -> Result<Position, Memory>
     requires { IdRight 0 content.now }
     ensures { IfOk result (IsIdText content.now) }
 {
-    match read_message_with(alloc, &ID_ROWS, &Unread, content) {
+    match read_message_with(alloc, ID_ROWS, &Unread, content) {
         Ok(fields) => Ok(Position {
-            ledger: required_varint(&ID_ROWS, fields.as_slice(), LEDGER),
-            entry: required_varint(&ID_ROWS, fields.as_slice(), ENTRY),
+            ledger: required_varint(ID_ROWS, fields.as_slice(), LEDGER),
+            entry: required_varint(ID_ROWS, fields.as_slice(), ENTRY),
         }),
         Err(MessageFault::Memory) => Err(Memory),
         Err(_) => unreachable!(),

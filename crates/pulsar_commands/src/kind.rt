@@ -92,22 +92,22 @@ impl Kind {
         ensures { result.now ≡ rows_of self }
     {
         match self {
-            Kind::Connect => &CONNECT,
-            Kind::Connected => &CONNECTED,
-            Kind::Subscribe => &SUBSCRIBE,
-            Kind::Producer => &PRODUCER,
-            Kind::Send => &SEND,
-            Kind::SendReceipt => &SEND_RECEIPT,
-            Kind::SendError => &SEND_ERROR,
-            Kind::Message => &MESSAGE,
-            Kind::Ack => &ACK,
-            Kind::Flow => &FLOW,
-            Kind::Unsubscribe => &UNSUBSCRIBE,
-            Kind::Success => &SUCCESS,
-            Kind::Error => &ERROR,
-            Kind::CloseProducer => &CLOSE_PRODUCER,
-            Kind::CloseConsumer => &CLOSE_CONSUMER,
-            Kind::ProducerSuccess => &PRODUCER_SUCCESS,
+            Kind::Connect => CONNECT,
+            Kind::Connected => CONNECTED,
+            Kind::Subscribe => SUBSCRIBE,
+            Kind::Producer => PRODUCER,
+            Kind::Send => SEND,
+            Kind::SendReceipt => SEND_RECEIPT,
+            Kind::SendError => SEND_ERROR,
+            Kind::Message => MESSAGE,
+            Kind::Ack => ACK,
+            Kind::Flow => FLOW,
+            Kind::Unsubscribe => UNSUBSCRIBE,
+            Kind::Success => SUCCESS,
+            Kind::Error => ERROR,
+            Kind::CloseProducer => CLOSE_PRODUCER,
+            Kind::CloseConsumer => CLOSE_CONSUMER,
+            Kind::ProducerSuccess => PRODUCER_SUCCESS,
             Kind::Ping | Kind::Pong => &[],
         }
     }
@@ -117,8 +117,8 @@ impl Kind {
         ensures { result.now ≡ choices_of self }
     {
         match self {
-            Kind::Subscribe => &SUBSCRIBE_CHOICES,
-            Kind::Ack => &ACK_CHOICES,
+            Kind::Subscribe => SUBSCRIBE_CHOICES,
+            Kind::Ack => ACK_CHOICES,
             _ => &[],
         }
     }

@@ -109,8 +109,8 @@ fn command_of_fields(alloc: Global, bytes: &[u8]) -> Result<Command, CommandFaul
     ensures found { IfOk result (IsCommandText bytes.now) }
     ensures fault { IfErr result (IsFaultOrMemory (WrongCommand bytes.now)) }
 {
-    let fields = read_message(alloc, &TYPE_ROWS, bytes)?;
-    let number = required_varint(&TYPE_ROWS, fields.as_slice(), TYPE);
+    let fields = read_message(alloc, TYPE_ROWS, bytes)?;
+    let number = required_varint(TYPE_ROWS, fields.as_slice(), TYPE);
     match Kind::from_number(number) {
         Some(kind) => command_of_kind(alloc, kind, fields.as_slice()),
         None => Err(CommandFault::UnknownType(number)),

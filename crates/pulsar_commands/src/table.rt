@@ -36,7 +36,7 @@ macro_rules! optional {
 /// The type of a BaseCommand.
 pub(crate) const TYPE: u32 = 1;
 
-pub(crate) const TYPE_ROWS: [Row; 1] = [required!(TYPE, Varint)];
+pub(crate) const TYPE_ROWS: &[Row] = &[required!(TYPE, Varint)];
 
 /// The ledgerId of a MessageIdData.
 pub(crate) const LEDGER: u32 = 1;
@@ -48,16 +48,16 @@ pub(crate) const ENTRY: u32 = 2;
 pub(crate) const MESSAGE_ID: u32 = 3;
 
 /// MessageIdData: ledgerId, entryId.
-pub(crate) const ID_ROWS: [Row; 2] = [required!(LEDGER, Varint), required!(ENTRY, Varint)];
+pub(crate) const ID_ROWS: &[Row] = &[required!(LEDGER, Varint), required!(ENTRY, Varint)];
 
 /// client_version, protocol_version.
-pub(crate) const CONNECT: [Row; 2] = [required!(1, Text), optional!(4, Varint)];
+pub(crate) const CONNECT: &[Row] = &[required!(1, Text), optional!(4, Varint)];
 
 /// server_version, protocol_version.
-pub(crate) const CONNECTED: [Row; 2] = [required!(1, Text), optional!(2, Varint)];
+pub(crate) const CONNECTED: &[Row] = &[required!(1, Text), optional!(2, Varint)];
 
 /// topic, subscription, subType, consumer_id, request_id, consumer_name, initialPosition, replicate_subscription_state.
-pub(crate) const SUBSCRIBE: [Row; 8] = [
+pub(crate) const SUBSCRIBE: &[Row] = &[
     required!(1, Text),
     required!(2, Text),
     required!(3, Varint),
@@ -69,7 +69,7 @@ pub(crate) const SUBSCRIBE: [Row; 8] = [
 ];
 
 /// subType: Exclusive, Shared, Failover, Key_Shared. initialPosition: Latest, Earliest.
-pub(crate) const SUBSCRIBE_CHOICES: [Choice; 2] = [
+pub(crate) const SUBSCRIBE_CHOICES: &[Choice] = &[
     Choice { number: 3, size: 4 },
     Choice {
         number: 13,
@@ -78,7 +78,7 @@ pub(crate) const SUBSCRIBE_CHOICES: [Choice; 2] = [
 ];
 
 /// topic, producer_id, request_id, producer_name.
-pub(crate) const PRODUCER: [Row; 4] = [
+pub(crate) const PRODUCER: &[Row] = &[
     required!(1, Text),
     required!(2, Varint),
     required!(3, Varint),
@@ -86,21 +86,21 @@ pub(crate) const PRODUCER: [Row; 4] = [
 ];
 
 /// producer_id, sequence_id, num_messages.
-pub(crate) const SEND: [Row; 3] = [
+pub(crate) const SEND: &[Row] = &[
     required!(1, Varint),
     required!(2, Varint),
     optional!(3, Varint),
 ];
 
 /// producer_id, sequence_id, message_id.
-pub(crate) const SEND_RECEIPT: [Row; 3] = [
+pub(crate) const SEND_RECEIPT: &[Row] = &[
     required!(1, Varint),
     required!(2, Varint),
     optional!(3, Message),
 ];
 
 /// producer_id, sequence_id, error, message.
-pub(crate) const SEND_ERROR: [Row; 4] = [
+pub(crate) const SEND_ERROR: &[Row] = &[
     required!(1, Varint),
     required!(2, Varint),
     required!(3, Varint),
@@ -108,39 +108,39 @@ pub(crate) const SEND_ERROR: [Row; 4] = [
 ];
 
 /// consumer_id, message_id.
-pub(crate) const MESSAGE: [Row; 2] = [required!(1, Varint), required!(2, Message)];
+pub(crate) const MESSAGE: &[Row] = &[required!(1, Varint), required!(2, Message)];
 
 /// consumer_id, ack_type, message_id.
-pub(crate) const ACK: [Row; 3] = [
+pub(crate) const ACK: &[Row] = &[
     required!(1, Varint),
     required!(2, Varint),
     optional!(3, Message),
 ];
 
 /// ack_type: Individual, Cumulative.
-pub(crate) const ACK_CHOICES: [Choice; 1] = [Choice { number: 2, size: 2 }];
+pub(crate) const ACK_CHOICES: &[Choice] = &[Choice { number: 2, size: 2 }];
 
 /// consumer_id, messagePermits.
-pub(crate) const FLOW: [Row; 2] = [required!(1, Varint), required!(2, Varint)];
+pub(crate) const FLOW: &[Row] = &[required!(1, Varint), required!(2, Varint)];
 
 /// consumer_id, request_id.
-pub(crate) const UNSUBSCRIBE: [Row; 2] = [required!(1, Varint), required!(2, Varint)];
+pub(crate) const UNSUBSCRIBE: &[Row] = &[required!(1, Varint), required!(2, Varint)];
 
 /// request_id.
-pub(crate) const SUCCESS: [Row; 1] = [required!(1, Varint)];
+pub(crate) const SUCCESS: &[Row] = &[required!(1, Varint)];
 
 /// request_id, error, message.
-pub(crate) const ERROR: [Row; 3] = [
+pub(crate) const ERROR: &[Row] = &[
     required!(1, Varint),
     required!(2, Varint),
     required!(3, Text),
 ];
 
 /// producer_id, request_id.
-pub(crate) const CLOSE_PRODUCER: [Row; 2] = [required!(1, Varint), required!(2, Varint)];
+pub(crate) const CLOSE_PRODUCER: &[Row] = &[required!(1, Varint), required!(2, Varint)];
 
 /// consumer_id, request_id.
-pub(crate) const CLOSE_CONSUMER: [Row; 2] = [required!(1, Varint), required!(2, Varint)];
+pub(crate) const CLOSE_CONSUMER: &[Row] = &[required!(1, Varint), required!(2, Varint)];
 
 /// request_id, producer_name.
-pub(crate) const PRODUCER_SUCCESS: [Row; 2] = [required!(1, Varint), required!(2, Text)];
+pub(crate) const PRODUCER_SUCCESS: &[Row] = &[required!(1, Varint), required!(2, Text)];

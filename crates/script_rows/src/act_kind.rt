@@ -50,9 +50,9 @@ const ACT_KINDS: [ActKind; 12] = [
     ActKind::Move,
 ];
 
-const PUB: [Column; 4] = [Column::Seq, Column::Targets, Column::Key, Column::Text];
+const PUB: &[Column] = &[Column::Seq, Column::Targets, Column::Key, Column::Text];
 
-const SUB: [Column; 4] = [
+const SUB: &[Column] = &[
     Column::Sub,
     Column::Menu(Menu::SubKind),
     Column::Menu(Menu::Start),
@@ -60,14 +60,14 @@ const SUB: [Column; 4] = [
 ];
 
 /// One FLOW asks for 1 to 1,000,000 messages (own).
-const FLOW: [Column; 1] = [Column::Count {
+const FLOW: &[Column] = &[Column::Count {
     least: 1,
     most: 1_000_000,
 }];
 
-const IDENT: [Column; 3] = [Column::Cluster, Column::Producer, Column::Seq];
+const IDENT: &[Column] = &[Column::Cluster, Column::Producer, Column::Seq];
 
-const MOVE: [Column; 1] = [Column::Cluster];
+const MOVE: &[Column] = &[Column::Cluster];
 
 impl ActKind {
     /// The kind of client line that a word stands for.
@@ -114,11 +114,11 @@ impl ActKind {
             | ActKind::Close
             | ActKind::CloseProducer
             | ActKind::Ping => &[],
-            ActKind::Pub => &PUB,
-            ActKind::Sub => &SUB,
-            ActKind::Flow => &FLOW,
-            ActKind::Ack | ActKind::AckTo => &IDENT,
-            ActKind::Move => &MOVE,
+            ActKind::Pub => PUB,
+            ActKind::Sub => SUB,
+            ActKind::Flow => FLOW,
+            ActKind::Ack | ActKind::AckTo => IDENT,
+            ActKind::Move => MOVE,
         }
     }
 

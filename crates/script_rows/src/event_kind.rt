@@ -53,24 +53,24 @@ const EVENT_KINDS: [EventKind; 13] = [
     EventKind::Restart,
 ];
 
-const CLIENT: [Column; 1] = [Column::Client];
+const CLIENT: &[Column] = &[Column::Client];
 
-const CONNECTION: [Column; 2] = [Column::Cluster, Column::Client];
+const CONNECTION: &[Column] = &[Column::Cluster, Column::Client];
 
-const LINK: [Column; 3] = [Column::Topic, Column::Cluster, Column::Other];
+const LINK: &[Column] = &[Column::Topic, Column::Cluster, Column::Other];
 
-const FATED_LINK: [Column; 4] = [
+const FATED_LINK: &[Column] = &[
     Column::Topic,
     Column::Cluster,
     Column::Other,
     Column::Menu(Menu::Fate),
 ];
 
-const NODE: [Column; 2] = [Column::Topic, Column::Cluster];
+const NODE: &[Column] = &[Column::Topic, Column::Cluster];
 
-const OFFER: [Column; 3] = [Column::Topic, Column::Cluster, Column::Offered];
+const OFFER: &[Column] = &[Column::Topic, Column::Cluster, Column::Offered];
 
-const SEEK: [Column; 4] = [
+const SEEK: &[Column] = &[
     Column::Topic,
     Column::Cluster,
     Column::Offered,
@@ -117,13 +117,13 @@ impl EventKind {
         ensures { result.now ≡ event_columns self }
     {
         match self {
-            EventKind::Go | EventKind::Get | EventKind::Reconnect => &CLIENT,
-            EventKind::Serve | EventKind::Drop => &CONNECTION,
-            EventKind::Reset | EventKind::Read => &LINK,
-            EventKind::Take | EventKind::Receipt => &FATED_LINK,
-            EventKind::Snap | EventKind::Restart => &NODE,
-            EventKind::Offer => &OFFER,
-            EventKind::Seek => &SEEK,
+            EventKind::Go | EventKind::Get | EventKind::Reconnect => CLIENT,
+            EventKind::Serve | EventKind::Drop => CONNECTION,
+            EventKind::Reset | EventKind::Read => LINK,
+            EventKind::Take | EventKind::Receipt => FATED_LINK,
+            EventKind::Snap | EventKind::Restart => NODE,
+            EventKind::Offer => OFFER,
+            EventKind::Seek => SEEK,
         }
     }
 

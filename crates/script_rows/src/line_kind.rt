@@ -38,15 +38,15 @@ const LINE_KINDS: [LineKind; 8] = [
     LineKind::Stop,
 ];
 
-const GEO: [Column; 1] = [Column::Menu(Menu::Version)];
+const GEO: &[Column] = &[Column::Menu(Menu::Version)];
 
 /// A ledger takes 1 to 1,000,000 entries (own).
-const LEDGER: [Column; 1] = [Column::Count {
+const LEDGER: &[Column] = &[Column::Count {
     least: 1,
     most: 1_000_000,
 }];
 
-const CHANCE: [Column; 4] = [
+const CHANCE: &[Column] = &[
     Column::Count {
         least: 0,
         most: u32::MAX,
@@ -59,11 +59,11 @@ const CHANCE: [Column; 4] = [
     },
 ];
 
-const CLUSTER: [Column; 1] = [Column::NewCluster];
+const CLUSTER: &[Column] = &[Column::NewCluster];
 
-const TOPIC: [Column; 1] = [Column::NewTopic];
+const TOPIC: &[Column] = &[Column::NewTopic];
 
-const CLIENT: [Column; 3] = [Column::NewClient, Column::Home, Column::Cluster];
+const CLIENT: &[Column] = &[Column::NewClient, Column::Home, Column::Cluster];
 
 impl LineKind {
     /// The kind of line that begins with a word.
@@ -100,12 +100,12 @@ impl LineKind {
         ensures { result.now ≡ line_columns self }
     {
         match self {
-            LineKind::Geo => &GEO,
-            LineKind::Ledger => &LEDGER,
-            LineKind::Chance => &CHANCE,
-            LineKind::Cluster => &CLUSTER,
-            LineKind::Topic => &TOPIC,
-            LineKind::Client => &CLIENT,
+            LineKind::Geo => GEO,
+            LineKind::Ledger => LEDGER,
+            LineKind::Chance => CHANCE,
+            LineKind::Cluster => CLUSTER,
+            LineKind::Topic => TOPIC,
+            LineKind::Client => CLIENT,
             LineKind::Settle | LineKind::Stop => &[],
         }
     }

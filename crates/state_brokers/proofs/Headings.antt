@@ -17,10 +17,10 @@ use Rattle.state_items.specs.Telling.{TellsFault}
 use Rattle.state_brokers.specs.declared.heading.Heading.{Heading}
 use Rattle.state_brokers.specs.Entries.{IsHeading, Says, ident_of, is_next, nothing, with_origin}
 
-no_text : (bytes : List ℕ) (e : MessageFault) → WrongMessage ROWS bytes e → Says bytes None
-no_text bytes e wrong = nothing (λ m h. message_sound ROWS bytes h.fields e h.text h.means.message wrong)
+no_text : (bytes : List ℕ) (e : MessageFault) → WrongMessage ROWS.now bytes e → Says bytes None
+no_text bytes e wrong = nothing (λ m h. message_sound ROWS.now bytes h.fields e h.text h.means.message wrong)
 
-pub wrong_nothing : (bytes : List ℕ) (e : MessageFault) → IsWrongOrMemory (WrongMessage ROWS bytes) e → e ≢ fault.Memory → Says bytes None
+pub wrong_nothing : (bytes : List ℕ) (e : MessageFault) → IsWrongOrMemory (WrongMessage ROWS.now bytes) e → e ≢ fault.Memory → Says bytes None
 wrong_nothing bytes fault.Memory h ne = absurd (ne refl)
 wrong_nothing bytes (fault.Pb x) h ne = no_text bytes (fault.Pb x) h
 wrong_nothing bytes (fault.WrongWire n) h ne = no_text bytes (fault.WrongWire n) h
