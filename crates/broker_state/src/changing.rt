@@ -34,7 +34,7 @@ impl BrokerState {
     {
         match change {
             BookChange::Receiver { source, session } => self.receive(source, session),
-            BookChange::Client { client, session } => self.sessions[client as usize] = session,
+            BookChange::Client { client, session } => self.have_open(client, session),
             BookChange::Detach { client } => self.subs.leave(client),
             BookChange::Sub(change) => self.change_sub(place, change),
             BookChange::Opening { remote } => self.senders.step(remote, SenderStep::Begin),
@@ -48,7 +48,7 @@ impl BrokerState {
             BookChange::Unpend { remote, number } => {
                 self.senders.step(remote, SenderStep::Unpend(number));
             }
-            BookChange::Building { builder } => self.builder = unboxed(builder),
+            BookChange::Building { builder } => self.build(builder),
             BookChange::Forget => self.forget(),
         }
     }
@@ -59,6 +59,21 @@ impl BrokerState {
         ensures { self.new ≡ record self.old { broker = changed self.old.broker (change.Receiver source session) } }
     {
         self.receivers[source as usize] = receiver_of(session);
+    }
+
+    /// What a client has open.
+    fn have_open(&mut self, client: u32, session: Option<Session>)
+        requires { client < length self.old.broker.sessions }
+        ensures { self.new ≡ record self.old { broker = changed self.old.broker (change.Client client session) } }
+    {
+        self.sessions[client as usize] = session;
+    }
+
+    /// The snapshot that is being made.
+    fn build(&mut self, builder: Option<BoxedBuilder>)
+        ensures { self.new ≡ record self.old { broker = changed self.old.broker (change.Building builder) } }
+    {
+        self.builder = unboxed(builder);
     }
 
     /// The consumers or snapshots of the subscription at a place change.

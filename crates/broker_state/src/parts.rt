@@ -1,7 +1,8 @@
 //! What a broker's state is made of, part by part: each step owns few parts, and none but the last the whole.
-ghost use Rattle.std.specs.Prelude.{◌≡◌, ◌<◌, [], None, length, replicate, IfOk};
+ghost use Rattle.std.specs.Prelude.{◌≡◌, ◌<◌, [], ◌∷◌, None, length, replicate, IfOk};
 ghost use Rattle.dedup_table.specs.Table.{Tells};
 ghost use Rattle.geo_base.specs.Broker.{new_broker};
+ghost use Rattle.geo_base.specs.Sender.{new_sender};
 ghost use Rattle.broker_subs.specs.SubBook.{subs_of};
 ghost use Rattle.durable_parts.specs.Durable.{broker_of};
 ghost use Rattle.broker_state.specs.Parts.{AreParts, book_of};
@@ -77,15 +78,18 @@ impl Parts {
         ensures book { IfOk result (λ p. book_of site.now p ≡ record { site = site.now; broker = new_broker (length site.now.clusters) clients; room = no_room }) }
     {
         let clusters = site.clusters().len();
-        let store = TopicLedger::new(alloc, site.per_ledger())?;
-        let senders = SenderTable::new(alloc, site.own(), clusters as u32)?;
         let memory = InMemory::new(alloc, clusters, clients)?;
-        let subs = SubTable::new(alloc);
-        Ok(Parts {
-            store,
-            tables: Tables { senders, subs },
-            memory,
-        })
+        match empty_topic(alloc, site) {
+            Ok((store, tables)) => Ok(Parts {
+                store,
+                tables,
+                memory,
+            }),
+            Err(fault) => {
+                drop(memory);
+                Err(fault)
+            }
+        }
     }
 
     /// Those of the broker of a site as it is after a restart, with no session of so many clients.
@@ -101,19 +105,62 @@ impl Parts {
         ensures parts { IfOk result (AreParts site.now) }
         ensures broker { IfOk result (λ p. (book_of site.now p).broker ≡ record (broker_of durable) { receivers = replicate (length durable.senders) None; sessions = replicate clients None }) }
     {
-        let memory = InMemory::recovered(alloc, &durable, site.clusters().len(), clients)?;
+        let memory = InMemory::recovered(alloc, &durable, site.clusters().len(), clients);
+        match memory {
+            Ok(memory) => Parts::of_durable(alloc, durable, memory),
+            Err(fault) => {
+                drop(durable);
+                Err(fault)
+            }
+        }
+    }
+
+    /// Those of what is durable, with what no stop leaves.
+    fn of_durable(alloc: Global, durable: Durable, memory: InMemory) -> Result<Parts, Memory>
+        ensures store { IfOk result (λ p. p.store ≡ durable.store) }
+        ensures senders { IfOk result (λ p. p.tables.senders.senders ≡ durable.senders) }
+        ensures subs { IfOk result (λ p. subs_of p.tables.subs.subs ≡ durable.subs) }
+        ensures memory { IfOk result (λ p. p.memory ≡ memory) }
+    {
         let Durable {
             own,
             store,
             subs,
             senders,
         } = durable;
-        let tables = Tables::restored(alloc, own, subs, senders)?;
-        Ok(Parts {
-            store,
-            tables,
-            memory,
-        })
+        match Tables::restored(alloc, own, subs, senders) {
+            Ok(tables) => Ok(Parts {
+                store,
+                tables,
+                memory,
+            }),
+            Err(fault) => {
+                drop(store);
+                drop(memory);
+                Err(fault)
+            }
+        }
+    }
+}
+
+/// An empty topic, and the tables of a broker of a site that has no session yet.
+fn empty_topic(alloc: Global, site: &Site) -> Result<(TopicLedger, Tables), Memory>
+    requires { 0 < site.now.per_ledger }
+    ensures store { IfOk result (λ t. t.0 ≡ record { entries = []; ledgers = 0 ∷ []; per_ledger = site.now.per_ledger; spare = 0 }) }
+    ensures senders { IfOk result (λ t. t.1.senders ≡ record { senders = replicate (length site.now.clusters) new_sender; room = 0 }) }
+    ensures subs { IfOk result (λ t. t.1.subs ≡ record { subs = []; room = 0 }) }
+{
+    let clusters = site.clusters().len() as u32;
+    let senders = SenderTable::new(alloc, site.own(), clusters)?;
+    match TopicLedger::new(alloc, site.per_ledger()) {
+        Ok(store) => {
+            let subs = SubTable::new(alloc);
+            Ok((store, Tables { senders, subs }))
+        }
+        Err(fault) => {
+            drop(senders);
+            Err(fault)
+        }
     }
 }
 
@@ -128,9 +175,20 @@ impl Tables {
         ensures senders { IfOk result (λ t. t.senders.senders ≡ senders) }
         ensures subs { IfOk result (λ t. subs_of t.subs.subs ≡ subs) }
     {
-        let senders = SenderTable::restored(alloc, own, senders)?;
-        let subs = SubTable::restored(alloc, subs)?;
-        Ok(Tables { senders, subs })
+        let senders = match SenderTable::restored(alloc, own, senders) {
+            Ok(senders) => senders,
+            Err(fault) => {
+                drop(subs);
+                return Err(fault);
+            }
+        };
+        match SubTable::restored(alloc, subs) {
+            Ok(subs) => Ok(Tables { senders, subs }),
+            Err(fault) => {
+                drop(senders);
+                Err(fault)
+            }
+        }
     }
 }
 
@@ -142,8 +200,7 @@ impl InMemory {
         ensures receivers { IfOk result (λ m. m.receivers.items ≡ replicate clusters None) }
         ensures sessions { IfOk result (λ m. m.sessions.items ≡ replicate clients None) }
     {
-        let receivers = closed_receivers(alloc, clusters)?;
-        let sessions = no_sessions(alloc, clients)?;
+        let (receivers, sessions) = all_closed(alloc, clusters, clients)?;
         Ok(InMemory {
             dedup: DedupTable::new(alloc),
             next_marker: 0,
@@ -164,15 +221,38 @@ impl InMemory {
         ensures receivers { IfOk result (λ m. m.receivers.items ≡ replicate clusters None) }
         ensures sessions { IfOk result (λ m. m.sessions.items ≡ replicate clients None) }
     {
-        let receivers = closed_receivers(alloc, clusters)?;
-        let sessions = no_sessions(alloc, clients)?;
         let recovered = recover(alloc, durable)?;
-        Ok(InMemory {
-            dedup: recovered.dedup,
-            next_marker: recovered.next_marker,
-            receivers,
-            sessions,
-        })
+        match all_closed(alloc, clusters, clients) {
+            Ok((receivers, sessions)) => Ok(InMemory {
+                dedup: recovered.dedup,
+                next_marker: recovered.next_marker,
+                receivers,
+                sessions,
+            }),
+            Err(fault) => {
+                drop(recovered);
+                Err(fault)
+            }
+        }
+    }
+}
+
+/// So many receivers and so many clients, none with a session.
+fn all_closed(
+    alloc: Global,
+    clusters: usize,
+    clients: usize,
+) -> Result<(Vec<Receiver>, Vec<Option<Session>>), Memory>
+    ensures receivers { IfOk result (λ c. c.0.items ≡ replicate clusters None) }
+    ensures sessions { IfOk result (λ c. c.1.items ≡ replicate clients None) }
+{
+    let receivers = closed_receivers(alloc, clusters)?;
+    match no_sessions(alloc, clients) {
+        Ok(sessions) => Ok((receivers, sessions)),
+        Err(fault) => {
+            drop(receivers);
+            Err(fault)
+        }
     }
 }
 
@@ -180,12 +260,9 @@ impl InMemory {
 fn closed_receivers(alloc: Global, clusters: usize) -> Result<Vec<Receiver>, Memory>
     ensures { IfOk result (λ rs. rs.items ≡ replicate clusters None) }
 {
-    let mut receivers = Vec::new(alloc);
-    while receivers.len() < clusters {
-        match receivers.push(Receiver::new()) {
-            Ok(()) => {}
-            Err(_) => return Err(Memory),
-        }
+    let mut receivers = Vec::with_capacity(alloc, clusters)?;
+    for _cluster in 0..clusters {
+        receivers.push_reserved(Receiver::new());
     }
     Ok(receivers)
 }
@@ -194,12 +271,9 @@ fn closed_receivers(alloc: Global, clusters: usize) -> Result<Vec<Receiver>, Mem
 fn no_sessions(alloc: Global, clients: usize) -> Result<Vec<Option<Session>>, Memory>
     ensures { IfOk result (λ ss. ss.items ≡ replicate clients None) }
 {
-    let mut sessions = Vec::new(alloc);
-    while sessions.len() < clients {
-        match sessions.push(None) {
-            Ok(()) => {}
-            Err(_) => return Err(Memory),
-        }
+    let mut sessions = Vec::with_capacity(alloc, clients)?;
+    for _client in 0..clients {
+        sessions.push_reserved(None);
     }
     Ok(sessions)
 }

@@ -35,18 +35,11 @@ impl SenderTable {
     pub fn new(alloc: Global, own: u32, clusters: u32) -> Result<SenderTable, Memory>
         ensures { IfOk result (λ t. t ≡ record { senders = replicate clusters new_sender; room = 0 }) }
     {
-        let mut senders = Vec::new(alloc);
+        let mut senders = Vec::with_capacity(alloc, clusters as usize)?;
         for remote in 0..clusters {
-            match senders.push(SenderRow::new(alloc, own, remote)) {
-                Ok(()) => {}
-                Err(_) => return Err(Memory),
-            }
+            senders.push_reserved(SenderRow::new(alloc, own, remote));
         }
-        Ok(SenderTable {
-            senders,
-            room: 0,
-            spare: 0,
-        })
+        Ok(SenderTable::from_vec(senders))
     }
 
     /// The senders of a vector, in order; takes no memory.

@@ -43,8 +43,14 @@ impl BrokerState {
         ensures broker { IfOk result (λ b. b.broker ≡ record (broker_of durable) { receivers = replicate (length durable.senders) None; sessions = replicate clients None }) }
         ensures site { IfOk result (λ b. b.site ≡ site) }
     {
-        let parts = Parts::restored(alloc, &site, durable, clients)?;
-        Ok(BrokerState::of_parts(site, parts))
+        let parts = Parts::restored(alloc, &site, durable, clients);
+        match parts {
+            Ok(parts) => Ok(BrokerState::of_parts(site, parts)),
+            Err(fault) => {
+                drop(site);
+                Err(fault)
+            }
+        }
     }
 }
 
@@ -96,16 +102,35 @@ fn restored_senders(
     ensures { IfOk result (λ rows. senders_of rows.items ≡ durable.senders_of parts.items) }
 {
     let mut rows = Vec::new(alloc);
+    match restore_each(alloc, own, parts, &mut rows) {
+        Ok(()) => Ok(rows),
+        Err(fault) => {
+            drop(rows);
+            Err(fault)
+        }
+    }
+}
+
+/// Makes the senders anew, where there is none yet.
+fn restore_each(
+    alloc: Global,
+    own: u32,
+    parts: Vec<DurableSender>,
+    rows: &mut Vec<SenderRow>,
+) -> Result<(), Memory>
+    requires { rows.old.items ≡ [] }
+    ensures { OnOk result (senders_of rows.new.items ≡ durable.senders_of parts.items) }
+{
     for part in parts {
         let Some(remote) = cluster_number(rows.len()) else {
             return Err(Memory);
         };
         add(
-            &mut rows,
+            rows,
             SenderRow::restored(alloc, own, remote, part.session, part.cursor),
         )?;
     }
-    Ok(rows)
+    Ok(())
 }
 
 fn add<T: Drop>(items: &mut Vec<T>, item: T) -> Result<(), Memory>

@@ -59,8 +59,14 @@ impl BrokerState {
         requires { 0 < site.per_ledger }
         ensures { IfOk result (λ b. b ≡ record { site = site; broker = new_broker (length site.clusters) clients; room = no_room }) }
     {
-        let parts = Parts::new(alloc, &site, clients)?;
-        Ok(BrokerState::of_parts(site, parts))
+        let parts = Parts::new(alloc, &site, clients);
+        match parts {
+            Ok(parts) => Ok(BrokerState::of_parts(site, parts)),
+            Err(fault) => {
+                drop(site);
+                Err(fault)
+            }
+        }
     }
 
     /// What the broker knows of the setup. There is a sender and a receiver for each of its clusters.

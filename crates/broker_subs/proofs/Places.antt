@@ -233,3 +233,7 @@ names_cleared bs = names_are (map (with_sub cleared) bs) ∙ cleared_names bs �
 -- the room at a place that was changed
 pub room_set : (bs : List SubBook) (k : ℕ) (new : SubBook) → k < length bs → room_at (rooms_of (set bs k new)) k ≡ room_of new
 room_set bs k new h = room_at_place (set bs k new) k ∙ ap room_of (get_or-set_same bs k new no_book h)
+
+pub room_pushed : (bs : List SubBook) (b : SubBook) → room_at (rooms_of (bs ++ b ∷ [])) (length bs) ≡ room_of b
+room_pushed [] b = refl
+room_pushed (x ∷ bs) b = room_pushed bs b

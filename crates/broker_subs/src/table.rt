@@ -91,7 +91,6 @@ impl SubTable {
     }
 
     /// One more subscription, last in order; at Latest all of so many entries are acknowledged.
-    #[tactic(auto, using(crate::proofs::Places::pushed_subs, crate::proofs::Places::names_pushed, crate::proofs::Places::room_at_place, crate::proofs::Places::room_set, crate::proofs::Places::name_pushed))]
     pub fn create(&mut self, sub: Sub, latest: bool, len: u64)
         requires new { is_new sub }
         requires room { 0 < self.old.room }
@@ -108,18 +107,16 @@ impl SubTable {
     }
 
     /// The subscription at a place is no more.
-    #[tactic(auto, using(crate::proofs::Places::removed_subs, crate::proofs::Places::names_removed, crate::proofs::Places::map_remove, crate::proofs::Places::names_are))]
     pub fn delete(&mut self, place: usize)
         requires { place < length self.old.subs }
         ensures subs { subs_of self.new.subs ≡ filter (λ (s : Subscription). not (bytes_eq s.name (sub_at (subs_of self.old.subs) place).name)) (subs_of self.old.subs) }
         ensures names { names_of (subs_of self.new.subs) ≡ remove (names_of (subs_of self.old.subs)) place }
         ensures places { self.new.room ≡ self.old.room }
     {
-        self.subs.remove(place);
+        drop(self.subs.remove(place));
     }
 
     /// Does a durable write at a place, in the topic of a store.
-    #[tactic(auto, using(crate::proofs::Places::set_named, crate::proofs::Places::names_kept, crate::proofs::Places::written_name, crate::proofs::Places::sub_at_place, crate::proofs::Places::room_at_place, crate::proofs::Places::room_set, crate::proofs::Places::name_set))]
     pub fn write<S: EntryStore>(&mut self, place: usize, write: SubWrite, store: &S)
         requires place { place < length self.old.subs }
         requires acks { acks_needed write ≤ (room_at (rooms_of self.old.subs) place).acks }
@@ -134,7 +131,6 @@ impl SubTable {
     }
 
     /// Makes a change in memory at a place.
-    #[tactic(auto, using(crate::proofs::Places::set_named, crate::proofs::Places::names_kept, crate::proofs::Places::changed_name, crate::proofs::Places::sub_at_place, crate::proofs::Places::room_at_place, crate::proofs::Places::room_set, crate::proofs::Places::name_set))]
     pub fn change(&mut self, place: usize, change: SubChange)
         requires place { place < length self.old.subs }
         requires room { room_needed change ≤ (room_at (rooms_of self.old.subs) place).room }

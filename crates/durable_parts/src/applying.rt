@@ -1,18 +1,18 @@
 //! What a durable write does.
-ghost use Rattle.std.specs.Prelude.{◌≡◌, ℕ, [], OnOk, OnErr};
-ghost use Rattle.geo_base.specs.Broker.{Broker, written};
-ghost use Rattle.geo_base.specs.Subscription.{new_subscription};
+ghost use Rattle.std.specs.Prelude.{◌≡◌, ℕ, [], if◌then◌else◌, IfOk, OnOk, OnErr};
+ghost use Rattle.geo_base.specs.Broker.{Broker, at_sub, written};
+ghost use Rattle.geo_base.specs.Cursor.{below};
 ghost use Rattle.geo_base.specs.declared.write.Write.{Write as MachineWrite};
 ghost use Rattle.geo_base.specs.declared.write.Write.TheVariants as write;
 ghost use Rattle.durable_parts.specs.declared.write.Write.{Write as WholeWrite};
 ghost use Rattle.durable_parts.specs.Applied.{StandsFor, applied};
+ghost use Rattle.durable_parts.specs.Changed.{with_part};
 ghost use Rattle.durable_parts.specs.Durable.{broker_of};
-ghost use Rattle.durable_parts.specs.Parts.{sub_of};
 
 use crate::durable::{Durable, DurableSub, SubPart};
 use crate::write::Write;
 use cursor_acks::Cursor;
-use geo_base::{Entry, EntryStore, Memory};
+use geo_base::{Entry, EntryStore, Memory, SubKind, SubName};
 use std::alloc::Global;
 
 /// Does one durable write. One that names a subscription or a cluster that is not here changes nothing, and neither does the
@@ -24,33 +24,43 @@ pub fn apply_write(alloc: Global, durable: &mut Durable, write: Write) -> Result
     ensures per_ledger { durable.new.store.per_ledger ≡ durable.old.store.per_ledger }
 {
     match write {
-        Write::Append(entry) => append(durable, entry)?,
+        Write::Append(entry) => append(durable, entry),
         Write::Create {
             sub,
             kind,
             replicated,
             latest,
-        } => create(
-            alloc,
-            durable,
-            DurableSub::new(alloc, sub, kind, replicated),
-            latest,
-        )?,
+        } => create(alloc, durable, sub, kind, replicated, latest),
         Write::Change {
             sub,
             kind,
             replicated,
-        } => durable.subs.set(&sub, SubPart::Kind { kind, replicated }),
-        Write::Delete(sub) => durable.subs.remove(&sub),
-        Write::Acks { sub, cursor } => durable.subs.set(&sub, SubPart::Acks(cursor)),
-        Write::Seek { sub, cursor, seeks } => {
-            durable.subs.set(&sub, SubPart::Seek { cursor, seeks })
+        } => {
+            alter(durable, sub, SubPart::Kind { kind, replicated });
+            Ok(())
         }
-        Write::SenderAcks { remote, cursor } => durable.senders.set_cursor(remote, cursor),
-        Write::Session { remote, session } => durable.senders.set_session(remote, session),
-        Write::Ledger => open_ledger(durable)?,
+        Write::Delete(sub) => {
+            delete(durable, sub);
+            Ok(())
+        }
+        Write::Acks { sub, cursor } => {
+            alter(durable, sub, SubPart::Acks(cursor));
+            Ok(())
+        }
+        Write::Seek { sub, cursor, seeks } => {
+            alter(durable, sub, SubPart::Seek { cursor, seeks });
+            Ok(())
+        }
+        Write::SenderAcks { remote, cursor } => {
+            durable.senders.set_cursor(remote, cursor);
+            Ok(())
+        }
+        Write::Session { remote, session } => {
+            durable.senders.set_session(remote, session);
+            Ok(())
+        }
+        Write::Ledger => open_ledger(durable),
     }
-    Ok(())
 }
 
 /// A law: a write does what the machine's write does that it stands for. One that carries a whole cursor stands for the
@@ -66,9 +76,16 @@ fn append(durable: &mut Durable, entry: Entry) -> Result<(), Memory>
     ensures own { durable.new.own ≡ durable.old.own }
     ensures per_ledger { durable.new.store.per_ledger ≡ durable.old.store.per_ledger }
 {
-    durable.store.reserve(1)?;
-    durable.store.append(entry);
-    Ok(())
+    match durable.store.reserve(1) {
+        Ok(()) => {
+            durable.store.append(entry);
+            Ok(())
+        }
+        Err(fault) => {
+            drop(entry);
+            Err(fault)
+        }
+    }
 }
 
 /// The next ledger is opened.
@@ -83,20 +100,64 @@ fn open_ledger(durable: &mut Durable) -> Result<(), Memory>
     Ok(())
 }
 
-/// A subscription of which nothing is acknowledged is created, at Latest or at Earliest, unless one of its name is here.
-fn create(alloc: Global, durable: &mut Durable, sub: DurableSub, latest: bool) -> Result<(), Memory>
-    requires { sub_of sub ≡ new_subscription sub.name sub.kind sub.replicated [] }
-    ensures ok { OnOk result (broker_of durable.new ≡ written durable.old.store.per_ledger (broker_of durable.old) (write.Create sub.name sub.kind sub.replicated latest)) }
+/// A subscription is created, at Latest or at Earliest, unless one of its name is here.
+fn create(
+    alloc: Global,
+    durable: &mut Durable,
+    name: SubName,
+    kind: SubKind,
+    replicated: bool,
+    latest: bool,
+) -> Result<(), Memory>
+    ensures ok { OnOk result (broker_of durable.new ≡ written durable.old.store.per_ledger (broker_of durable.old) (write.Create name kind replicated latest)) }
     ensures err { OnErr result (broker_of durable.new ≡ broker_of durable.old) }
     ensures own { durable.new.own ≡ durable.old.own }
     ensures per_ledger { durable.new.store.per_ledger ≡ durable.old.store.per_ledger }
 {
-    if durable.subs.named(&sub.name).is_some() {
+    if durable.subs.named(&name).is_some() {
+        drop(name);
         return Ok(());
     }
-    let mut sub = sub;
-    if latest {
-        sub.cursor = Cursor::all(alloc, durable.store.len() as u64)?;
+    match beginning(alloc, latest, durable.store.len() as u64) {
+        Ok(cursor) => durable.subs.add(DurableSub {
+            name,
+            kind,
+            replicated,
+            cursor,
+            seeks: 0,
+        }),
+        Err(fault) => {
+            drop(name);
+            Err(fault)
+        }
     }
-    durable.subs.add(sub)
+}
+
+/// The cursor of a subscription that is made at Latest in a topic of so many entries, or at Earliest.
+fn beginning(alloc: Global, latest: bool, len: u64) -> Result<Cursor, Memory>
+    ensures { IfOk result (λ c. c.indexes ≡ (if latest then below len else [])) }
+{
+    if latest {
+        Cursor::all(alloc, len)
+    } else {
+        Ok(Cursor::none(alloc))
+    }
+}
+
+/// A part of the subscription of a name is another one, if it is here.
+fn alter(durable: &mut Durable, name: SubName, part: SubPart)
+    ensures broker { broker_of durable.new ≡ at_sub (broker_of durable.old) name (λ s. with_part part s) }
+    ensures own { durable.new.own ≡ durable.old.own }
+    ensures per_ledger { durable.new.store.per_ledger ≡ durable.old.store.per_ledger }
+{
+    durable.subs.set(&name, part);
+}
+
+/// The subscription of a name is gone.
+fn delete(durable: &mut Durable, name: SubName)
+    ensures broker { broker_of durable.new ≡ written durable.old.store.per_ledger (broker_of durable.old) (write.Delete name) }
+    ensures own { durable.new.own ≡ durable.old.own }
+    ensures per_ledger { durable.new.store.per_ledger ≡ durable.old.store.per_ledger }
+{
+    durable.subs.remove(&name);
 }

@@ -42,13 +42,20 @@ impl DurableSub {
     pub fn copy(&self, alloc: Global) -> Result<DurableSub, Memory>
         ensures { IfOk result (λ d. sub_of d ≡ sub_of self.now) }
     {
-        Ok(DurableSub {
-            name: copy_name(alloc, &self.name)?,
-            kind: self.kind,
-            replicated: self.replicated,
-            cursor: self.cursor.copy(alloc)?,
-            seeks: self.seeks,
-        })
+        let name = copy_name(alloc, &self.name)?;
+        match self.cursor.copy(alloc) {
+            Ok(cursor) => Ok(DurableSub {
+                name,
+                kind: self.kind,
+                replicated: self.replicated,
+                cursor,
+                seeks: self.seeks,
+            }),
+            Err(fault) => {
+                drop(name);
+                Err(fault)
+            }
+        }
     }
 
     /// A part is another one.
@@ -136,11 +143,18 @@ impl Durable {
         ensures per_ledger { IfOk result (λ d. d.store.per_ledger ≡ per_ledger) }
         ensures broker { IfOk result (λ d. broker_of d ≡ durable_part (new_broker clusters 0)) }
     {
-        Ok(Durable {
-            own,
-            store: TopicLedger::new(alloc, per_ledger)?,
-            subs: DurableSubs::new(alloc),
-            senders: DurableSenders::new(alloc, clusters)?,
-        })
+        let senders = DurableSenders::new(alloc, clusters)?;
+        match TopicLedger::new(alloc, per_ledger) {
+            Ok(store) => Ok(Durable {
+                own,
+                store,
+                subs: DurableSubs::new(alloc),
+                senders,
+            }),
+            Err(fault) => {
+                drop(senders);
+                Err(fault)
+            }
+        }
     }
 }

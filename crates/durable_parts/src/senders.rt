@@ -31,12 +31,9 @@ impl DurableSenders {
     pub fn new(alloc: Global, clusters: u32) -> Result<DurableSenders, Memory>
         ensures { IfOk result (λ s. s ≡ replicate clusters new_sender) }
     {
-        let mut senders = Vec::new(alloc);
-        while senders.len() < clusters as usize {
-            match senders.push(DurableSender::new(alloc)) {
-                Ok(()) => {}
-                Err(_) => return Err(Memory),
-            }
+        let mut senders = Vec::with_capacity(alloc, clusters as usize)?;
+        for _cluster in 0..clusters {
+            senders.push_reserved(DurableSender::new(alloc));
         }
         Ok(DurableSenders { senders })
     }

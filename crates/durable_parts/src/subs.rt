@@ -70,9 +70,16 @@ impl DurableSubs {
         ensures ok { OnOk result (self.new ≡ self.old ++ sub_of sub ∷ []) }
         ensures err { OnErr result (self.new ≡ self.old) }
     {
-        self.subs.reserve(1)?;
-        self.subs.push_reserved(sub);
-        Ok(())
+        match self.subs.reserve(1) {
+            Err(_) => {
+                drop(sub);
+                Err(Memory)
+            }
+            Ok(()) => {
+                self.subs.push_reserved(sub);
+                Ok(())
+            }
+        }
     }
 
     /// A part of the subscription of a name is another one, if it is here.
@@ -81,6 +88,8 @@ impl DurableSubs {
     {
         if let Some(place) = self.place_of(name) {
             self.subs[place].set(part);
+        } else {
+            drop(part);
         }
     }
 

@@ -1,12 +1,10 @@
-use Rattle.std.proofs.Common.{◌≡◌, ◌≤◌, ◌-◌, replicate, vec_len}
+use Rattle.std.proofs.Common.{◌≡◌, ◌≤◌, replicate, vec_len, vec_capacity}
 use Rattle.std.specs.Prelude.{None}
 use Rattle.broker_state.proofs.parts.closed_receivers.Given as goal
 
-abbrev pub invariant-loop-receivers : goal.invariant-loop-receivers
-invariant-loop-receivers l = record {
-  same : l.receivers.items ≡ replicate (vec_len l.receivers) None;
-  within : vec_len l.receivers ≤ l.clusters;
+abbrev pub invariant-loop-cluster : goal.invariant-loop-cluster
+invariant-loop-cluster l = record {
+  same : l.receivers.items ≡ replicate l._cluster None;
+  many : vec_len l.receivers ≡ l._cluster;
+  room : l.clusters ≤ vec_capacity l.receivers;
 }
-
-abbrev pub decreases-loop-receivers : goal.decreases-loop-receivers
-decreases-loop-receivers l = l.clusters - vec_len l.receivers

@@ -1,12 +1,10 @@
-use Rattle.std.proofs.Common.{◌≡◌, ◌≤◌, ◌-◌, replicate, vec_len}
+use Rattle.std.proofs.Common.{◌≡◌, ◌≤◌, replicate, vec_len, vec_capacity}
 use Rattle.std.specs.Prelude.{None}
 use Rattle.broker_state.proofs.parts.no_sessions.Given as goal
 
-abbrev pub invariant-loop-sessions : goal.invariant-loop-sessions
-invariant-loop-sessions l = record {
-  same : l.sessions.items ≡ replicate (vec_len l.sessions) None;
-  within : vec_len l.sessions ≤ l.clients;
+abbrev pub invariant-loop-client : goal.invariant-loop-client
+invariant-loop-client l = record {
+  same : l.sessions.items ≡ replicate l._client None;
+  many : vec_len l.sessions ≡ l._client;
+  room : l.clients ≤ vec_capacity l.sessions;
 }
-
-abbrev pub decreases-loop-sessions : goal.decreases-loop-sessions
-decreases-loop-sessions l = l.clients - vec_len l.sessions

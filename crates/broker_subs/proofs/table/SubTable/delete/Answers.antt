@@ -2,8 +2,17 @@ use Rattle.std.proofs.Common.{List, ap, ◌∙◌, ◌≡◌, arith}
 use Rattle.std.specs.Prelude.{length}
 use Rattle.broker_subs.specs.SubBook.{SubBook, subs_of}
 use Rattle.broker_subs.specs.Table.{SubBooks, names_of}
-use Rattle.broker_subs.proofs.Places.{name_removed, removed_subs, sub_at_place}
+use Rattle.broker_subs.proofs.Places.{name_removed, names_removed, removed_subs, sub_at_place}
 use Rattle.broker_subs.proofs.table.SubTable.delete.Goals as goal
+
+pub invariant_of-self : goal.invariant_of-self
+invariant_of-self c =
+    let items = c.self.inside.subs.items in
+    let view : items ≡ c.args.self.now.subs = ap (λ (t : SubBooks). t.subs) c.self.view_is in
+    record {
+      places = omega (arith, c.self.invariant.places, c.remove.ensures.len, c.remove.ensures.capacity);
+      names = rw c.remove.ensures.items (names_removed items c.args.place c.self.invariant.names (omega (arith, c.requires, ap length view)));
+    }
 
 pub returns-clause-subs : goal.returns-clause-subs
 returns-clause-subs c =

@@ -1,7 +1,7 @@
 use Rattle.std.proofs.Common.{◌≡◌, ◌++◌}
 use Rattle.durable_parts.specs.Parts as durable
 use Rattle.broker_state.specs.Senders.{senders_of}
-use Rattle.broker_state.proofs.starting.restored_senders.Given as goal
+use Rattle.broker_state.proofs.starting.restore_each.Given as goal
 
 -- those that were made, and those that are left
 abbrev pub invariant-loop-part : goal.invariant-loop-part
