@@ -2,7 +2,7 @@
 use Rattle.std.proofs.Common.{◌≡◌, ℕ, List, [], false, refl, subst, sym}
 use Rattle.std.specs.Prelude.{Option, Some, Result, Ok, Err, IfOk, MatchOption}
 use Rattle.geo_base.specs.declared.memory.Memory.{Memory}
-use Rattle.std.specs.Option.{option_map}
+use Rattle.geo_base.specs.declared.entry.Content.{Content}
 use Rattle.geo_base.specs.declared.entry.Entry.{Entry}
 use Rattle.geo_base.specs.declared.frame.Frame.{Frame}
 use Rattle.geo_base.specs.declared.frame.Frame.TheVariants as frame
@@ -15,17 +15,22 @@ use Rattle.pulsar_frames.specs.declared.frame.Body.{Body}
 use Rattle.pulsar_frames.specs.declared.frame.Frame.{Frame as WireFrame}
 use Rattle.pulsar_frames.specs.Frames.{IsFrameText}
 use Rattle.message_meta.specs.Known.{IsRest}
+use Rattle.frame_values.specs.declared.entry.Carried.{Carried}
+use Rattle.frame_values.specs.declared.entry.Head.{Head}
 use Rattle.frame_values.specs.Standing.{Reads, text as told}
 use Rattle.frame_values.specs.Texts.{is_readable, unread_bytes}
-use Rattle.frame_values.specs.Values.{Carries, IsContent, IsEntryOf, Says, SaysValue, carrying, place_of, targets_of}
+use Rattle.frame_values.specs.Values.{Carries, IsContent, IsEntryOf, Says, SaysValue, carrying, entry_with, head_of}
 
-pub entry_is : (names : List (List ℕ)) (b : Body) (m : Metadata) (source : Option Place) (e : Entry) → m ≡ b.meta
-    → e.ident.origin ≡ 0 → e.ident.producer ≡ m.producer → e.ident.seq ≡ m.seq → e.meta.publish_time ≡ m.publish_time
-    → source ≡ option_map (place_of names) m.replicated_from → e.meta.key ≡ m.key → e.meta.names ≡ m.replicate_to → e.to ≡ targets_of names m.replicate_to
-    → e.meta.rest ≡ text m.rest → IsContent names m.marker b.payload e.content e.payload → IsEntryOf names b source e
-entry_is names b m source e same o p s t f k n to r c =
-    subst (λ (x : Metadata). IsEntryOf names (record { meta = x; payload = b.payload }) source e) same
-    (record { origin = o; producer = p; seq = s; publish_time = t; from = f; key = k; listed = n; to = to; rest = r; content = c })
+pub headed_is : (names : List (List ℕ)) (b : Body) (m : Metadata) (h : Head) (x : Content) (kept : List ℕ) (c : Carried) → m ≡ b.meta → h ≡ head_of names m (text m.rest)
+    → IsContent names m.marker b.payload x kept → c ≡ entry_with h x kept → IsEntryOf names b c.source c.entry
+headed_is names b m h x kept c same head content is =
+    rw (is, head)
+    (subst (λ (n : Metadata). IsEntryOf names (record { meta = n; payload = b.payload }) (head_of names m (text m.rest)).source (entry_with (head_of names m (text m.rest)) x kept).entry) same
+    (record { origin = refl; producer = refl; seq = refl; publish_time = refl; from = refl; key = refl; listed = refl; to = refl; rest = refl; content = content }))
+
+pub headed_rest : (names : List (List ℕ)) (m : Metadata) (h : Head) (x : Content) (kept : List ℕ) (c : Carried) → h ≡ head_of names m (text m.rest) → c ≡ entry_with h x kept → IsRest (text m.rest)
+    → IsRest c.entry.meta.rest
+headed_rest names m h x kept c head is rest = rw (is, head) rest
 
 pub carries_is : (names : List (List ℕ)) (c : Command) (b : Body) (f : Frame) (source : Option Place) (e : Entry) → f ≡ carrying c source e → IsEntryOf names b source e → Carries names c b f
 carries_is names c b f source e is says = record { source = source; entry = e; is = is; says = says }

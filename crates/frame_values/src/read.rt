@@ -53,10 +53,13 @@ fn value_of(alloc: Global, names: &[ClusterName], frame: WireFrame) -> Result<Fr
     let WireFrame { command, body } = frame;
     match body {
         None => Ok(simple_frame(command)),
-        Some(body) => {
-            let Carried { source, entry } = entry_of(alloc, names, body)?;
-            Ok(carrying(command, source, entry))
-        }
+        Some(body) => match entry_of(alloc, names, body) {
+            Ok(Carried { source, entry }) => Ok(carrying(command, source, entry)),
+            Err(why) => {
+                drop(command);
+                Err(why)
+            }
+        },
     }
 }
 
@@ -84,7 +87,10 @@ fn carrying(command: Command, source: Option<Place>, entry: Entry) -> Frame
             source,
             entry,
         },
-        _ => unreadable(source, entry),
+        other => {
+            drop(other);
+            unreadable(source, entry)
+        }
     }
 }
 

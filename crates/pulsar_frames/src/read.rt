@@ -41,13 +41,25 @@ fn frame_of(alloc: Global, parts: FrameParts<'_>) -> Result<Frame, FrameFault>
 {
     let command = Command::read(alloc, parts.command)?;
     if parts.body.is_some() != carries_message(&command) {
+        drop(command);
         return Err(FrameFault::Sizes);
     }
-    let body = match parts.body {
-        None => None,
-        Some(body) => Some(body_of(alloc, body)?),
-    };
-    Ok(Frame { command, body })
+    match parts.body {
+        None => Ok(Frame {
+            command,
+            body: None,
+        }),
+        Some(body) => match body_of(alloc, body) {
+            Ok(body) => Ok(Frame {
+                command,
+                body: Some(body),
+            }),
+            Err(why) => {
+                drop(command);
+                Err(why)
+            }
+        },
+    }
 }
 
 /// What the parts of a message say.
@@ -56,7 +68,10 @@ fn body_of(alloc: Global, parts: BodyParts<'_>) -> Result<Body, FrameFault>
     ensures err { IfErr result (WrongBody parts.entry.meta.now) }
 {
     let meta = Meta::read(alloc, parts.meta)?;
-    let payload = Blob::from_slice(alloc, parts.payload)?;
+    let Ok(payload) = Blob::from_slice(alloc, parts.payload) else {
+        drop(meta);
+        return Err(FrameFault::Memory);
+    };
     Ok(Body { meta, payload })
 }
 
@@ -76,7 +91,6 @@ fn frame_at(alloc: Global, bytes: &[u8]) -> Result<Option<(Frame, &[u8])>, Frame
 
 /// The frame that the bytes are a text of; None exactly where they are a text of none. They are read once, and nothing is
 /// kept of them beside the frame.
-#[tactic(auto, using(crate::proofs::Whole::whole))]
 pub fn read_frame(alloc: Global, bytes: &[u8]) -> Result<Option<Frame>, Memory>
     ensures { IfOk result (λ o. MatchOption o ((f : Frame) → IsFrameText bytes.now f → ⊥) (IsFrameText bytes.now)) }
 {
@@ -85,6 +99,7 @@ pub fn read_frame(alloc: Global, bytes: &[u8]) -> Result<Option<Frame>, Memory>
             if rest.is_empty() {
                 Ok(Some(frame))
             } else {
+                drop(frame);
                 Ok(None)
             }
         }
@@ -114,12 +129,18 @@ pub(crate) fn parse(alloc: Global, bytes: &[u8]) -> Result<Parsed, Memory>
     'each: loop {
         match frame_at(alloc, rest) {
             Ok(Some((frame, after))) => {
-                frames.push(frame)?;
+                let Ok(()) = frames.push(frame) else {
+                    drop(frames);
+                    return Err(Memory);
+                };
                 rest = after;
             }
             Ok(None) => return Ok(up_to_rest(bytes, frames, rest, None)),
             Err(why) => match why {
-                FrameFault::Memory => return Err(Memory),
+                FrameFault::Memory => {
+                    drop(frames);
+                    return Err(Memory);
+                }
                 _ => return Ok(up_to_rest(bytes, frames, rest, Some(why))),
             },
         }

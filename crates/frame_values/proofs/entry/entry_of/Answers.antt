@@ -1,21 +1,11 @@
-use Rattle.std.proofs.Common.{refl, ap, ◌∙◌, List, ℕ}
-use Rattle.geo_base.specs.Metadata.{Metadata}
-use Rattle.frame_values.specs.Values.{targets_of}
-use Rattle.frame_values.proofs.Entries.{entry_is}
+use Rattle.std.proofs.Common.{refl, subst}
+use Rattle.message_meta.specs.Metadata.{Metadata}
+use Rattle.frame_values.specs.Values.{IsContent}
+use Rattle.frame_values.proofs.Entries.{headed_is}
 use Rattle.frame_values.proofs.entry.entry_of.Goals as goal
 
-pub returns-clause-is : goal.returns-clause-is
-returns-clause-is c =
-    let is = c.in_ok-metadata.ensures in
-    entry_is c.args.names.now c.args.body _ c.optional_place.result _ c.meta.view_is refl c.from_text-producer.ensures refl
-    (ap (λ (m : Metadata). m.publish_time) is) c.optional_place.ensures (ap (λ (m : Metadata). m.key) is) (ap (λ (m : Metadata). m.names) is)
-    (c.targets_of-to.ensures ∙ ap (λ (ls : List (List ℕ)). targets_of c.args.names.now ls) c.as_slice.ensures)
-    (ap (λ (m : Metadata). m.rest) is ∙ c.in_ok-rest.ensures.text) c.in_ok-content.ensures
-
-pub returns-clause-rest : goal.returns-clause-rest
-returns-clause-rest c = record {
-  fields = c.meta.inside.rest;
-  is = ap (λ (m : Metadata). m.rest) c.in_ok-metadata.ensures ∙ c.in_ok-rest.ensures.text;
-  writable = c.in_ok-rest.ensures.fields;
-  unknown = c.meta.invariant;
-}
+pub returns-in-Ok-content_of-clause-is : goal.returns-in-Ok-content_of-clause-is
+returns-in-Ok-content_of-clause-is c =
+    let content = rw (c.in-Ok-content_of.content-is, c.in-Ok-content_of.payload-is) at c.in-Ok-content_of.ensures in
+    let said = subst (λ (m : Metadata). IsContent c.args.names.now m.marker c.args.body.payload c.in-Ok-content_of.content c.in-Ok-content_of.payload) c.meta.view_is content in
+    headed_is c.args.names.now c.args.body c.args.body.meta c.in-Ok.head c.in-Ok-content_of.content c.in-Ok-content_of.payload c.whole_entry.result refl c.in-Ok.ensures.head said c.whole_entry.ensures

@@ -19,11 +19,10 @@ returns-then-is_some-carries_message-clause-err c =
     (λ e. differ c.is_some.result c.carries_message.result c.if-is_some-carries_message.true (c.is_some.ensures ∙ sym (some_layout c.args.parts.body) ∙ e ∙ sym c.carries_message.ensures))
     refl
 
-pub returns-in_err-body_of-in-Some-clause-err : goal.returns-in_err-body_of-in-Some-clause-err
-returns-in_err-body_of-in-Some-clause-err c =
-    let p = err_from_is_err_and c.from_residual-in_err-body_of-in-Some.result c.from_residual-in_err-body_of-in-Some.ensures.1 in
+pub returns-in-Err-clause-err : goal.returns-in-Err-clause-err
+returns-in-Err-clause-err c =
     let there : c.is_some.result ≡ true = c.is_some.ensures ∙ ap (λ (o : Option BodyParts). is_some o) c.in-Some.is in
-    rw (p.1, p.2) (body_wrong (layout c.args.parts) c.in_ok-command.command (body_layout c.in-Some.body) c.in_err-body_of-in-Some.field-0.0 c.in_ok-command.ensures.found
+    body_wrong (layout c.args.parts) c.in_ok-command.command (body_layout c.in-Some.body) c.in-Err.why c.in_ok-command.ensures.found
     (sym c.carries_message.ensures ∙ sym (agree c.is_some.result c.carries_message.result c.if-is_some-carries_message.false) ∙ there)
     (ap (λ (o : Option BodyParts). option_map body_layout o) c.in-Some.is)
-    c.in_err-body_of-in-Some.ensures.err)
+    c.in-Err.ensures.err

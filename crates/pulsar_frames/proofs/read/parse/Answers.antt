@@ -13,11 +13,11 @@ each-smaller c = let t = rw c.in-Ok-Some.field-0-is at c.in-Ok-Some.ensures.ok i
 pub each-preserved : goal.each-preserved
 each-preserved c =
     let t = rw c.in-Ok-Some.field-0-is at c.in-Ok-Some.ensures.ok in
-    subst (λ (fs : List Frame). AreFrames c.args.bytes.now fs c.in-Ok-Some.after.now) (sym c.in_ok-push-in-Ok-Some.ensures.ok)
+    subst (λ (fs : List Frame). AreFrames c.args.bytes.now fs c.in-Ok-Some.after.now) (sym c.in-Ok.ensures.ok)
     (frames_push c.args.bytes.now c.each.rest.now c.in-Ok-Some.after.now c.each.frames c.in-Ok-Some.frame c.each.invariant t)
 
 pub up_to_rest-requires : goal.up_to_rest-requires
 up_to_rest-requires c = record { whole = c.each.invariant; ends = unfinished (rw c.in-Ok-None.field-0-is at c.in-Ok-None.ensures.ok) }
 
-pub up_to_rest-requires-in_default : goal.up_to_rest-requires-in_default
-up_to_rest-requires-in_default c = record { whole = c.each.invariant; ends = refused (is_fault c.each.rest.now c.in-Err.why c.in_default.not-Memory c.in-Err.ensures.err) }
+pub up_to_rest-requires-in_default-why : goal.up_to_rest-requires-in_default-why
+up_to_rest-requires-in_default-why c = record { whole = c.each.invariant; ends = refused (is_fault c.each.rest.now c.in-Err.why c.in_default-why.not-Memory c.in-Err.ensures.err) }
