@@ -1,6 +1,9 @@
 -- Each entry of a ledger.
-use Rattle.std.proofs.Common.{◌≡◌, ℕ, zero, suc, ◌+◌, ◌<◌, ◌≤◌, ◌^◌, List, [], ◌∷◌, length, get_or, take, IfSome, subst, arith}
-use Rattle.std.proofs.lemmas.List.{take_all}
+use Rattle.std.proofs.Common.{◌≡◌, ℕ, zero, suc, ◌+◌, ◌<◌, ◌≤◌, ◌^◌, List, [], ◌∷◌, length, get_or, take, ◌++◌, IfSome, Result, Ok, Err, sym, ap, ◌∙◌, subst, arith}
+use Rattle.std.specs.Prelude.{OnOk}
+use Rattle.std.specs.List.{flat_map}
+use Rattle.std.proofs.lemmas.List.{append_assoc, append-nil, take_all, take_more}
+use Rattle.std.proofs.lemmas.List.Concat.{flat_map-append}
 use Rattle.geo_base.specs.declared.entry.Entry.{Entry}
 use Rattle.state_entries.specs.Texts.{AreShort, HasTexts}
 use Rattle.frame_values.specs.Texts.{marker_number}
@@ -11,6 +14,11 @@ pub readable_is : (names : List (List ℕ)) (own : ℕ) (e : Entry) → IsTellab
 readable_is names own e tellable texts short origin seq kind producer =
     record { tellable = tellable; texts = texts; short = short; origin = origin; seq = seq; kind = kind; producer = producer }
 
+-- a text behind another, of what writing the last of them answered
+pub behind : {T E : Type 0} (r : Result T E) (old x y here new : List ℕ) → here ≡ old ++ x → OnOk r (new ≡ here ++ y) → OnOk r (new ≡ old ++ (x ++ y))
+behind (Ok t) old x y here new is after = after ∙ ap (λ (xs : List ℕ). xs ++ y) is ∙ append_assoc old x y
+behind (Err e) old x y here new is after = tt
+
 pub tellable_here : (names : List (List ℕ)) (own : ℕ) (es : List Entry) (i : ℕ) (d : Entry) → AreTellable names own es → i < length es → IsTellable names own (get_or es i d)
 tellable_here names own [] i d h l = absurd (omega (arith, l))
 tellable_here names own (e ∷ es) zero d h l = h.0
@@ -20,6 +28,13 @@ pub readable_here : (names : List (List ℕ)) (own : ℕ) (es : List Entry) (i :
 readable_here names own [] i d h l = absurd (omega (arith, l))
 readable_here names own (e ∷ es) zero d h l = h.0
 readable_here names own (e ∷ es) (suc i) d h l = readable_here names own es i d h.1 (omega (arith, l))
+
+-- one entry more is written
+pub written_more : (f : Entry → List ℕ) (es : List Entry) (i : ℕ) (d : Entry) (old here new : List ℕ) → i < length es → here ≡ old ++ flat_map f (take i es) → new ≡ here ++ f (get_or es i d) → new ≡ old ++ flat_map f (take (i + 1) es)
+written_more f es i d old here new l is after =
+    let next : flat_map f (take (i + 1) es) ≡ flat_map f (take i es) ++ f (get_or es i d) =
+    ap (λ (xs : List Entry). flat_map f xs) (take_more es i d l) ∙ flat_map-append f (take i es) (get_or es i d ∷ []) ∙ ap (λ (t : List ℕ). flat_map f (take i es) ++ t) (append-nil (f (get_or es i d))) in
+    after ∙ ap (λ (xs : List ℕ). xs ++ f (get_or es i d)) is ∙ append_assoc old (flat_map f (take i es)) (f (get_or es i d)) ∙ ap (λ (t : List ℕ). old ++ t) (sym next)
 
 -- one entry more is readable
 pub readable_more : (names : List (List ℕ)) (own : ℕ) (es : List Entry) (i : ℕ) (d : Entry) → i < length es → AreReadable names own (take i es) → IsReadable names own (get_or es i d) → AreReadable names own (take (i + 1) es)

@@ -80,8 +80,8 @@ fn stored_entry(
     ensures { (own : ℕ) (e : Entry) → IsReadable names.now own e → origin ≡ e.ident.origin → metadata.now ≡ metadata_text names.now own e
         → payload.now ≡ payload_text names.now e.content e.payload → Gives (λ x. x) result (Ok e) }
 {
-    let meta = meta_of(alloc, metadata)?;
     let payload = Blob::from_slice(alloc, payload)?;
+    let meta = meta_of(alloc, metadata)?;
     Ok(read_entry(alloc, names, meta, origin, payload)?)
 }
 

@@ -31,7 +31,6 @@ pub fn put_ledger(
 }
 
 /// Appends entries one behind the other.
-#[tactic(auto, using(crate::proofs::Each::tellable_here, crate::proofs::Each::readable_more, crate::proofs::Each::all_readable))]
 fn put_each(
     alloc: Global,
     out: &mut Blob,

@@ -11,6 +11,7 @@ use Rattle.state_items.specs.Ranges.{cursor_at}
 use Rattle.state_items.specs.Reading.{◌>>=◌, Read, byte_at, judge, many, number_at, number_within, text_at}
 use Rattle.state_items.specs.Texts.{cursor, list, number, text}
 use Rattle.state_items.specs.Limits.{most_count}
+use Rattle.state_brokers.specs.declared.subs.Nameless.{Nameless}
 
 -- the highest byte of a kind
 abbrev pub most_kind : ℕ
@@ -58,14 +59,23 @@ name_at before bytes = do
 unfoldable pub seeks_at : ℕ → List ℕ → Read ℕ
 seeks_at version bytes = if version == 1 then Ok (0, bytes) else number_within most_count rule.Count bytes
 
-unfoldable pub sub_at : ℕ → ℕ → List Subscription → List ℕ → Read Subscription
-sub_at version n before bytes = do
-  name ← name_at before bytes
-  kind ← byte_within most_kind name.1
+-- what the code has of a subscription beside its name, with its name
+abbrev pub with_name : List ℕ → Nameless → Subscription
+with_name name s = record (new_subscription name s.kind s.replicated s.cursor.indexes) { seeks = s.seeks }
+
+-- what stands behind a name, and the subscription of that name
+abbrev pub behind_name : ℕ → ℕ → List ℕ → List ℕ → Read Subscription
+behind_name version n name bytes = do
+  kind ← byte_within most_kind bytes
   flag ← byte_within 1 kind.1
   acked ← cursor_at n flag.1
   seeks ← seeks_at version acked.1
-  Ok (record (new_subscription name.0 (kind_of kind.0) (flag.0 == 1) acked.0) { seeks = seeks.0 }, seeks.1)
+  Ok (record (new_subscription name (kind_of kind.0) (flag.0 == 1) acked.0) { seeks = seeks.0 }, seeks.1)
+
+unfoldable pub sub_at : ℕ → ℕ → List Subscription → List ℕ → Read Subscription
+sub_at version n before bytes = do
+  name ← name_at before bytes
+  behind_name version n name.0 name.1
 
 unfoldable pub subs_at : ℕ → ℕ → List ℕ → Read (List Subscription)
 subs_at version n bytes = do

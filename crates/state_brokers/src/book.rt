@@ -1,5 +1,5 @@
 //! The entries of a topic so far, with what tells whether one more may stand behind them.
-ghost use Rattle.std.specs.Prelude.{◌≡◌, ◌==◌, ◌&&◌, ◌∷◌, [], ◌++◌, true, IfOk, OnOk};
+ghost use Rattle.std.specs.Prelude.{◌≡◌, ◌==◌, ◌&&◌, ◌<◌, ◌∷◌, [], ◌++◌, true, vec_capacity, vec_len, IfOk, OnOk};
 ghost use Rattle.std.specs.Str.{bytes_eq};
 ghost use Rattle.geo_base.specs.Entry.{marker_producer};
 ghost use Rattle.state_brokers.specs.Entries.{is_in_turn, is_next};
@@ -87,19 +87,37 @@ impl EntryBook {
         requires { is_next self.old.own self.old.entries entry.ident ≡ true }
         ensures { OnOk result (self.new ≡ record { own = self.old.own; entries = self.old.entries ++ entry ∷ [] }) }
     {
-        let stream = Stream::of(alloc, &entry.ident)?;
+        let Ok(stream) = Stream::of(alloc, &entry.ident) else {
+            drop(entry);
+            return Err(Memory);
+        };
+        let Ok(()) = room_for_one(&mut self.dedup, &mut self.entries) else {
+            drop(stream);
+            drop(entry);
+            return Err(Memory);
+        };
         let last = last_with(
             is_own_marker(self.own, &entry.ident),
             entry.ident.seq,
             self.last,
         );
-        self.dedup.reserve(1)?;
-        self.entries.reserve(1)?;
         self.dedup.note(stream, entry.ident.seq);
         self.entries.push_reserved(entry);
         self.last = last;
         Ok(())
     }
+}
+
+/// Room for one row and one entry more, which change in nothing else.
+fn room_for_one(dedup: &mut DedupTable, entries: &mut Vec<Entry>) -> Result<(), Memory>
+    ensures rows { dedup.new.rows ≡ dedup.old.rows }
+    ensures room { OnOk result (0 < dedup.new.room) }
+    ensures items { entries.new.items ≡ entries.old.items }
+    ensures spare { OnOk result (vec_len entries.new < vec_capacity entries.new) }
+{
+    dedup.reserve(1)?;
+    entries.reserve(1)?;
+    Ok(())
 }
 
 /// Whether a sequence id is no duplicate.

@@ -1,8 +1,6 @@
 //! The entries of a topic.
 ghost use Rattle.std.specs.Prelude.{◌≡◌, ◌≤◌, true, length, IfOk, Ok};
-ghost use Rattle.state_items.specs.declared.fault.ItemFault.TheVariants as item_fault;
-ghost use Rattle.state_items.specs.declared.rule.Rule.TheVariants as rule;
-ghost use Rattle.state_items.specs.Reading.{broken, text_at};
+ghost use Rattle.state_items.specs.Reading.{text_at};
 ghost use Rattle.state_items.specs.Telling.{Tells};
 ghost use Rattle.state_brokers.specs.Entries.{AreEntries, IsEntry, IsPayload, ident_of, is_next};
 
@@ -16,7 +14,7 @@ use state_items::{ItemFault, Rule, text_at};
 use std::alloc::Global;
 
 /// So many entries of the topic of the cluster `own`.
-#[tactic(auto, using(crate::proofs::EntryExits::entries_begin, crate::proofs::EntryExits::entries_done))]
+#[tactic(auto, using(crate::proofs::EntryExits::entries_begin))]
 pub(crate) fn entries_at<'a>(
     alloc: Global,
     names: &[ClusterName],
@@ -38,7 +36,6 @@ pub(crate) fn entries_at<'a>(
 }
 
 /// The next entry.
-#[tactic(auto, using(crate::proofs::EntryExits::text_stops, crate::proofs::EntryExits::heading_stops, crate::proofs::EntryExits::payload_told, crate::proofs::EntryExits::next_told))]
 fn entry_at<'a>(
     alloc: Global,
     names: &[ClusterName],
@@ -68,15 +65,11 @@ fn payload_at<'a>(
 {
     match text_at(bytes) {
         Ok((payload, rest)) => whole_entry(alloc, names, heading, bytes, payload, rest),
-        Err(fault) => Err(without(heading, fault)),
+        Err(fault) => {
+            drop(heading);
+            Err(fault)
+        }
     }
-}
-
-/// A fault of an entry whose metadata are let go.
-fn without(_heading: Heading, fault: ItemFault) -> ItemFault
-    ensures { result ≡ fault }
-{
-    fault
 }
 
 /// The entry of a payload, which is the item at the front of the bytes.
@@ -94,19 +87,16 @@ fn whole_entry<'a>(
     ensures told { Tells (λ x. (x.0, x.1.now)) result (IsPayload names.now heading bytes.now) }
     ensures ident { IfOk result (λ x. x.0.ident ≡ ident_of heading) }
 {
-    let payload = Blob::from_slice(alloc, payload)?;
+    let Ok(payload) = Blob::from_slice(alloc, payload) else {
+        drop(heading);
+        return Err(ItemFault::Memory);
+    };
     let Heading { meta, origin } = heading;
     let entry = read_entry(alloc, names, meta, origin, payload)?;
     if is_within_limit(names, &entry) {
         Ok((entry, rest))
     } else {
-        Err(too_large(entry, bytes))
+        drop(entry);
+        Err(ItemFault::at(bytes, Rule::Entry))
     }
-}
-
-/// The fault of an entry that is too large to be stored.
-fn too_large(_entry: Entry, item: &[u8]) -> ItemFault
-    ensures { result ≡ item_fault.Broken (broken item.now rule.Entry) }
-{
-    ItemFault::at(item, Rule::Entry)
 }

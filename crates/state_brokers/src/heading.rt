@@ -1,9 +1,6 @@
 //! What the metadata of an entry says.
 ghost use Rattle.std.specs.Prelude.{◌≡◌, ◌≤◌, true, length, IfOk, MatchOption, None, Some};
 ghost use Rattle.state_entries.specs.Origins.{origin_of};
-ghost use Rattle.state_items.specs.declared.fault.ItemFault.TheVariants as item_fault;
-ghost use Rattle.state_items.specs.declared.rule.Rule.TheVariants as rule;
-ghost use Rattle.state_items.specs.Reading.{broken};
 ghost use Rattle.state_items.specs.Telling.{Tells};
 ghost use Rattle.state_brokers.specs.Entries.{IsHeading, Says, ident_of, is_next};
 
@@ -54,12 +51,27 @@ pub(crate) fn heading_of(
     let Some(heading) = placed(names, before.own(), meta) else {
         return Err(ItemFault::at(item, Rule::Entry));
     };
-    let ident = heading.ident(alloc)?;
-    if before.is_next(alloc, &ident)? {
-        Ok(heading)
-    } else {
-        Err(refused(heading, item))
+    match is_next(alloc, before, &heading) {
+        Ok(true) => Ok(heading),
+        Ok(false) => {
+            drop(heading);
+            Err(ItemFault::at(item, Rule::Identity))
+        }
+        Err(Memory) => {
+            drop(heading);
+            Err(ItemFault::Memory)
+        }
     }
+}
+
+/// Whether the entry that metadata are of may stand behind those of a book.
+fn is_next(alloc: Global, before: &EntryBook, heading: &Heading) -> Result<bool, Memory>
+    ensures { IfOk result (λ b. b ≡ is_next before.now.own before.now.entries (ident_of heading.now)) }
+{
+    let ident = heading.ident(alloc)?;
+    let is_next = before.is_next(alloc, &ident);
+    drop(ident);
+    is_next
 }
 
 /// Metadata with the cluster that stored the message first; None exactly where no cluster has the name that they give.
@@ -69,16 +81,12 @@ fn placed(names: &[ClusterName], own: u32, meta: Meta) -> Option<Heading>
         (λ h. (h.meta ≡ meta) × (origin_of names.now own meta.replicated_from ≡ Some h.origin)) }
 {
     match origin_of(names, own, &meta.replicated_from) {
-        None => None,
+        None => {
+            drop(meta);
+            None
+        }
         Some(origin) => Some(Heading { meta, origin }),
     }
-}
-
-/// The fault of an entry that is not next.
-fn refused(_heading: Heading, item: &[u8]) -> ItemFault
-    ensures { result ≡ item_fault.Broken (broken item.now rule.Identity) }
-{
-    ItemFault::at(item, Rule::Identity)
 }
 
 /// What bytes say as metadata; None where they say nothing.

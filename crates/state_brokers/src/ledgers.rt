@@ -22,7 +22,6 @@ pub(crate) fn ledgers_at(
 }
 
 /// The lengths of so many ledgers.
-#[tactic(auto, using(state_items::proofs::Loops::goes_on, state_items::proofs::Loops::ends, state_items::proofs::Loops::is_done))]
 fn counted_ledgers(
     alloc: Global,
     per_ledger: u64,

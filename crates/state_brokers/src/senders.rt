@@ -24,7 +24,6 @@ pub(crate) fn senders_at(
 }
 
 /// The same as a vector.
-#[tactic(auto, using(crate::proofs::Places::ends, crate::proofs::Places::is_done))]
 fn listed_senders(
     alloc: Global,
     entries: u64,

@@ -1,11 +1,12 @@
 //! The subscriptions of a topic.
-ghost use Rattle.std.specs.Prelude.{◌≡◌, ◌≤◌, [], true, IfOk, None};
+ghost use Rattle.std.specs.Prelude.{◌≡◌, ◌≤◌, ℕ, List, [], true, IfOk, None};
 ghost use Rattle.durable_parts.specs.Parts.{sub_of};
 ghost use Rattle.geo_base.specs.Broker.{sub_named};
 ghost use Rattle.geo_base.specs.Name.{is_name};
 ghost use Rattle.state_items.specs.Reading.{Gives, many};
-ghost use Rattle.state_brokers.specs.Subs.{byte_within, kind_of, name_at, seeks_at, sub_at, subs_at};
+ghost use Rattle.state_brokers.specs.Subs.{behind_name, byte_within, kind_of, name_at, seeks_at, sub_at, subs_at, with_name};
 
+use cursor_acks::Cursor;
 use durable_parts::{DurableSub, DurableSubs};
 use geo_base::limits::SUBSCRIPTIONS;
 use geo_base::{Memory, NameFault, SubKind, SubName, name_text};
@@ -36,7 +37,6 @@ pub(crate) fn subs_at(
 }
 
 /// So many subscriptions.
-#[tactic(auto, using(state_items::proofs::Loops::goes_on, state_items::proofs::Loops::ends, state_items::proofs::Loops::is_done))]
 fn counted_subs(
     alloc: Global,
     version: u32,
@@ -69,18 +69,66 @@ fn sub_at<'a>(
     ensures new { IfOk result (λ x. sub_named before.now x.0.name ≡ None) }
 {
     let (name, rest) = name_at(alloc, before, bytes)?;
-    let (kind, rest) = byte_within(rest, MOST_KIND)?;
+    match behind_name(alloc, version, entries, rest) {
+        Ok((part, rest)) => Ok((named(name, part), rest)),
+        Err(fault) => {
+            drop(name);
+            Err(fault)
+        }
+    }
+}
+
+/// What a subscription is beside its name.
+#[derive(Drop)]
+pub(crate) struct Nameless {
+    pub(crate) kind: SubKind,
+    pub(crate) replicated: bool,
+    pub(crate) cursor: Cursor,
+    pub(crate) seeks: u64,
+}
+
+/// It with its name.
+fn named(name: SubName, part: Nameless) -> DurableSub
+    ensures sub { sub_of result ≡ with_name name part }
+    ensures name { result.name ≡ name }
+{
+    DurableSub {
+        name,
+        kind: part.kind,
+        replicated: part.replicated,
+        cursor: part.cursor,
+        seeks: part.seeks,
+    }
+}
+
+/// What stands behind a subscription's name.
+#[tactic(auto, unfolding(crate::specs::Subs::behind_name))]
+fn behind_name(
+    alloc: Global,
+    version: u32,
+    entries: u64,
+    bytes: &[u8],
+) -> Result<(Nameless, &[u8]), ItemFault>
+    ensures { (name : List ℕ) → Gives (λ x. (with_name name x.0, x.1.now)) result (behind_name version entries name bytes.now) }
+{
+    let (kind, rest) = byte_within(bytes, MOST_KIND)?;
     let (flag, rest) = byte_within(rest, 1)?;
     let (cursor, rest) = cursor_at(alloc, entries, rest)?;
-    let (seeks, rest) = seeks_at(version, rest)?;
-    let sub = DurableSub {
-        name,
-        kind: kind_of(kind),
-        replicated: flag == 1,
-        cursor,
-        seeks,
-    };
-    Ok((sub, rest))
+    match seeks_at(version, rest) {
+        Ok((seeks, rest)) => {
+            let part = Nameless {
+                kind: kind_of(kind),
+                replicated: flag == 1,
+                cursor,
+                seeks,
+            };
+            Ok((part, rest))
+        }
+        Err(fault) => {
+            drop(cursor);
+            Err(fault)
+        }
+    }
 }
 
 /// A name that no subscription has yet.
@@ -99,6 +147,7 @@ fn name_at<'a>(
     };
     let name = new_name(alloc, text)?;
     if before.named(&name).is_some() {
+        drop(name);
         return Err(ItemFault::at(bytes, Rule::Subscription));
     }
     Ok((name, rest))

@@ -103,7 +103,6 @@ fn got_at(alloc: Global, clusters: u32, bytes: &[u8]) -> Result<(Vec<Ident>, &[u
 }
 
 /// So many identities.
-#[tactic(auto, using(state_items::proofs::Loops::goes_on, state_items::proofs::Loops::ends, state_items::proofs::Loops::is_done))]
 fn counted_idents(
     alloc: Global,
     clusters: u32,
@@ -132,11 +131,10 @@ fn ident_at(alloc: Global, clusters: u32, bytes: &[u8]) -> Result<(Ident, &[u8])
     let Some(text) = utf8_text(producer) else {
         return Err(ItemFault::at(behind, Rule::Client));
     };
-    let producer = ProducerName::any(alloc, text)?;
     let (seq, rest) = number_at(rest)?;
     let ident = Ident {
         origin: origin as u32,
-        producer,
+        producer: ProducerName::any(alloc, text)?,
         seq,
     };
     Ok((ident, rest))

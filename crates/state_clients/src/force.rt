@@ -121,7 +121,6 @@ pub(crate) fn unanswered_at<'a>(
 }
 
 /// So many publishes.
-#[tactic(auto, using(state_items::proofs::Loops::goes_on, state_items::proofs::Loops::ends, state_items::proofs::Loops::is_done))]
 fn counted_publishes<'a>(
     alloc: Global,
     lines: &[Line],

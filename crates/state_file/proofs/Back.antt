@@ -36,7 +36,7 @@ itself t = (bytes_eq-Decides t t).1 refl
 many_again : (s : Script) (rest : List ℕ) → script_of (declarations_text s.setup s.chance) ≡ Ok s → so_many (length (declarations_text s.setup s.chance)) (declarations_text s.setup s.chance ++ rest) ≡ Ok (s, rest)
 many_again s rest back =
     let t : List ℕ = declarations_text s.setup s.chance in
-    same (length t) (t ++ rest) t rest s (omega (arith, length-append t rest)) (sym (take_at t rest (length t) refl)) (sym (drop_at t rest (length t) refl)) back (itself t)
+    same (length t) (t ++ rest) t rest s true (omega (arith, length-append t rest)) (sym (take_at t rest (length t) refl)) (sym (drop_at t rest (length t) refl)) back (sym (itself t)) refl
 
 declared_again : (s : Script) (rest : List ℕ) → script_of (declarations_text s.setup s.chance) ≡ Ok s → length (declarations_text s.setup s.chance) < 2 ^ 64 → declarations_at (declared_text s ++ rest) ≡ Ok (s, rest)
 unfolding declarations_at

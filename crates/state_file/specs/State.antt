@@ -1,5 +1,6 @@
 -- The state of a run's world after a stop.
 use Rattle.std.specs.Prelude.{List, map}
+use Rattle.client.specs.declared.client.state.ClientState.{ClientState}
 use Rattle.client.specs.State.{stopped}
 use Rattle.geo_base.specs.Broker.{Broker}
 use Rattle.geo_base.specs.Client.{Client}
@@ -26,6 +27,10 @@ state_of s = record {
   nodes = map broker_of s.nodes.items;
   clients = map stopped s.clients.items;
 }
+
+-- the state of what stands before the clients, and of these
+abbrev pub with_clients : Script → Counts → List Broker → List ClientState → SavedState
+with_clients script counts nodes ks = record { scenario = script; counts = counts; nodes = nodes; clients = map stopped ks }
 
 -- of a script's world that is stopped: what the script declares, what the run counted, what is durable of the brokers, and the clients
 abbrev pub state_in : Script → World → SavedState

@@ -1,11 +1,13 @@
 //! The body of a file.
-ghost use Rattle.std.specs.Prelude.{◌≡◌, ◌≤◌, ◌<◌, ◌*◌, ◌^◌, [], length, map, OnOk};
+ghost use Rattle.std.specs.Prelude.{◌≡◌, ◌≤◌, ◌<◌, ◌*◌, ◌^◌, List, [], length, map, OnOk};
 ghost use Rattle.client.specs.State.{stopped};
+ghost use Rattle.geo_base.specs.Broker.{Broker};
+ghost use Rattle.state_brokers.specs.declared.counts.Counts.{Counts};
 ghost use Rattle.state_items.specs.Reading.{Gives, many};
 ghost use Rattle.state_items.specs.Telling.{Many, Tells};
 ghost use Rattle.state_brokers.specs.Nodes.{broker_of};
 ghost use Rattle.state_file.specs.Reading.{AreNodes, IsBody, client_behind, tail_at};
-ghost use Rattle.state_file.specs.State.{state_of};
+ghost use Rattle.state_file.specs.State.{state_of, with_clients};
 
 use crate::front::head_at;
 use crate::saved::Saved;
@@ -17,7 +19,6 @@ use state_items::{ItemFault, Rule, judge};
 use std::alloc::Global;
 
 /// The state in a body of `size` bytes, of which these are there.
-#[tactic(auto, using(crate::proofs::Bodies::head_stops, crate::proofs::Bodies::nodes_stop, crate::proofs::Bodies::tail_told))]
 pub(crate) fn body_at(
     alloc: Global,
     version: u32,
@@ -29,13 +30,20 @@ pub(crate) fn body_at(
     ensures size { OnOk result (size ≤ length body.now) }
 {
     let ((scenario, counts), rest) = head_at(alloc, body)?;
-    let (nodes, rest) = nodes_at(alloc, version, &scenario, rest)?;
-    let begun = Begun {
-        scenario,
-        counts,
-        nodes,
-    };
-    tail_at(alloc, size, body.len(), begun, rest)
+    match nodes_at(alloc, version, &scenario, rest) {
+        Ok((nodes, rest)) => {
+            let begun = Begun {
+                scenario,
+                counts,
+                nodes,
+            };
+            tail_at(alloc, size, body.len(), begun, rest)
+        }
+        Err(fault) => {
+            drop(scenario);
+            Err(fault)
+        }
+    }
 }
 
 /// What stands before the clients.
@@ -47,7 +55,6 @@ struct Begun {
 }
 
 /// The clients, behind which nothing stands.
-#[tactic(auto, unfolding(crate::specs::Reading::tail_at))]
 fn tail_at(
     alloc: Global,
     size: u64,
@@ -58,15 +65,42 @@ fn tail_at(
     ensures read { Gives state_of result (tail_at size whole begun.scenario begun.counts (map broker_of begun.nodes.items) bytes.now) }
     ensures size { OnOk result (size ≤ whole) }
 {
-    let (clients, rest) = clients_at(alloc, &begun.scenario, bytes)?;
+    match last_clients_at(alloc, size, whole, &begun.scenario, bytes) {
+        Ok(clients) => Ok(Saved {
+            scenario: begun.scenario,
+            counts: begun.counts,
+            nodes: begun.nodes,
+            clients,
+        }),
+        Err(fault) => {
+            drop(begun);
+            Err(fault)
+        }
+    }
+}
+
+/// The clients alone, behind which nothing stands; what stands before them says nothing of them but by the script.
+#[tactic(auto, unfolding(crate::specs::Reading::tail_at))]
+fn last_clients_at(
+    alloc: Global,
+    size: u64,
+    whole: usize,
+    scenario: &Scenario,
+    bytes: &[u8],
+) -> Result<Vec<ClientState>, ItemFault>
+    ensures read { (counts : Counts) (nodes : List Broker)
+        → Gives (λ v. with_clients scenario.now counts nodes v.items) result (tail_at size whole scenario.now counts nodes bytes.now) }
+    ensures size { OnOk result (size ≤ whole) }
+{
+    let (clients, rest) = clients_at(alloc, scenario, bytes)?;
     let used = whole.saturating_sub(rest.len());
-    judge(used as u64 == size, rest, Rule::End)?;
-    Ok(Saved {
-        scenario: begun.scenario,
-        counts: begun.counts,
-        nodes: begun.nodes,
-        clients,
-    })
+    match judge(used as u64 == size, rest, Rule::End) {
+        Ok(()) => Ok(clients),
+        Err(fault) => {
+            drop(clients);
+            Err(fault)
+        }
+    }
 }
 
 /// The brokers by topic and then by cluster.
@@ -93,7 +127,7 @@ fn nodes_at<'a>(
 }
 
 /// The clients in the script's order.
-#[tactic(auto, using(crate::proofs::Loops::clients_begin, crate::proofs::Loops::client_more, crate::proofs::Loops::client_ends, crate::proofs::Loops::clients_done))]
+#[tactic(auto, using(crate::proofs::Loops::clients_begin))]
 fn clients_at<'a>(
     alloc: Global,
     scenario: &Scenario,

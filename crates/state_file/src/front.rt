@@ -1,8 +1,11 @@
 //! What stands before the brokers of a file.
-ghost use Rattle.std.specs.Prelude.{◌≤◌, ◌<◌, ◌^◌, length, IfOk};
+ghost use Rattle.std.specs.Prelude.{◌≡◌, ◌≤◌, ◌<◌, ◌^◌, length, IfOk};
+ghost use Rattle.std.specs.Str.{bytes_eq};
+ghost use Rattle.script_text.specs.Canonical.{declarations_text};
 ghost use Rattle.state_items.specs.Reading.{Gives};
 ghost use Rattle.state_file.specs.Reading.{declarations_at, head_at, magic_at, so_many, version_at};
 
+use geo_base::Memory;
 use script_text::{Scenario, ScriptFault, read_script, write_declarations};
 use state_brokers::{Counts, counts_at};
 use state_items::{ItemFault, Rule, judge, number_at, word_at};
@@ -44,8 +47,13 @@ pub(crate) fn head_at(alloc: Global, bytes: &[u8]) -> Result<((Scenario, Counts)
     ensures { Gives (λ x. ((x.0.0, x.0.1), x.1.now)) result (head_at bytes.now) }
 {
     let (scenario, rest) = declarations_at(alloc, bytes)?;
-    let (counts, rest) = counts_at(rest)?;
-    Ok(((scenario, counts), rest))
+    match counts_at(rest) {
+        Ok((counts, rest)) => Ok(((scenario, counts), rest)),
+        Err(fault) => {
+            drop(scenario);
+            Err(fault)
+        }
+    }
 }
 
 /// The declarations, behind their length.
@@ -59,7 +67,6 @@ fn declarations_at(alloc: Global, bytes: &[u8]) -> Result<(Scenario, &[u8]), Ite
 }
 
 /// The declarations, so many bytes.
-#[tactic(auto, using(crate::proofs::Declared::refused, crate::proofs::Declared::same, crate::proofs::Declared::other))]
 fn so_many(alloc: Global, len: u64, bytes: &[u8]) -> Result<(Scenario, &[u8]), ItemFault>
     requires { length bytes.now < 2 ^ 32 }
     ensures { Gives (λ x. (x.0, x.1.now)) result (so_many len bytes.now) }
@@ -73,9 +80,26 @@ fn so_many(alloc: Global, len: u64, bytes: &[u8]) -> Result<(Scenario, &[u8]), I
         Err(ScriptFault::Memory) => return Err(ItemFault::Memory),
         Err(ScriptFault::Rule { .. }) => return Err(ItemFault::at(bytes, Rule::Declarations)),
     };
-    let canonical = write_declarations(alloc, &scenario)?;
-    if canonical.as_slice() != text {
-        return Err(ItemFault::at(bytes, Rule::Declarations));
+    match is_canonical(alloc, &scenario, text) {
+        Ok(is_canonical) => {
+            if is_canonical {
+                Ok((scenario, rest))
+            } else {
+                drop(scenario);
+                Err(ItemFault::at(bytes, Rule::Declarations))
+            }
+        }
+        Err(Memory) => {
+            drop(scenario);
+            Err(ItemFault::Memory)
+        }
     }
-    Ok((scenario, rest))
+}
+
+/// Whether a text is that which is written of the declarations that it says.
+fn is_canonical(alloc: Global, scenario: &Scenario, text: &[u8]) -> Result<bool, Memory>
+    ensures { IfOk result (λ b. b ≡ bytes_eq (declarations_text scenario.now.setup scenario.now.chance) text.now) }
+{
+    let canonical = write_declarations(alloc, scenario)?;
+    Ok(canonical.as_slice() == text)
 }

@@ -38,7 +38,7 @@ fn ranges_at(
 }
 
 /// So many ranges.
-#[tactic(auto, using(crate::proofs::Loops::ends, crate::proofs::Loops::is_done, crate::proofs::Gaps::none_in))]
+#[tactic(auto, using(crate::proofs::Gaps::none_in))]
 fn counted_ranges(
     alloc: Global,
     entries: u64,

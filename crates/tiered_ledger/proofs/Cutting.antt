@@ -142,3 +142,32 @@ pub copied_all : (xs copies : List Entry) (n : ℕ) → copies ≡ take (length 
 copied_all xs copies n h at none =
     let past = none_past xs n none in
     h ∙ take_all (length copies) xs (omega (arith, past, at))
+
+pub copied_fewer : (xs copies new : List Entry) (n : ℕ) (e f : Entry) → n ≡ length copies → ◌≡◌ {A = Option Entry} (Some e) (slice_get xs n) → new ≡ copies ++ f ∷ []
+    → length xs - length new < length xs - length copies
+copied_fewer xs copies new n e f at found is =
+    let within = slice_get_within xs (length copies) e (ap (slice_get xs) (sym at) ∙ sym found) in
+    let more : length new ≡ length copies + 1 = ap (λ (ys : List Entry). length ys) is ∙ length_push copies f in
+    omega (arith, within, more)
+
+-- ---- the lengths of the parts, one by one
+
+lengths_push : (ps : List Part) (p : Part) → map part_length (ps ++ p ∷ []) ≡ map part_length ps ++ part_length p ∷ []
+lengths_push [] p = refl
+lengths_push (q ∷ ps) p = ap (λ (ns : List ℕ). part_length q ∷ ns) (lengths_push ps p)
+
+pub lengths_more : (ps : List Part) (i : ℕ) (d p : Part) (ns new : List ℕ) (n : ℕ) → i < length ps → p ≡ get_or ps i d → ns ≡ map part_length (take i ps) → n ≡ part_length p → new ≡ ns ++ n ∷ []
+    → new ≡ map part_length (take (i + 1) ps)
+lengths_more ps i d p ns new n lt there h at is =
+    is ∙ ap (λ (ms : List ℕ). ms ++ n ∷ []) h ∙ ap (λ (m : ℕ). map part_length (take i ps) ++ m ∷ []) (at ∙ ap part_length there) ∙ sym (lengths_push (take i ps) (get_or ps i d))
+    ∙ ap (map part_length) (sym (take_more ps i d lt))
+
+pub lengths_all : (ps : List Part) (i : ℕ) (ns : List ℕ) → length ps ≤ i → ns ≡ map part_length (take i ps) → ns ≡ map part_length ps
+lengths_all ps i ns past h = h ∙ ap (map part_length) (take_all i ps past)
+
+-- ---- and the parts themselves
+
+pub parts_more : (ls : List ℕ) (es xs : List Entry) (i : ℕ) (ps new : List Part) → i < length ls → ps ≡ take i (all_here ls es) → xs ≡ entries_in ls es i → new ≡ ps ++ part.Here xs ∷ []
+    → new ≡ take (i + 1) (all_here ls es)
+parts_more ls es xs i ps new lt h at is =
+    is ∙ ap (λ (qs : List Part). qs ++ part.Here xs ∷ []) h ∙ ap (λ (ys : List Entry). take i (all_here ls es) ++ part.Here ys ∷ []) at ∙ sym (part_more ls es i lt)

@@ -1,6 +1,6 @@
 -- What is kept where a ledger moves, and where one is read.
-use Rattle.std.proofs.Common.{◌≡◌, ◌≢◌, ◌⊎◌, ◌++◌, ◌^◌, [], ℕ, zero, suc, ◌<◌, ◌==◌, Bool, true, false, List, ◌∷◌, length, get_or, inl, inr, refl, sym, ap, subst, ◌∙◌, arith}
-use Rattle.std.specs.Prelude.{Option, Some, None, IfSome, not, if◌then◌else◌, slice_get, slice_set}
+use Rattle.std.proofs.Common.{◌≡◌, ◌≢◌, ◌⊎◌, ◌++◌, ◌^◌, [], ℕ, zero, suc, ◌<◌, ◌==◌, nat_lt, Bool, true, false, List, ◌∷◌, length, get_or, inl, inr, refl, sym, ap, subst, ◌∙◌, arith}
+use Rattle.std.specs.Prelude.{Option, Some, None, Result, Err, IfSome, not, if◌then◌else◌, slice_get, slice_set}
 use Rattle.std.proofs.lemmas.Bool.Decides.{nat_tests}
 use Rattle.std.proofs.lemmas.Option.{slice_get_read}
 use Rattle.geo_base.specs.declared.entry.Entry.{Entry}
@@ -12,7 +12,9 @@ use Rattle.tier_store.specs.Kept.{IsRead, Kept, KeepsAll, KeepsOthers, MayPut, P
 use Rattle.tiered_ledger.specs.declared.part.Part.{Part}
 use Rattle.tiered_ledger.specs.declared.part.Part.TheVariants as part
 use Rattle.tiered_ledger.specs.declared.part.Recalled.{Recalled}
-use Rattle.tiered_ledger.specs.Calls.{is_ledger}
+use Rattle.tiered_ledger.specs.declared.fault.OffloadFault.{OffloadFault}
+use Rattle.tiered_ledger.specs.declared.fault.OffloadFault.TheVariants as fault
+use Rattle.tiered_ledger.specs.Calls.{Comes, fault_of, is_ledger}
 use Rattle.tiered_ledger.specs.Ledgers.{entries_in}
 use Rattle.tiered_ledger.proofs.Cutting.{ledger_short}
 use Rattle.tiered_ledger.specs.Tiered.{Holds, IsKept, IsPart, Tiered}
@@ -172,3 +174,38 @@ pub last_read : (k : ℕ) (ls : List ℕ) (es : List Entry) (o : Option Recalled
     → ◌≡◌ {A = Option Recalled} (Some (read_last k (entries_in ls es k))) (if not (is_ledger k o) then Some (read_last k (entries_in ls es k)) else o)
 last_read k ls es None h = refl
 last_read k ls es (Some r) h = last_by k ls es r (r.ledger == k) refl h
+
+pub last_there : (k : ℕ) (ls : List ℕ) (es : List Entry) (o : Option Recalled) → is_ledger k o ≡ true → IfSome o (λ r. r.entries ≡ entries_in ls es r.ledger)
+    → o ≡ Some (read_last k (entries_in ls es k))
+last_there k ls es None t h = absurd (cc)
+last_there k ls es (Some r) t h =
+    let same : r.ledger ≡ k = grind (arith, nat_tests, t) in
+    ap (λ (q : Recalled). Some q) (sym (last_is r k (entries_in ls es k) same (h ∙ ap (entries_in ls es) same)))
+
+-- the one that was read last stays where only the tier changes
+pub recalled_still : {T : Type 0} (old new : Tiered T) → new ≡ record old { tier = new.tier } → new ≡ record old { recalled = new.recalled; tier = new.tier }
+recalled_still {T} old new h = h ∙ ap (λ (o : Option Recalled). record old { recalled = o; tier = new.tier }) (sym (ap (λ (v : Tiered T). v.recalled) h))
+
+-- ---- which fault comes
+
+pub unknown_comes : (u l : ℕ) → u < l → Comes (fault_of u l) (Err (fault.Unknown l))
+unknown_comes u l h = let over : nat_lt u l ≡ true = grind (arith, nat_tests, h) in rw over refl
+
+pub open_comes : (u l : ℕ) → l ≡ u → Comes (fault_of u l) (Err (fault.Open l))
+open_comes u l h =
+    let under : nat_lt u l ≡ false = grind (arith, nat_tests, h) in
+    let same : (l == u) ≡ true = grind (arith, nat_tests, h) in
+    rw (under, same) refl
+
+pub closed_comes : (u l : ℕ) (r : Result (Unit {0}) OffloadFault) → l < u → Comes None r → Comes (fault_of u l) r
+closed_comes u l r h other =
+    let under : nat_lt u l ≡ false = grind (arith, nat_tests, h) in
+    let apart : (l == u) ≡ false = grind (arith, nat_tests, h) in
+    rw (under, apart) other
+
+-- ---- a part that is set to what it is
+
+pub set_same : (ps : List Part) (k : ℕ) (v : Part) → slice_get ps k ≡ Some v → slice_set ps k v ≡ ps
+set_same [] k v h = refl
+set_same (p ∷ ps) zero v h = ap (λ (q : Part). q ∷ ps) (sym (some_part p v h))
+set_same (p ∷ ps) (suc k) v h = ap (λ (qs : List Part). p ∷ qs) (set_same ps k v h)

@@ -13,7 +13,6 @@ use std::alloc::Global;
 use topic_ledger::firsts;
 
 /// All ledgers of a store, each with copies of its entries. An `Err` is want of memory.
-#[tactic(auto, using(crate::proofs::Cutting::part_more, crate::proofs::Cutting::parts_many))]
 pub fn parts_of<S: EntryStore>(alloc: Global, store: &S) -> Result<Vec<Part>, Memory>
     ensures { IfOk result (λ v. v.items ≡ all_here (S.ledgers store.now) (S.entries store.now)) }
 {

@@ -19,6 +19,7 @@ use Rattle.world_kept.specs.Standing.{Stands}
 use Rattle.world.specs.declared.fault.RunFault.{RunFault}
 use Rattle.world.specs.declared.fault.RunFault.TheVariants as fault
 use Rattle.world.specs.Runs.{Comes, at_world}
+use Rattle.world.specs.Settling.{settled_by}
 use Rattle.world.specs.Steps.{Leads}
 use Rattle.world.specs.World.{IsAt, SameWorld, WorldBook, kept_of}
 use Rattle.world.proofs.ManySteps.{reaches, stays}
@@ -51,6 +52,14 @@ stopping_comes s old new w r stands leads err = stop_comes s old new w step.Stop
 
 pub same_both : (old mid new : WorldBook) → SameWorld old mid → SameWorld mid new → SameWorld old new
 same_both old mid new h k = record { kept = k.kept ∙ h.kept; nodes = λ s there. k.nodes s (h.nodes s there) }
+
+pub err_both : (old mid new : WorldBook) (r : Answer) → SameWorld old mid → OnErr r (SameWorld mid new) → OnErr r (SameWorld old new)
+err_both old mid new (Ok u) h k = tt
+err_both old mid new (Err f) h k = same_both old mid new h k
+
+pub settles_past : (s : Setup) (old mid new : WorldBook) (w : World) (e : Event) (r : Answer) → SameWorld old mid → Stands s (kept_of old) w
+    → (Stands s (kept_of mid) w → Leads s mid new (settled_by s w e) r) → Leads s old new (settled_by s w e) r
+settles_past s old mid new w e r same stands leads = let on = leads (stands_same s old mid w same stands) in record { done = on.done; large = on.large }
 
 -- ---- the lines of a step, where it comes to its end
 

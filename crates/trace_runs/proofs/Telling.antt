@@ -24,7 +24,7 @@ use Rattle.broker.proofs.Ready.{idle_is}
 use Rattle.broker.specs.Node.{BrokerBook}
 use Rattle.broker_state.specs.Fits.{PlanFits}
 use Rattle.broker_state.specs.Plan.{PlanBook, plan_in as book_plan}
-use Rattle.trace_events.specs.Writes.{lines_of, naming}
+use Rattle.trace_events.specs.Writes.{ReadsWithin, lines_of, naming}
 use Rattle.script_text.specs.Scenario.{IsEvent}
 use Rattle.world.specs.declared.fault.RunFault.{RunFault}
 use Rattle.world.specs.declared.fault.RunFault.TheVariants as fault
@@ -233,6 +233,9 @@ IsWant r = ⊥
 pub comes_wants : {T : Type 0} (s : Setup) (new : WorldBook) (r : Ran) → Comes {T = T} s new r (Err fault.Memory)
 comes_wants {T} s new r = record { done = tt; large = λ n is. absurd (subst (λ (a : Result T RunFault). IsWant a) is tt) }
 
+pub leads_wants : (s : Setup) (old new : WorldBook) (v : World) → Leads s old new v (Err fault.Memory)
+leads_wants s old new v = record { done = tt; large = λ n is. absurd (subst (λ (a : Result (Unit {0}) RunFault). IsWant a) is tt) }
+
 pub always : {E : Type 0} (X : Type 0) (r : Result (Unit {0}) E) → X → OnOk r X
 always {E} X (Ok u) x = x
 always {E} X (Err f) x = tt
@@ -249,6 +252,25 @@ there s e nodes place u at is = is ∙ ap (λ (a : Place). node_at nodes (node s
 
 pub foreseen_there : (s : Setup) (w : World) (e : Event) (u v : BrokerBook) (p : PlanBook) → u ≡ v → IsForeseen s w e v p → IsForeseen s w e u p
 foreseen_there s w e u v p is f = subst (λ (z : BrokerBook). IsForeseen s w e z p) (sym is) f
+
+reads_in : (s : Setup) (e : Event) (h : Site) → length h.clusters ≡ length s.clusters → IsEvent s e → ReadsWithin h e
+reads_in s (event.Read t x y) h many here = rw many here.target_in
+reads_in s (event.Serve x c) h many here = tt
+reads_in s (event.Drop x c) h many here = tt
+reads_in s (event.Reset t x y) h many here = tt
+reads_in s (event.Take t x y f) h many here = tt
+reads_in s (event.Receipt t x y f) h many here = tt
+reads_in s (event.Snap t x) h many here = tt
+reads_in s (event.Offer t x n) h many here = tt
+reads_in s (event.Seek t x n to) h many here = tt
+reads_in s (event.Restart t x) h many here = tt
+reads_in s (event.Go c) h many here = tt
+reads_in s (event.Get c) h many here = tt
+reads_in s (event.Reconnect c) h many here = tt
+
+-- a read there goes to one of its clusters
+pub reads_there : (s : Setup) (w : World) (e : Event) (v : BrokerBook) (p : PlanBook) → IsForeseen s w e v p → IsEvent s e → ReadsWithin v.site e
+reads_there s w e v p f here = reads_in s e v.site (ap (λ (h : Site). length h.clusters) f.node.site) here
 
 pub fits_there : (s : Setup) (w : World) (e : Event) (v : BrokerBook) (p : PlanBook) → IsForeseen s w e v p → PlanFits v.site.per_ledger v.broker p
 fits_there s w e v p f = f.prepared.fits

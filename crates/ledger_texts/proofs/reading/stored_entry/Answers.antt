@@ -10,7 +10,7 @@ given m = Ok m
 
 pub returns-in_err-meta : goal.returns-in_err-meta
 returns-in_err-meta c = λ own e h o m p.
-    let r = err_from_is_err_and c.from_residual.result c.from_residual.ensures.1 in
+    let r = err_from_is_err_and c.from_residual-in_err-meta.result c.from_residual-in_err-meta.ensures.1 in
     let n : Metadata = stated c.args.names.now own e h in
     rw (r.1, r.2) (fails_alike c.in_err-meta.field-0.0 (given n) n (given_entry e) refl (c.in_err-meta.ensures n (stated_in c.args.names.now own e c.args.metadata.now h m)))
 

@@ -1,5 +1,6 @@
+use Rattle.std.proofs.Common.{arith}
 use Rattle.std.proofs.lemmas.Result.{err_from_is_err_and}
-use Rattle.state_brokers.proofs.EntryExits.{entry_ends, entry_more}
+use Rattle.state_brokers.proofs.EntryExits.{entries_done, entry_ends, entry_more}
 use Rattle.state_brokers.proofs.entries.entries_at.Goals as goal
 
 pub returns-in_err-entry : goal.returns-in_err-entry
@@ -10,3 +11,7 @@ returns-in_err-entry c =
 pub loop-preserved : goal.loop-preserved
 loop-preserved c =
     entry_more c.args.names.now c.args.own c.args.count c.loop.counter c.loop.book c.push.new.self c.loop.rest.now c.in_ok-entry.after.now c.args.bytes.now c.in_ok-entry.entry c.loop-test.true c.in_ok-push.ensures c.in_ok-entry.ensures.told c.loop.invariant
+
+pub returns : goal.returns
+returns c =
+    entries_done c.args.names.now c.args.own c.args.count c.loop.counter c.loop.book c.into_entries.result.items c.loop.rest.now c.args.bytes.now (omega (arith, c.loop-test.false)) c.into_entries.ensures c.loop.invariant

@@ -1,7 +1,7 @@
-use Rattle.std.proofs.Common.{[]}
+use Rattle.std.proofs.Common.{[], arith}
 use Rattle.std.proofs.lemmas.Result.{err_from_is_err_and}
 use Rattle.state_items.specs.Reading.{many}
-use Rattle.state_items.proofs.Loops.{ends, goes_on}
+use Rattle.state_items.proofs.Loops.{ends, goes_on, is_done}
 use Rattle.state_brokers.specs.Ledgers.{length_at}
 use Rattle.state_brokers.proofs.ledgers.counted_ledgers.Goals as goal
 
@@ -15,3 +15,8 @@ pub loop-preserved : goal.loop-preserved
 loop-preserved c =
     let one = length_at c.args.per_ledger in
     goes_on one c.args.count c.loop.counter c.loop.lengths.items c.push.new.self.items c.loop.rest.now c.in_ok-length.length c.in_ok-length.after.now (many one c.args.count [] c.args.bytes.now) c.loop-test.true c.in_ok-push.ensures.items c.in_ok-length.ensures c.loop.invariant
+
+pub returns : goal.returns
+returns c =
+    let one = length_at c.args.per_ledger in
+    is_done one c.args.count c.loop.counter c.loop.lengths.items c.loop.rest.now (many one c.args.count [] c.args.bytes.now) (omega (arith, c.loop-test.false)) c.loop.invariant

@@ -1,8 +1,15 @@
 use Rattle.std.proofs.Common.{◌∙◌, arith}
 use Rattle.std.proofs.lemmas.List.{take_all}
 use Rattle.tiered_ledger.specs.Tiered.{all_here}
-use Rattle.tiered_ledger.proofs.Cutting.{parts_many}
+use Rattle.tiered_ledger.proofs.Cutting.{parts_many, parts_more}
 use Rattle.tiered_ledger.proofs.cut.parts_of.Goals as goal
+
+pub loop-ledger-preserved : goal.loop-ledger-preserved
+loop-ledger-preserved g c =
+    let test = c.loop-ledger-test.true in
+    let end = c.ledgers-ledger-end.ensures in
+    parts_more (g.S.EntryStore.ledgers c.args.store.now) (g.S.EntryStore.entries c.args.store.now) c.in_ok-entries.entries c.loop-ledger.ledger c.loop-ledger.parts.items c.push.new.self.items
+    (omega (arith, test, end)) c.loop-ledger.invariant c.in_ok-entries.ensures c.in_ok-push.ensures.items
 
 pub returns : goal.returns
 returns g c =

@@ -7,4 +7,4 @@ use Rattle.state_brokers.proofs.book.EntryBook.push.Goals as goal
 pub invariant_of-self-2 : goal.invariant_of-self-2
 invariant_of-self-2 c =
     let next = subst (λ (v : EntryList). is_next v.own v.entries c.args.entry.ident ≡ true) (sym c.self.view_is) c.requires in
-    push_kept c.self.inside.own c.self.inside.entries.items c.reserve-2.new.self.items c.push_reserved.new.self.items c.args.entry c.self.inside.dedup.rows c.reserve.new.self.rows c.note.new.self _ c.in_ok-stream.stream c.self.inside.last c.last_with-last.result c.is_own_marker.result c.self.invariant.0 c.self.invariant.1 next c.in_ok-reserve.ensures.rows c.in_ok-stream.ensures c.note.ensures c.in_ok-reserve-2.ensures.items c.push_reserved.ensures.items c.is_own_marker.ensures c.last_with-last.ensures
+    push_kept c.self.inside.own c.self.inside.entries.items c.room_for_one.new.entries.items c.push_reserved.new.self.items c.args.entry c.self.inside.dedup.rows c.room_for_one.new.dedup.rows c.note.new.self _ c.in-Ok.stream c.self.inside.last c.last_with-last.result c.is_own_marker.result c.self.invariant.0 c.self.invariant.1 next c.room_for_one.ensures.rows c.in-Ok.ensures c.note.ensures c.room_for_one.ensures.items c.push_reserved.ensures.items c.is_own_marker.ensures c.last_with-last.ensures

@@ -1,4 +1,4 @@
-use Rattle.std.proofs.Common.{◌≡◌, List, Ok, Err, subst, sym, ◌∙◌}
+use Rattle.std.proofs.Common.{◌≡◌, List, Ok, Err, inr, refl, subst, sym, ◌∙◌}
 use Rattle.std.specs.Prelude.{Some, slice_get}
 use Rattle.geo_base.specs.declared.entry.Entry.{Entry}
 use Rattle.state_items.specs.declared.fault.Broken.{Broken}
@@ -6,6 +6,8 @@ use Rattle.state_items.specs.Reading.{Answer}
 use Rattle.topic_ledger.specs.Firsts.{lengths_of}
 use Rattle.tier_store.specs.declared.tier.Held.TheVariants as held
 use Rattle.tiered_ledger.specs.declared.part.Part.TheVariants as part
+use Rattle.geo_io.specs.Faults.{one_more}
+use Rattle.tiered_ledger.specs.Calls.{AtMostOne}
 use Rattle.tiered_ledger.specs.Ledgers.{entries_in}
 use Rattle.tiered_ledger.specs.Tiered.{Holds, Tiered}
 use Rattle.tiered_ledger.proofs.Keeping.{got_text, kept_still, read_with}
@@ -66,3 +68,34 @@ unreachable-requires-in-No g c =
     let not : c.in_ok-get.field-0 ≡ held.No = c.in-No.is in
     let yes : c.in_ok-get.field-0 ≡ held.Yes = got.0 in
     cc
+
+pub returns-in_err-get-clause-counted : goal.returns-in_err-get-clause-counted
+returns-in_err-get-clause-counted g c =
+    subst (λ (v : Tiered g.row.T.Denot). AtMostOne (g.T.Tier.calls v.tier) (g.T.Tier.calls c.get.new.self)) c.self.view_is (inr c.get.ensures.counted)
+
+pub returns-in_err-get-clause-value : goal.returns-in_err-get-clause-value
+returns-in_err-get-clause-value g c =
+    let t : Tiered g.row.T.Denot = record { own = c.self.inside.own; ledgers = lengths_of c.self.inside.firsts.items c.self.inside.len; unclosed = c.self.inside.unclosed; parts = c.self.inside.parts.items; recalled = c.self.inside.recalled; tier = c.self.inside.tier } in
+    subst (λ (v : Tiered g.row.T.Denot). ◌≡◌ {A = Tiered g.row.T.Denot} (record t { tier = c.get.new.self }) (record v { tier = c.get.new.self })) c.self.view_is refl
+
+pub returns-in-Ok-clause-counted : goal.returns-in-Ok-clause-counted
+returns-in-Ok-clause-counted g c =
+    subst (λ (v : Tiered g.row.T.Denot). AtMostOne (g.T.Tier.calls v.tier) (g.T.Tier.calls c.get.new.self)) c.self.view_is (inr c.get.ensures.counted)
+
+pub returns-in-Ok-clause-value : goal.returns-in-Ok-clause-value
+returns-in-Ok-clause-value g c =
+    let t : Tiered g.row.T.Denot = record { own = c.self.inside.own; ledgers = lengths_of c.self.inside.firsts.items c.self.inside.len; unclosed = c.self.inside.unclosed; parts = c.self.inside.parts.items; recalled = c.self.inside.recalled; tier = c.self.inside.tier } in
+    subst (λ (v : Tiered g.row.T.Denot). ◌≡◌ {A = Tiered g.row.T.Denot} (record t { tier = c.get.new.self }) (record v { tier = c.get.new.self })) c.self.view_is refl
+
+pub returns-in-Err-Memory-clause-counted : goal.returns-in-Err-Memory-clause-counted
+returns-in-Err-Memory-clause-counted g c =
+    subst (λ (v : Tiered g.row.T.Denot). AtMostOne (g.T.Tier.calls v.tier) (g.T.Tier.calls c.get.new.self)) c.self.view_is (inr c.get.ensures.counted)
+
+pub returns-in-Err-Memory-clause-value : goal.returns-in-Err-Memory-clause-value
+returns-in-Err-Memory-clause-value g c =
+    let t : Tiered g.row.T.Denot = record { own = c.self.inside.own; ledgers = lengths_of c.self.inside.firsts.items c.self.inside.len; unclosed = c.self.inside.unclosed; parts = c.self.inside.parts.items; recalled = c.self.inside.recalled; tier = c.self.inside.tier } in
+    subst (λ (v : Tiered g.row.T.Denot). ◌≡◌ {A = Tiered g.row.T.Denot} (record t { tier = c.get.new.self }) (record v { tier = c.get.new.self })) c.self.view_is refl
+
+pub returns-in-Ok-clause-calls : goal.returns-in-Ok-clause-calls
+returns-in-Ok-clause-calls g c =
+    subst (λ (v : Tiered g.row.T.Denot). g.T.Tier.calls c.get.new.self ≡ one_more (g.T.Tier.calls v.tier)) c.self.view_is c.get.ensures.counted

@@ -1,8 +1,10 @@
-use Rattle.std.proofs.Common.{sym, ◌∙◌}
+use Rattle.std.proofs.Common.{ap, sym, ◌∙◌}
+use Rattle.world.specs.declared.place.Place.{Place}
 use Rattle.world.specs.World.{node_at}
+use Rattle.world.proofs.Places.{cluster_below, topic_below}
 use Rattle.world_kept.specs.Events.{node_of}
 use Rattle.trace_runs.proofs.Knowing.{knows_there, same_known, seen_there}
-use Rattle.trace_runs.proofs.Telling.{event_told, events_are, fits_there, foreseen_there, idle_told, on_ok, there}
+use Rattle.trace_runs.proofs.Telling.{event_told, events_are, fits_there, foreseen_there, idle_told, next_fits, on_ok, reads_there, there}
 use Rattle.trace_runs.proofs.trace.Trace.foretell.Goals as goal
 
 pub returns-then-is_idle-clause-told : goal.returns-then-is_idle-clause-told
@@ -49,3 +51,31 @@ returns-clause-tables c =
     (λ seen. same_known s c.tell.new.self.telling.snapshots c.args.world.now c.foresee.new.self c.foresee.ensures.same
     (seen_there s c.args.self.now.telling.snapshots c.tell.new.self.telling.snapshots c.args.world.now h.world e u c.foresee.new.plan h.stands f c.requires.tables seen))
     c.tell.ensures.seen
+
+pub foresee-requires : goal.foresee-requires
+foresee-requires c = record { at = c.requires.at; broker = c.requires.broker; scripted = c.requires.scripted; empty = c.clear.ensures }
+
+pub topic-node-requires : goal.topic-node-requires
+topic-node-requires c =
+    let s = c.args.scenario.now.setup in let e = c.args.event.now in
+    record {
+      nodes = c.foresee.ensures.at.nodes;
+      topic = topic_below s c.args.world.now e c.in_ok-place.place.topic c.requires.at c.requires.broker c.requires.scripted (ap (λ (p : Place). p.topic) c.in_ok-place.ensures.place);
+      cluster = cluster_below s e c.in_ok-place.place.cluster c.requires.broker c.requires.scripted (ap (λ (p : Place). p.cluster) c.in_ok-place.ensures.place);
+    }
+
+pub tell-requires-clause-count : goal.tell-requires-clause-count
+tell-requires-clause-count c = rw c.events-events.ensures.events (next_fits c.foresee.new.self c.foresee.ensures.at.within)
+
+pub tell-requires-clause-read : goal.tell-requires-clause-read
+tell-requires-clause-read c =
+    let s = c.args.scenario.now.setup in let e = c.args.event.now in let nodes = c.foresee.new.self.nodes in let u = c.topic-node.result.now in
+    let is = there s e nodes c.in_ok-place.place u c.in_ok-place.ensures.place c.topic-node.ensures in
+    let h = c.requires.at in
+    reads_there s h.world e u c.foresee.new.plan (foreseen_there s h.world e u (node_at nodes (node_of s e)) c.foresee.new.plan is (c.in_ok-place.ensures.foreseen h.world h.reached h.stands)) c.requires.scripted
+
+pub returns-clause-at : goal.returns-clause-at
+returns-clause-at c = c.foresee.ensures.at
+
+pub returns-clause-same : goal.returns-clause-same
+returns-clause-same c = c.foresee.ensures.same
