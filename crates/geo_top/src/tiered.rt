@@ -2,17 +2,23 @@
 //!
 //! Each part appends its lines to those before it. Where a part wants memory, it is left open what it appended, since the whole
 //! is given up then.
-ghost use Rattle.std.specs.Prelude.{◌≡◌, ◌<◌, ◌++◌, [], length, slice_index_or, IfOk, OnOk};
-ghost use Rattle.geo_base.specs.Report.{with_line_feeds};
+ghost use Rattle.std.specs.Prelude.{◌≡◌, ◌<◌, ◌≤◌, ◌++◌, ◌∷◌, [], length, slice_index_or, IfOk, OnOk};
+ghost use Rattle.geo_base.specs.Report.{entry_lines, with_line_feeds};
 ghost use Rattle.geo_top.specs.Shown.{shown_world};
 ghost use Rattle.geo_top.specs.Tiered.{AreTopicsTellable, tiered, tiers_at, tiers_of};
+ghost use Rattle.report_tiers.specs.Tiers.{moved_line};
+ghost use Rattle.tier_store.specs.Kept.{kept_in};
+ghost use Rattle.tiered_ledger.specs.Calls.{offloaded};
+ghost use Rattle.tiered_ledger.specs.Tiered.{Holds};
 ghost use Rattle.world.specs.World.{IsAt};
 
-use geo_base::{Blob, Memory};
+use geo_base::limits::CLUSTERS;
+use geo_base::{Blob, ClusterName, Memory};
 use report_lines::add;
-use report_tiers::{add_read_entries, moved_line, moved_to_tier};
+use report_tiers::{TieredTopic, add_read_entries, moved_line, moved_to_tier};
 use script_text::Scenario;
 use std::alloc::Global;
+use topic_ledger::TopicLedger;
 use world::World;
 
 /// Of each topic at each cluster of a world, how many of its closed ledgers moved to a tier of its own (all but the last `keep`) and
@@ -69,11 +75,37 @@ fn add_topic(
     for (number, cluster) in clusters.iter().enumerate() {
         let store = world.topic(scenario, topic, number as u32).store();
         let mut moved = moved_to_tier(alloc, clusters, number as u32, store, keep)?;
-        add(
+        let added = add_moved(
+            alloc,
             lines,
-            moved_line(alloc, name, cluster.as_str(), moved.offloaded())?,
-        )?;
-        add_read_entries(alloc, lines, clusters, store, &mut moved)?;
+            clusters,
+            name,
+            cluster.as_str(),
+            store,
+            &mut moved,
+        );
+        drop(moved);
+        added?;
     }
     Ok(())
+}
+
+/// A topic at a cluster, each by its name, of which ledgers moved.
+fn add_moved(
+    alloc: Global,
+    lines: &mut Blob,
+    clusters: &[ClusterName],
+    name: &str,
+    cluster: &str,
+    store: &TopicLedger,
+    moved: &mut TieredTopic,
+) -> Result<(), Memory>
+    requires few { length clusters.now ≤ CLUSTERS }
+    requires holds { Holds clusters.now kept_in store.now.entries moved.old }
+    ensures { OnOk result (lines.new ≡ (lines.old ++ (moved_line name.now cluster.now (offloaded moved.old) ++ 10 ∷ []))
+        ++ with_line_feeds (entry_lines clusters.now store.now.ledgers 0 store.now.entries)) }
+{
+    let line = moved_line(alloc, name, cluster, moved.offloaded())?;
+    add(lines, line)?;
+    add_read_entries(alloc, lines, clusters, store, moved)
 }

@@ -109,12 +109,6 @@ committed_is s v w y p q is same broker without committed =
 
 -- ---- the ways out
 
-pub can_node : (v : BrokerBook) (e : Event) (r : Bool) → (IsTrue r ↔ CanHappen v e) → r ≡ true → IsOfNode v e
-can_node v e r is so = (is.0 so).node
-
-pub can_numbers : (v : BrokerBook) (e : Event) (r : Bool) → (IsTrue r ↔ CanHappen v e) → r ≡ true → NumbersRise v e
-can_numbers v e r is so = (is.0 so).numbers
-
 own_of : (s : Setup) (v : BrokerBook) (e : Event) {E : Type 0} (h : List (ByteEvent WirePacket)) (k : ℕ) (rs : List (EndRow E)) → BookHolds s (kept.Broker v) h k rs → IsAtBroker s v.topic v.site.own e → IsOwn s (BrokerNode v.topic v.site.own) e
 own_of s v e h k rs holds at = own_at s v.topic v.site.own e holds.there at
 
@@ -167,65 +161,65 @@ seen_of s v h k rs e o n p q idle outs holds at can looked without is_idle are =
     (subst (λ (b : Bool). IsSeen s (BrokerState v.broker) e o n b p.sent (BrokerState (done s.per_ledger v.broker (plan_in v.broker p)))) (sym (is_idle ∙ ap (λ (a : PlanBook). a.idle) without))
     (seen_broker s v e o n p holds.state.0 can.node (of_topic s v.topic v.site.own e at) looked))
 
-pub broker_goes : {E : Type 0} (s : Setup) (v : BrokerBook) (h : List (ByteEvent WirePacket)) (k : ℕ) (rs rs1 : List (EndRow E)) (e : Event) (shown : E → Option WirePacket) (from : Option Peer) (n : ℕ) (p q : PlanBook) (idle : Bool) (outs : List WireOut) (a r : Bool)
-    → BookHolds s (kept.Broker v) h k rs → (IsTrue a ↔ IsAtBroker s v.topic v.site.own e) → a ≡ true → (IsTrue r ↔ CanHappen v e) → r ≡ true → ((b : Broker) → from ≡ takes_from (BrokerState b) e)
+pub broker_goes : {E : Type 0} (s : Setup) (v : BrokerBook) (h : List (ByteEvent WirePacket)) (k : ℕ) (rs rs1 : List (EndRow E)) (e : Event) (shown : E → Option WirePacket) (from : Option Peer) (n : ℕ) (p q : PlanBook) (idle : Bool) (outs : List WireOut)
+    → BookHolds s (kept.Broker v) h k rs → IsAtBroker s v.topic v.site.own e → CanHappen v e → ((b : Broker) → from ≡ takes_from (BrokerState b) e)
     → IsLooked v e (shown_for shown rs1 from) n p → SamePeers rs rs1 → q ≡ record p { sent = [] } → idle ≡ q.idle → outs ≡ p.sent → idle ≡ false → GoToPeers rs1 outs
-broker_goes s v h k rs rs1 e shown from n p q idle outs a r holds at here can may takes looked peers without is_idle are enabled =
-    go_to_peers s (kept.Broker v) h k rs rs1 e shown from n idle outs (BrokerState (done s.per_ledger v.broker (plan_in v.broker p))) holds peers (own_of s v e h k rs holds (at.0 here)) (takes v.broker)
-    (seen_of s v h k rs e (shown_for shown rs1 from) n p q idle outs holds (at.0 here) (can.0 may) looked without is_idle are) enabled
+broker_goes s v h k rs rs1 e shown from n p q idle outs holds at can takes looked peers without is_idle are enabled =
+    go_to_peers s (kept.Broker v) h k rs rs1 e shown from n idle outs (BrokerState (done s.per_ledger v.broker (plan_in v.broker p))) holds peers (own_of s v e h k rs holds at) (takes v.broker)
+    (seen_of s v h k rs e (shown_for shown rs1 from) n p q idle outs holds at can looked without is_idle are) enabled
 
 pub broker_held : {E : Type 0} (sc : Script) (v w : BrokerBook) (h h' : List (ByteEvent WirePacket)) (k k' : ℕ) (e : Event) (sent_in taken_in : E → List WirePacket) (shown : E → Option WirePacket) (free looks : E → ℕ)
-    (from : Option Peer) (n : ℕ) (p q : PlanBook) (idle : Bool) (outs : List WireOut) (rs rs1 rs2 : List (EndRow E)) (a r : Bool) (o : Option ReadyPackets)
-    → BookHolds sc.setup (kept.Broker v) h k rs → (IsTrue a ↔ IsAtBroker sc.setup v.topic v.site.own e) → a ≡ true → (IsTrue r ↔ CanHappen v e) → r ≡ true → ((b : Broker) → from ≡ takes_from (BrokerState b) e)
+    (from : Option Peer) (n : ℕ) (p q : PlanBook) (idle : Bool) (outs : List WireOut) (rs rs1 rs2 : List (EndRow E)) (o : Option ReadyPackets)
+    → BookHolds sc.setup (kept.Broker v) h k rs → IsAtBroker sc.setup v.topic v.site.own e → CanHappen v e → ((b : Broker) → from ≡ takes_from (BrokerState b) e)
     → IsLooked v e (shown_for shown rs1 from) n p → w.broker ≡ v.broker → SameNode v w → LookedFor looks rs rs1 from → LooksRise looks rs rs1 → SameSends sent_in free rs rs1 → SameTaken taken_in rs rs1
     → q ≡ record p { sent = [] } → idle ≡ q.idle → outs ≡ p.sent → o ≡ None → IfNone o (MayNotJoin free looks idle (max k n) outs rs1 rs2)
     → SameSends sent_in free rs1 rs2 → SameTakes taken_in shown rs1 rs2 → h' ≡ h → k' ≡ k
     → IsHeld shown free looks e (book_at sc (kept.Broker v) h k rs) (book_at sc (kept.Broker w) h' k' rs2) × SameBook sent_in taken_in (book_at sc (kept.Broker v) h k rs) (book_at sc (kept.Broker w) h' k' rs2)
-broker_held sc v w h h' k k' e sent_in taken_in shown free looks from n p q idle outs rs rs1 rs2 a r o holds at here can may takes looked broker same looks1 rise sends taken without is_idle are none unready sends2 takes2 history clock = (
+broker_held sc v w h h' k k' e sent_in taken_in shown free looks from n p q idle outs rs rs1 rs2 o holds at can takes looked broker same looks1 rise sends taken without is_idle are none unready sends2 takes2 history clock = (
   held_is sc (kept.Broker v) (kept.Broker w) h h' k k' e shown taken_in free looks from n idle outs (BrokerState (done sc.setup.per_ledger v.broker (plan_in v.broker p))) rs rs1 rs2 (takes v.broker)
-      (seen_of sc.setup v h k rs e (shown_for shown rs1 from) n p q idle outs holds (at.0 here) (can.0 may) looked without is_idle are)
+      (seen_of sc.setup v h k rs e (shown_for shown rs1 from) n p q idle outs holds at can looked without is_idle are)
       looks1 rise takes2 (subst (λ (u : Option ReadyPackets). IfNone u (MayNotJoin free looks idle (max k n) outs rs1 rs2)) none unready),
   broker_err_late sc v w h h' k k' sent_in taken_in free shown rs rs1 rs2 broker same sends taken sends2 takes2 history clock,
 )
 
 -- y is the broker after it, rs3 are the ends
 broker_acted : {E : Type 0} (sc : Script) (v w y : BrokerBook) (h h1 h2 : List (ByteEvent WirePacket)) (k k1 k2 : ℕ) (e : Event) (sent_in taken_in : E → List WirePacket) (shown : E → Option WirePacket) (free : E → ℕ) (fit : Packed → Type 0)
-    (from : Option Peer) (n : ℕ) (p q : PlanBook) (idle : Bool) (outs : List WireOut) (ready : ReadyPackets) (rs rs1 rs2 rs3 : List (EndRow E)) (a r : Bool) (o : Option ReadyPackets)
-    → BookHolds sc.setup (kept.Broker v) h k rs → (IsTrue a ↔ IsAtBroker sc.setup v.topic v.site.own e) → a ≡ true → (IsTrue r ↔ CanHappen v e) → r ≡ true → ((b : Broker) → from ≡ takes_from (BrokerState b) e)
+    (from : Option Peer) (n : ℕ) (p q : PlanBook) (idle : Bool) (outs : List WireOut) (ready : ReadyPackets) (rs rs1 rs2 rs3 : List (EndRow E)) (o : Option ReadyPackets)
+    → BookHolds sc.setup (kept.Broker v) h k rs → IsAtBroker sc.setup v.topic v.site.own e → CanHappen v e → ((b : Broker) → from ≡ takes_from (BrokerState b) e)
     → IsLooked v e (shown_for shown rs1 from) n p → w.broker ≡ v.broker → SameNode v w → SameSends sent_in free rs rs1 → SameTaken taken_in rs rs1
     → q ≡ record p { sent = [] } → idle ≡ q.idle → outs ≡ p.sent → o ≡ Some ready → IfSome o (λ u. MayJoin free fit idle (max k n) outs rs2 u)
     → SameSends sent_in free rs1 rs2 → SameTakes taken_in shown rs1 rs2 → h1 ≡ h → k1 ≡ k
     → y.broker ≡ done w.site.per_ledger w.broker (plan_in w.broker q) → SameNode w y → Finished shown sent_in taken_in e from ready h1 rs2 h2 rs3 → k2 ≡ ready.stamp
     → (acted : IsActed sent_in taken_in e (book_at sc (kept.Broker v) h k rs) (book_at sc (kept.Broker y) h2 k2 rs3)) × (acted.done.taken ≡ shown_for shown rs2 from)
-broker_acted sc v w y h h1 h2 k k1 k2 e sent_in taken_in shown free fit from n p q idle outs ready rs rs1 rs2 rs3 a r o holds at here can may takes looked broker same sends taken without is_idle are some join sends2 takes2 history clock committed then finished stamp =
+broker_acted sc v w y h h1 h2 k k1 k2 e sent_in taken_in shown free fit from n p q idle outs ready rs rs1 rs2 rs3 o holds at can takes looked broker same sends taken without is_idle are some join sends2 takes2 history clock committed then finished stamp =
     acted_is sc (kept.Broker v) (kept.Broker y) h h2 k k2 e shown sent_in taken_in free fit from n idle outs (BrokerState (done sc.setup.per_ledger v.broker (plan_in v.broker p))) ready rs rs1 rs2 rs3
-    (own_of sc.setup v e h k rs holds (at.0 here)) (numbers_fit sc.setup v e holds.state.0 (can.0 may).numbers) (takes v.broker)
-    (seen_of sc.setup v h k rs e (shown_for shown rs1 from) n p q idle outs holds (at.0 here) (can.0 may) looked without is_idle are)
+    (own_of sc.setup v e h k rs holds at) (numbers_fit sc.setup v e holds.state.0 can.numbers) (takes v.broker)
+    (seen_of sc.setup v h k rs e (shown_for shown rs1 from) n p q idle outs holds at can looked without is_idle are)
     sends.sent taken sends2.sent takes2 (subst (λ (u : Option ReadyPackets). IfSome u (λ t. MayJoin free fit idle (max k n) outs rs2 t)) some join)
     (subst (λ (ds : List (ByteEvent WirePacket)). Finished shown sent_in taken_in e from ready ds rs2 h2 rs3) history finished) stamp
     (same_node v y (same_twice v w y same then)) (committed_is sc.setup v w y p q holds.state.0 same broker without committed)
 
 pub broker_done : {E : Type 0} (sc : Script) (v w y : BrokerBook) (h h1 h2 : List (ByteEvent WirePacket)) (k k1 k2 : ℕ) (e : Event) (sent_in taken_in : E → List WirePacket) (shown : E → Option WirePacket) (free : E → ℕ) (fit : Packed → Type 0)
-    (from : Option Peer) (n : ℕ) (p q : PlanBook) (idle : Bool) (outs : List WireOut) (ready : ReadyPackets) (rs rs1 rs2 rs3 : List (EndRow E)) (a r : Bool) (o : Option ReadyPackets)
-    → BookHolds sc.setup (kept.Broker v) h k rs → (IsTrue a ↔ IsAtBroker sc.setup v.topic v.site.own e) → a ≡ true → (IsTrue r ↔ CanHappen v e) → r ≡ true → ((b : Broker) → from ≡ takes_from (BrokerState b) e)
+    (from : Option Peer) (n : ℕ) (p q : PlanBook) (idle : Bool) (outs : List WireOut) (ready : ReadyPackets) (rs rs1 rs2 rs3 : List (EndRow E)) (o : Option ReadyPackets)
+    → BookHolds sc.setup (kept.Broker v) h k rs → IsAtBroker sc.setup v.topic v.site.own e → CanHappen v e → ((b : Broker) → from ≡ takes_from (BrokerState b) e)
     → IsLooked v e (shown_for shown rs1 from) n p → w.broker ≡ v.broker → SameNode v w → SameSends sent_in free rs rs1 → SameTaken taken_in rs rs1
     → q ≡ record p { sent = [] } → idle ≡ q.idle → outs ≡ p.sent → o ≡ Some ready → IfSome o (λ u. MayJoin free fit idle (max k n) outs rs2 u)
     → SameSends sent_in free rs1 rs2 → SameTakes taken_in shown rs1 rs2 → h1 ≡ h → k1 ≡ k
     → y.broker ≡ done w.site.per_ledger w.broker (plan_in w.broker q) → SameNode w y → Finished shown sent_in taken_in e from ready h1 rs2 h2 rs3 → k2 ≡ ready.stamp
     → IsActed sent_in taken_in e (book_at sc (kept.Broker v) h k rs) (book_at sc (kept.Broker y) h2 k2 rs3)
-broker_done sc v w y h h1 h2 k k1 k2 e sent_in taken_in shown free fit from n p q idle outs ready rs rs1 rs2 rs3 a r o holds at here can may takes looked broker same sends taken without is_idle are some join sends2 takes2 history clock committed then finished stamp =
-    (broker_acted sc v w y h h1 h2 k k1 k2 e sent_in taken_in shown free fit from n p q idle outs ready rs rs1 rs2 rs3 a r o holds at here can may takes looked broker same sends taken without is_idle are some join sends2 takes2 history clock committed then finished stamp).0
+broker_done sc v w y h h1 h2 k k1 k2 e sent_in taken_in shown free fit from n p q idle outs ready rs rs1 rs2 rs3 o holds at can takes looked broker same sends taken without is_idle are some join sends2 takes2 history clock committed then finished stamp =
+    (broker_acted sc v w y h h1 h2 k k1 k2 e sent_in taken_in shown free fit from n p q idle outs ready rs rs1 rs2 rs3 o holds at can takes looked broker same sends taken without is_idle are some join sends2 takes2 history clock committed then finished stamp).0
 
 pub broker_grown : {E : Type 0} (sc : Script) (v w y : BrokerBook) (h h1 h2 : List (ByteEvent WirePacket)) (k k1 k2 : ℕ) (e : Event) (sent_in taken_in : E → List WirePacket) (shown : E → Option WirePacket) (free : E → ℕ) (fit : Packed → Type 0)
-    (from : Option Peer) (n : ℕ) (p q : PlanBook) (idle : Bool) (outs : List WireOut) (ready : ReadyPackets) (rs rs1 rs2 rs3 : List (EndRow E)) (a r : Bool) (o : Option ReadyPackets)
-    → BookHolds sc.setup (kept.Broker v) h k rs → (IsTrue a ↔ IsAtBroker sc.setup v.topic v.site.own e) → a ≡ true → (IsTrue r ↔ CanHappen v e) → r ≡ true → ((b : Broker) → from ≡ takes_from (BrokerState b) e)
+    (from : Option Peer) (n : ℕ) (p q : PlanBook) (idle : Bool) (outs : List WireOut) (ready : ReadyPackets) (rs rs1 rs2 rs3 : List (EndRow E)) (o : Option ReadyPackets)
+    → BookHolds sc.setup (kept.Broker v) h k rs → IsAtBroker sc.setup v.topic v.site.own e → CanHappen v e → ((b : Broker) → from ≡ takes_from (BrokerState b) e)
     → IsLooked v e (shown_for shown rs1 from) n p → w.broker ≡ v.broker → SameNode v w → SameSends sent_in free rs rs1 → SameTaken taken_in rs rs1
     → q ≡ record p { sent = [] } → idle ≡ q.idle → outs ≡ p.sent → o ≡ Some ready → IfSome o (λ u. MayJoin free fit idle (max k n) outs rs2 u)
     → SameSends sent_in free rs1 rs2 → SameTakes taken_in shown rs1 rs2 → h1 ≡ h → k1 ≡ k
     → y.broker ≡ done w.site.per_ledger w.broker (plan_in w.broker q) → SameNode w y → Finished shown sent_in taken_in e from ready h1 rs2 h2 rs3 → k2 ≡ ready.stamp
     → SamePeers rs rs1 → SamePeers rs1 rs2 → SamePeers rs2 rs3 → BookHolds sc.setup (kept.Broker y) h2 k2 rs3
-broker_grown sc v w y h h1 h2 k k1 k2 e sent_in taken_in shown free fit from n p q idle outs ready rs rs1 rs2 rs3 a r o holds at here can may takes looked broker same sends taken without is_idle are some join sends2 takes2 history clock committed then finished stamp peers1 peers2 peers3 =
-    let acted = broker_acted sc v w y h h1 h2 k k1 k2 e sent_in taken_in shown free fit from n p q idle outs ready rs rs1 rs2 rs3 a r o holds at here can may takes looked broker same sends taken without is_idle are some join sends2 takes2 history clock committed then finished stamp in
+broker_grown sc v w y h h1 h2 k k1 k2 e sent_in taken_in shown free fit from n p q idle outs ready rs rs1 rs2 rs3 o holds at can takes looked broker same sends taken without is_idle are some join sends2 takes2 history clock committed then finished stamp peers1 peers2 peers3 =
+    let acted = broker_acted sc v w y h h1 h2 k k1 k2 e sent_in taken_in shown free fit from n p q idle outs ready rs rs1 rs2 rs3 o holds at can takes looked broker same sends taken without is_idle are some join sends2 takes2 history clock committed then finished stamp in
     holds_after sc (kept.Broker v) (kept.Broker y) h h2 k k2 e shown sent_in taken_in from rs rs2 rs3 holds acted.0 (takes v.broker) acted.1
     (λ x. peers2 x ∙ peers1 x) (λ x. peers3 x ∙ (peers2 x ∙ peers1 x)) (state_of_same sc.setup v y holds.state (same_twice v w y same then))
 

@@ -1,8 +1,11 @@
 //! A broker does an event.
 ghost use Rattle.std.specs.Prelude.{IfOk, OnErr};
+ghost use Rattle.broker.specs.Events.{CanHappen};
+ghost use Rattle.broker_state.specs.Plan.{IsEmptyPlan};
 ghost use Rattle.node_book.specs.Acting.{Outcome};
 ghost use Rattle.node_book.specs.Acts.{SameBook};
 ghost use Rattle.node_book.specs.Books.{BookHolds, book_at};
+ghost use Rattle.node_book.specs.Owning.{IsAtBroker};
 ghost use Rattle.node_book.specs.declared.state.NodeState.TheVariants as kept;
 
 use crate::acting::finish;
@@ -19,7 +22,7 @@ use std::alloc::Global;
 use wire_ends::End;
 
 /// Does an event of a broker: see `NodeBook::act`.
-#[tactic(auto, using(crate::proofs::BrokerActs::can_node, crate::proofs::BrokerActs::can_numbers, crate::proofs::BrokerActs::broker_elsewhere, crate::proofs::BrokerActs::broker_no_number, crate::proofs::BrokerActs::broker_err, crate::proofs::BrokerActs::broker_err_late, crate::proofs::BrokerActs::broker_still, crate::proofs::BrokerActs::broker_still_late, crate::proofs::BrokerActs::ready_room, crate::proofs::BrokerActs::ready_addressed, crate::proofs::BrokerActs::ready_log, broker::proofs::Ready::ready_without))]
+#[tactic(auto, using(crate::proofs::BrokerActs::broker_elsewhere, crate::proofs::BrokerActs::broker_no_number))]
 pub(crate) fn act_at_broker<E: End>(
     alloc: Global,
     scenario: &Scenario,
@@ -44,13 +47,42 @@ pub(crate) fn act_at_broker<E: End>(
         return Ok(false);
     }
     let mut plan = Plan::new(alloc);
+    let acted = act_by(alloc, scenario, node, log, ends, event, &mut plan);
+    // by a call, so that the end of a plan is proved by itself
+    drop(plan);
+    acted
+}
+
+/// Does an event of its own, whose numbers have room, by a plan that is empty.
+#[tactic(auto, using(crate::proofs::BrokerActs::broker_err, crate::proofs::BrokerActs::broker_err_late))]
+fn act_by<E: End>(
+    alloc: Global,
+    scenario: &Scenario,
+    node: &mut Broker,
+    log: &mut Log,
+    ends: &mut EndTable<E>,
+    event: &Event,
+    plan: &mut Plan,
+) -> Result<bool, Memory>
+    requires holds { BookHolds scenario.now.setup (kept.Broker node.old) log.old.history.items log.old.clock ends.old.rows.items }
+    requires at { IsAtBroker scenario.now.setup node.old.topic node.old.site.own event.now }
+    requires can { CanHappen node.old event.now }
+    requires empty { IsEmptyPlan plan.old }
+    ensures holds { BookHolds scenario.now.setup (kept.Broker node.new) log.new.history.items log.new.clock ends.new.rows.items }
+    ensures outcome { IfOk result (Outcome E.sent E.taken E.shown E.free E.looks event.now
+        (book_at scenario.now (kept.Broker node.old) log.old.history.items log.old.clock ends.old.rows.items)
+        (book_at scenario.now (kept.Broker node.new) log.new.history.items log.new.clock ends.new.rows.items)) }
+    ensures err { OnErr result (SameBook E.sent E.taken
+        (book_at scenario.now (kept.Broker node.old) log.old.history.items log.old.clock ends.old.rows.items)
+        (book_at scenario.now (kept.Broker node.new) log.new.history.items log.new.clock ends.new.rows.items)) }
+{
     let from = taken_from(event);
-    let shown = look(alloc, event, node, ends, from, &mut plan)?;
+    let shown = look(alloc, event, node, ends, from, plan)?;
     let outs = plan.take_sent(alloc).into_vec();
     let Some(packed) = make_ready(alloc, ends, log, plan.is_idle(), shown, outs)? else {
         return Ok(false);
     };
-    node.commit(&mut plan);
+    node.commit(plan);
     finish(ends, log, *event, from, packed);
     Ok(true)
 }

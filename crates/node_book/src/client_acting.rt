@@ -66,7 +66,7 @@ fn can_raise(client: &Client, event: &Event) -> bool
 }
 
 /// Does an event that takes no packet.
-#[tactic(auto, using(crate::proofs::ClientActs::client_there, crate::proofs::ClientActs::fits_unsent, crate::proofs::ClientActs::client_err, crate::proofs::ClientActs::client_still, crate::proofs::BrokerActs::ready_room, crate::proofs::BrokerActs::ready_addressed, crate::proofs::BrokerActs::ready_log))]
+#[tactic(auto, using(crate::proofs::ClientActs::client_err))]
 fn send<E: End>(
     alloc: Global,
     scenario: &Scenario,

@@ -58,7 +58,6 @@ pub(crate) fn make_ready<E: End>(
 
 /// What an event of a stamp sends, packed, with room in the log for the event; `None` where a look finds that an end has too few
 /// places for it. An `Err` is want of memory.
-#[tactic(auto, using(crate::proofs::Packs::are_peers, crate::proofs::Packs::lacks_since, crate::proofs::Packs::still_addressed))]
 fn pack_ready<E: End>(
     alloc: Global,
     ends: &mut EndTable<E>,

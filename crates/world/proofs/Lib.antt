@@ -22,6 +22,7 @@ pub mod PairLists
 pub mod ReadEntries
 pub mod Resumed
 pub mod SavedWorlds
+pub mod SavedNodes
 pub mod ResumedNodes
 pub mod RevivedNodes
 pub mod Revived

@@ -22,7 +22,6 @@ use std::alloc::Global;
 
 impl World {
     /// A client takes the next packet that the broker of its cluster sent to it, or finds none.
-    #[tactic(auto, using(crate::proofs::ClientEvents::client_below, crate::proofs::ClientEvents::can_count, crate::proofs::Places::at_within, crate::proofs::Leading::wants, crate::proofs::Getting::leads_get, crate::proofs::Getting::leads_large, crate::proofs::Getting::nodes_got, crate::proofs::Getting::nodes_still, crate::proofs::Getting::got_clock, crate::proofs::Getting::got_stamp, crate::proofs::Getting::got_events, crate::proofs::Getting::got_idle))]
     pub(crate) fn client_gets(
         &mut self,
         alloc: Global,
