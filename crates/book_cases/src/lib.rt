@@ -1,8 +1,5 @@
 //! Tests of books of nodes, of their merge, of actors and of runs on threads, in a crate of their own: a crate with tests is proved a
 //! second time with them.
-//!
-//! It is a program that does nothing, and no library: each time the gate builds a library it sums up the files of all that this one
-//! stands on, once for each path to them, which took it minutes here.
 #![tactic(auto)]
 
 #[cfg(test)]
@@ -27,5 +24,3 @@ mod strange;
 mod threads;
 #[cfg(test)]
 mod turns;
-
-fn main(_rt: HostRuntime) {}

@@ -1,8 +1,5 @@
 //! Tests of the whole program, in a crate of their own: a crate with tests is proved a second time with them, and whoever builds the
 //! program builds none of them.
-//!
-//! It is a program that does nothing, and no library: some versions of the toolchain's gate sum up, each time they build a library,
-//! the files of all that it stands on, once for each path to them, which took minutes here.
 #![tactic(auto)]
 
 #[cfg(test)]
@@ -23,5 +20,3 @@ mod refusals;
 mod replays;
 #[cfg(test)]
 mod sizes;
-
-fn main(_rt: HostRuntime) {}
