@@ -8,7 +8,8 @@ with its report once more; the state files of tools/state_files.py; each script 
 DIRECTORY/NAME`, at two horizons, with the views that tools/compacted_view.py makes of its report; and each script that tells which of its
 ledgers are closed as `== tiered KEEP DIRECTORY/NAME`, with none and with one to stay, where a ledger moves, with what tools/tiered_view.py
 makes of its report; and each case of answers/*.txt as `== ask answers/FILE/LINE WORD..`, by the line that it begins with, with its input in
-hexadecimal, and with its status and its answer. The program's own output is never read.
+hexadecimal, and with its status and its answer; the vectors and packets of bytes/ as `== vectors bytes/vectors` and `== packets
+bytes/packets`; and the scripts that tools/script_back.py writes again, as `== back DIRECTORY/NAME`. The program's own output is never read.
 
 usage: example_runs.py write     writes crates/geo_examples/stdin and crates/geo_examples/stdout
        example_runs.py check     says whether they are what `write` would write
@@ -18,6 +19,7 @@ import os
 import sys
 
 import compacted_view
+import script_back
 import state_files
 import tiered_view
 
@@ -143,6 +145,13 @@ def asked():
         yield case.section()
 
 
+def told():
+    """The vectors and the packets of bytes/, with their answers."""
+    for kind in ('vectors', 'packets'):
+        name = 'bytes/' + kind
+        yield kind + ' ' + name, content(name, '.txt'), content(name, '.answers')
+
+
 def sections():
     """All that the program is given, in order: a name, a script, and what is to be answered."""
     for name in names():
@@ -155,6 +164,8 @@ def sections():
     yield from compactions()
     yield from tierings()
     yield from asked()
+    yield from told()
+    yield from script_back.sections()
 
 
 def joined(part):

@@ -1,22 +1,15 @@
 #!/usr/bin/env python3
-"""Makes the scripts' sections of the input and of the expected output of crates/byte_answers from the scripts of the repository.
+"""How scripts are written again that were read: sections of the input and of the expected output of crates/geo_examples.
 
-The input has each script NAME.geo of examples/ and some of runs/ behind a line `== DIRECTORY/NAME`; these sections are the last ones, and
-what stands before them stays as it is. The output has that line, then the script's declarations in their canonical order (geo, ledger
-where it is not 50000, chance, clusters, topics, clients, the `do` lines client by client, each TO list in the order of the clusters),
-then the lines of its schedule as they stand in the file. The program's own output is never read.
-
-usage: script_back.py write     writes these sections of crates/byte_answers/stdin and crates/byte_answers/stdout
-       script_back.py check     says whether they are what `write` would write
+The scripts are each NAME.geo of examples/ and some of runs/. What is written of one is its declarations in their canonical order (geo,
+ledger where it is not 50000, chance, clusters, topics, clients, the `do` lines client by client, each TO list in the order of the
+clusters), then the lines of its schedule as they stand in the file. The program's own output is never read. tools/example_runs.py calls
+`sections`.
 """
 import os
 import re
-import sys
 
 ROOT = os.path.dirname(os.path.dirname(os.path.abspath(__file__)))
-CRATE = os.path.join(ROOT, 'crates', 'byte_answers')
-# where the sections of scripts begin
-FIRST = re.compile(r'^== \w+/', re.MULTILINE)
 # of the random schedules one of each kind, and those of all kinds
 RUNS = re.compile(r'.*_1\.geo|all_.\.geo')
 DECLARES = ('geo', 'ledger', 'chance', 'cluster', 'topic', 'client', 'do')
@@ -55,36 +48,8 @@ def written(text):
     return by['geo'] + ledger + by['chance'] + by['cluster'] + by['topic'] + by['client'] + done + schedule
 
 
-def made():
-    given, wanted = [], []
+def sections():
+    """The scripts, each as its name, its text and what is written of it."""
     for name in names():
         text = script(name)
-        given += ['== ' + name] + text.split('\n')[:-1]
-        wanted += ['== ' + name] + written(text)
-    return {'stdin': '\n'.join(given) + '\n', 'stdout': '\n'.join(wanted) + '\n'}
-
-
-def stands(file):
-    """What a file has now: what stands before the sections of scripts, and these."""
-    with open(os.path.join(CRATE, file), encoding='ascii') as given:
-        text = given.read()
-    first = FIRST.search(text)
-    at = first.start() if first else len(text)
-    return text[:at], text[at:]
-
-
-def main(words):
-    if words == ['write']:
-        for file, text in made().items():
-            before, _ = stands(file)
-            with open(os.path.join(CRATE, file), 'w', encoding='ascii') as out:
-                out.write(before + text)
-    elif words == ['check']:
-        for file, text in made().items():
-            if stands(file)[1] != text:
-                sys.exit('crates/byte_answers/%s differs' % file)
-    else:
-        sys.exit(__doc__)
-
-
-main(sys.argv[1:])
+        yield 'back ' + name, text.encode(), ('\n'.join(written(text)) + '\n').encode()

@@ -2,21 +2,22 @@
 
 use geo_base::{Memory, NameFault};
 use std::alloc::AllocError;
+use thiserror::Error;
 
-/// Why the program ends before its input does.
-#[derive(Clone, Copy, Debug)]
+/// Why lines have no answers.
+#[derive(Clone, Copy, Debug, Error)]
 pub enum Fault {
-    /// The standard input was not read to its end.
-    Input,
-    /// The standard output was not written to its end.
-    Output,
     /// A growth of memory was refused.
+    #[error("out of memory")]
     Memory,
     /// A script has too many bytes.
+    #[error("a script of more than 1000000 bytes")]
     LongScript,
     /// A name of the broker's setup is none.
+    #[error("a name that is none")]
     BadName,
     /// The broker does not accept the event.
+    #[error("an event that the broker does not accept")]
     NotAccepted,
 }
 

@@ -9,7 +9,10 @@
 //! and the number of its status is shown with what it writes; where a `stop` line parts it, it is the state of the script before that
 //! line, and the bytes behind it.
 //!
-//! The input is made of the repository's examples, runs and answers by `tools/example_runs.py`, and what is expected of their reports.
+//! Behind `== vectors NAME` vectors of the codecs stand, behind `== packets NAME` packets of one link, and behind `== back NAME` a script
+//! that is written as it was read: what `byte_answers` says of them.
+//!
+//! The input is made of the repository's examples, runs, answers and bytes by `tools/example_runs.py`, and what is expected of their reports.
 #![tactic(auto)]
 
 mod section;

@@ -1,5 +1,6 @@
 //! A section of the input, and what is written for it.
 use anyhow::Result;
+use byte_answers::{Lines, answer_lines};
 use geo_base::{Blob, Memory};
 use geo_io::{MemSink, MemSource};
 use geo_top::{Answer, Status, Word, answer, geo_alone};
@@ -31,6 +32,12 @@ enum Task {
     Stop,
     /// A run is to go on from bytes in hexadecimal, of which the last ones are cut off.
     Cuts,
+    /// Vectors of the codecs are answered.
+    Vectors,
+    /// Packets of one link are answered.
+    Packets,
+    /// A script is written as it was read.
+    Back,
     /// A command is asked, by both calls, for an input in hexadecimal; one with a `stop` line begins with the state of the script before
     /// that line.
     Ask,
@@ -51,6 +58,12 @@ impl Task {
             Task::Stop
         } else if heading.starts_with(b"== cuts ") {
             Task::Cuts
+        } else if heading.starts_with(b"== vectors ") {
+            Task::Vectors
+        } else if heading.starts_with(b"== packets ") {
+            Task::Packets
+        } else if heading.starts_with(b"== back ") {
+            Task::Back
         } else if heading.starts_with(b"== ask ") {
             Task::Ask
         } else {
@@ -124,8 +137,16 @@ impl Section {
             }
             Task::Stop => self.resumed(alloc),
             Task::Cuts => self.cuts(alloc),
+            Task::Vectors => self.lines(alloc, Lines::Vectors),
+            Task::Packets => self.lines(alloc, Lines::Packets),
+            Task::Back => self.lines(alloc, Lines::Script),
             Task::Ask => self.asked(alloc),
         }
+    }
+
+    /// What is answered to its lines.
+    fn lines(&self, alloc: Global, kind: Lines) -> Result<Vec<u8>> {
+        Ok(answer_lines(alloc, kind, self.first.as_slice())?)
     }
 
     /// What a command shows of the script's run, with the number that the section's line has behind the command's word.
