@@ -8,7 +8,7 @@ with its report once more; the state files of tools/state_files.py; each script 
 DIRECTORY/NAME`, at two horizons, with the views that tools/compacted_view.py makes of its report; and each script that tells which of its
 ledgers are closed as `== tiered KEEP DIRECTORY/NAME`, with none and with one to stay, where a ledger moves, with what tools/tiered_view.py
 makes of its report; and each case of answers/*.txt as `== ask answers/FILE/LINE WORD..`, by the line that it begins with, with its input in
-hexadecimal, and with its status and its answer; the vectors and packets of bytes/ as `== vectors bytes/vectors` and `== packets
+hexadecimal, and with its status and its answer; the vectors and packets of bytes/ as `== vectors bytes/NAME` and `== packets
 bytes/packets`; and the scripts that tools/script_back.py writes again, as `== back DIRECTORY/NAME`. The program's own output is never read.
 
 usage: example_runs.py write     writes crates/geo_examples/stdin and crates/geo_examples/stdout
@@ -146,10 +146,13 @@ def asked():
 
 
 def told():
-    """The vectors and the packets of bytes/, with their answers."""
+    """The vectors and the packets of bytes/, with their answers, which stand in files beside them or behind each."""
     for kind in ('vectors', 'packets'):
         name = 'bytes/' + kind
         yield kind + ' ' + name, content(name, '.txt'), content(name, '.answers')
+    lines = [line for line in content('bytes/rules', '.txt').split(b'\n') if line and not line.startswith(b'#')]
+    rules = [line.split(b' = ') for line in lines]
+    yield 'vectors bytes/rules', *(b''.join(rule[part] + b'\n' for rule in rules) for part in (0, 1))
 
 
 def sections():
