@@ -12,3 +12,8 @@ pub mod Layouts
 pub mod Frames
 pub mod Contained
 pub mod Standing
+pub mod Leaving
+pub mod Shares
+pub mod Entries
+pub mod Loading
+pub mod Offers

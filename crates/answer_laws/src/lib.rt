@@ -1,11 +1,16 @@
 //! That relations which have one answer at most have one: whatever the bytes are, they are a text of something, or something is wrong with
-//! them. So code that answers by such a relation cannot be always out of memory for want of an answer.
+//! them; and those of a state file are loaded as a state, or as the first item that breaks a rule. So code that answers by such a relation
+//! cannot be always out of memory for want of an answer. And that a broker's offer is what the dispatcher of its subscription answers.
 //!
 //! A law is a public function without parameters and without an answer: its contract is the statement, and its proof stands in `proofs/`.
 #![tactic(auto)]
 
 mod codecs;
+mod loads;
 mod machine;
+mod offers;
 
 pub use codecs::{law_command, law_fields, law_frames, law_marker, law_message, law_metadata};
+pub use loads::{law_brokers, law_entries, law_loaded};
 pub use machine::{law_content, law_value};
+pub use offers::law_offer;

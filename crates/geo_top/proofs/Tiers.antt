@@ -9,7 +9,7 @@ use Rattle.geo_base.specs.Run.{all_limits, run}
 use Rattle.geo_base.specs.Setup.{Setup}
 use Rattle.geo_base.specs.World.{World, node, topic_at}
 use Rattle.broker.specs.Node.{BrokerBook}
-use Rattle.ledger_laws.proofs.Readable.{readable_law, readable_tellable}
+use Rattle.text_laws.proofs.Ledgers.{readable_law, readable_tellable}
 use Rattle.ledger_texts.specs.Readable.{AreTellable}
 use Rattle.report_lines.proofs.Added.{line_added}
 use Rattle.report_nodes.proofs.Parts.{lines_added}

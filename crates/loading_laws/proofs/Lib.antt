@@ -1,4 +1,0 @@
-pub mod Leaving
-pub mod Shares
-pub mod Entries
-pub mod Loading

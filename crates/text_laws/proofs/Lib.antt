@@ -1,0 +1,15 @@
+pub mod Bytes
+pub mod Words
+pub mod Lists
+pub mod Ranges
+pub mod Entries
+pub mod Lines
+pub mod Clean
+pub mod CleanPlans
+pub mod CleanClients
+pub mod CleanRuns
+pub mod Items
+pub mod Events
+pub mod Runs
+pub mod ReadBack
+pub mod Ledgers
