@@ -6,11 +6,11 @@
 #![tactic(auto)]
 
 mod codecs;
+mod dispatching;
 mod loads;
 mod machine;
-mod offers;
 
 pub use codecs::{law_command, law_fields, law_frames, law_marker, law_message, law_metadata};
+pub use dispatching::law_offer;
 pub use loads::{law_brokers, law_entries, law_loaded};
 pub use machine::{law_content, law_value};
-pub use offers::law_offer;

@@ -12,8 +12,8 @@ use Rattle.broker.specs.Node.{BrokerBook}
 use Rattle.text_laws.proofs.Ledgers.{readable_law, readable_tellable}
 use Rattle.ledger_texts.specs.Readable.{AreTellable}
 use Rattle.report_lines.proofs.Added.{line_added}
-use Rattle.report_nodes.proofs.Parts.{lines_added}
-use Rattle.report_tiers.specs.Tiers.{moved_ledgers, moved_line, tier_lines}
+use Rattle.report_sections.proofs.Parts.{lines_added}
+use Rattle.report_sections.specs.Tiers.{moved_ledgers, moved_line, tier_lines}
 use Rattle.script_text.specs.Scenario.{IsScenario}
 use Rattle.script_text.specs.Script.{Script}
 use Rattle.world.specs.World.{IsAt, WorldBook, node_at}

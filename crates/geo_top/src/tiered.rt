@@ -6,7 +6,7 @@ ghost use Rattle.std.specs.Prelude.{◌≡◌, ◌<◌, ◌≤◌, ◌++◌, ◌
 ghost use Rattle.geo_base.specs.Report.{entry_lines, with_line_feeds};
 ghost use Rattle.geo_top.specs.Shown.{shown_world};
 ghost use Rattle.geo_top.specs.Tiered.{AreTopicsTellable, tiered, tiers_at, tiers_of};
-ghost use Rattle.report_tiers.specs.Tiers.{moved_line};
+ghost use Rattle.report_sections.specs.Tiers.{moved_line};
 ghost use Rattle.tier_store.specs.Kept.{kept_in};
 ghost use Rattle.tiered_ledger.specs.Calls.{offloaded};
 ghost use Rattle.tiered_ledger.specs.Tiered.{Holds};
@@ -15,7 +15,7 @@ ghost use Rattle.world.specs.World.{IsAt};
 use geo_base::limits::CLUSTERS;
 use geo_base::{Blob, ClusterName, Memory};
 use report_lines::add;
-use report_tiers::{TieredTopic, add_read_entries, moved_line, moved_to_tier};
+use report_sections::{TieredTopic, add_read_entries, moved_line, moved_to_tier};
 use script_text::Scenario;
 use std::alloc::Global;
 use topic_ledger::TopicLedger;

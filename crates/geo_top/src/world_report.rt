@@ -9,7 +9,7 @@ ghost use Rattle.world.specs.World.{IsAt};
 
 use geo_base::{Blob, Memory};
 use report_lines::{add, head_line, place_line};
-use report_nodes::{add_broker, add_client};
+use report_sections::{add_broker, add_client};
 use script_text::Scenario;
 use std::alloc::Global;
 use world::World;

@@ -3,8 +3,8 @@
 //! A law is a function without parameters and without an answer: its contract is the statement, and its proof stands in `proofs/`.
 #![tactic(auto)]
 
-mod ledgers;
+mod stored;
 mod traces;
 
-pub use ledgers::law_readable;
+pub use stored::law_readable;
 pub use traces::law_trace_read;
