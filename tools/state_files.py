@@ -189,6 +189,22 @@ def rich():
                 'got': [(0, b'p', 0), (1, 'é'.encode(), 7)]})])
 
 
+PUBLISHED_DECLARATIONS = (b'geo 1\ncluster a\ncluster b\ntopic t\nclient p t a\ndo p produce\ndo p pub 0 * - hi\n'
+                          b'do p sub s exclusive earliest local\ndo p flow 5\n')
+
+
+# a smaller one, whose ledgers have the usual number of entries: a message was published, and a subscription has it acknowledged
+def published(entries=None):
+    entries = entries or [message(b'p', 0, b'hi')]
+    return State(
+        PUBLISHED_DECLARATIONS, (5, 1, 0, 100),
+        [('a', {'ledgers': [len(entries)], 'entries': entries,
+                'subs': [{'name': b's', 'kind': 0, 'replicated': 0, 'ranges': [(0, 0)], 'seeks': 3}],
+                'senders': [('b', (1, []))]}),
+         ('b', {'ledgers': [0], 'entries': [], 'subs': [], 'senders': [('a', (0, []))]})],
+        [('p', {'cluster': 0, 'connection': 1, 'done': 4, 'produce': 1, 'sub': 3, 'flow': 4, 'unanswered': [], 'receipts': 1, 'duplicates': 0, 'errors': 0, 'got': [(0, b'p', 0)]})])
+
+
 # its report, by the lines of docs/REPORT.md: a position counts through the ledgers, a mark is the first index that is not
 # acknowledged, a backlog has the messages that are not. A byte outside 20 to 7E prints as ?.
 RICH_REPORT = b'''events 40 idle 3 rounds 2
@@ -270,6 +286,57 @@ BROKEN = [
 ]
 
 
+# of the smaller one the same way: the rule, the item that is blamed or the file's end, and the new bytes of an item
+END = 'end'
+PUBLISHED = [
+    (2, 'magic', 'magic', b'gEOSTATE'),
+    (1, 'script', 'declarations', number(1000)),
+    (3, 'script', 'script', PUBLISHED_DECLARATIONS.replace(b'geo', b'Geo')),
+    (9, 'events', 'events', number(MANY + 1)),
+    (9, 'idle', 'events', number(2000000)),
+    (9, 'rounds', 'rounds', number(MANY + 1)),
+    (9, 'frame bytes', 'frame bytes', number((1 << 30) + 1)),
+    (6, 'a ledger', 'a ledger', number(0)),
+    (6, 'a ledger 0', 'a ledger 0', number(50001)),
+    (6, 'a entry', 'a entry', number(2)),
+    (4, 'a entry 0 metadata', 'a entry 0 metadata', text(b'\x00' + metadata(b'p', 0)[1:])),
+    (8, 'a sub', 'a sub', number(33)),
+    (8, 'a sub 0 name', 'a sub 0 name', text(b'S')),
+    (8, 'a sub 0 kind', 'a sub 0 kind', b'\x04'),
+    (8, 'a sub 0 flag', 'a sub 0 flag', b'\x02'),
+    (7, 'a sub 0 range 0 first', 'a sub 0 range 0 first', number(1)),
+    (7, 'a sub 0 range 0 last', 'a sub 0 range 0 last', number(1)),
+    (9, 'a sub 0 seeks', 'a sub 0 seeks', number(MANY + 1)),
+    (9, 'a sender b session', 'a sender b session', number(MANY + 1)),
+    (10, 'p cluster', 'p cluster', number(2)),
+    (9, 'p connection', 'p connection', number(MANY + 1)),
+    (10, 'p done', 'p done', number(5)),
+    (10, 'p produce', 'p produce', number(2)),
+    (10, 'p sub', 'p sub', number(5)),
+    (10, 'p flow', 'p sub', number(0)),
+    (10, 'p flow', 'p flow', number(3)),
+    (10, 'p unanswered', 'p unanswered', number(257)),
+    (9, 'p receipts', 'p receipts', number(MANY + 1)),
+    (9, 'p duplicates', 'p duplicates', number(MANY + 1)),
+    (9, 'p errors', 'p errors', number(MANY + 1)),
+    (1, END, 'p got', number(2)),
+    (10, 'p got 0 origin', 'p got 0 origin', number(2)),
+    (10, 'p got 0 producer', 'p got 0 producer', text(b'\xff')),
+    (11, END, 'length', number(1000)),
+]
+
+
+def broken_published():
+    """The smaller state, broken in the same way."""
+    state = published()
+    for k, (rule, blamed, item, some) in enumerate(PUBLISHED):
+        yield 'published %d' % k, state.changed({item: some}), rule, len(state.file()) if blamed == END else state.offset(blamed)
+    for k, (entries, rule) in enumerate((
+            ([(metadata(b'pulsar.marker', 1), b'hi')], 5), ([message(b'p', 0, b'hi', b'z')], 4), ([message(b'p', 0, b'hi')] * 2, 5))):
+        state = published(entries)
+        yield 'published entries %d' % k, state.file(), rule, state.offset('a entry %d metadata' % (len(entries) - 1))
+
+
 def no_ledger():
     state = rich()
     state.nodes[1][1].update({'ledgers': [], 'entries': [], 'subs': [], 'senders': [('a', (1, []))]})
@@ -327,9 +394,12 @@ def sections(report):
     yield 'resume states/rich', in_hex(rich().file()), RICH_REPORT
     yield 'resume states/first_version', in_hex(first_version()[0]), first_version()[1]
     yield 'cuts states/rich', in_hex(rich().file()), b''.join(cut_answers(rich()))
+    yield 'cuts states/published', in_hex(published().file()), b''.join(cut_answers(published()))
+    for version in (1, 2):
+        yield 'resume states/published_behind_version_%d' % version, in_hex(published().file(version) + b'settle'), b'bad script line 1 rule 1\n'
     for name, some, version in versions():
         yield 'resume states/%s' % name.replace(' ', '_'), in_hex(some), b'bad state version %d\n' % version
-    for name, some, rule, offset in broken():
+    for name, some, rule, offset in (*broken(), *broken_published()):
         yield 'resume states/%s' % name.replace(' ', '_'), in_hex(some), b'bad state at %d rule %d\n' % (offset, rule)
 
 

@@ -36,8 +36,6 @@ mod packets;
 #[cfg(test)]
 mod pieces;
 #[cfg(test)]
-mod refused_scripts;
-#[cfg(test)]
 mod schedules;
 #[cfg(test)]
 mod script_words;

@@ -1,6 +1,6 @@
-//! Tests of the parts of a broker, and of what is kept: state files, compacted views of a topic, and ledgers in another store. They
-//! stand in a crate of their own, since a crate with tests is proved a second time with them, and in one, since each such crate costs
-//! the gate most of a minute whatever it holds.
+//! Tests of the parts of a broker, and of what is kept: compacted views of a topic, and ledgers in another store. They stand in a crate of
+//! their own, since a crate with tests is proved a second time with them, and in one, since each such crate costs the gate most of a minute
+//! whatever it holds.
 #![tactic(auto)]
 
 #[cfg(test)]
@@ -21,8 +21,6 @@ mod entries;
 mod keys;
 #[cfg(test)]
 mod ledgers;
-#[cfg(test)]
-mod loading;
 #[cfg(test)]
 mod offers;
 #[cfg(test)]
