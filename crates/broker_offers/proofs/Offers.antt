@@ -1,5 +1,5 @@
 -- What an offer is, branch by branch.
-use Rattle.std.proofs.Common.{◌≡◌, ℕ, ◌+◌, ◌<◌, ◌^◌, Bool, true, false, List, [], ◌∷◌, ◌++◌, length, refl, sym, ◌∙◌, subst}
+use Rattle.std.proofs.Common.{◌≡◌, ℕ, ◌+◌, ◌<◌, ◌^◌, Bool, true, false, List, [], ◌∷◌, ◌++◌, length, refl, sym, ◌∙◌, ap, subst}
 use Rattle.std.specs.Prelude.{nat_lt, if◌then◌else◌, Option, Some, None, IfSome, drop, slice_get}
 use Rattle.std.specs.List.{All, AllByRecursion}
 use Rattle.std.proofs.lemmas.List.Elements.{All-cons, All-nil}
@@ -80,7 +80,19 @@ gives_from h b k i at e s o x packet p within next same picked some among consum
 pub stored_there : (h : Site) (b : Broker) (i : ℕ) (e : Entry) → IsWritable h b → slice_get b.entries i ≡ Some e → IsStorable h e
 stored_there h b i e all at = stored_at h b.entries i e all.entries at
 
+pub stored_from : (h g : Site) (b c : Broker) (i : ℕ) (e : Entry) → g ≡ h → c ≡ b → IsWritable h b → slice_get c.entries i ≡ Some e → IsStorable g e
+stored_from h g b c i e site same all at = subst (λ (f : Site). IsStorable f e) (sym site) (stored_there h b i e all (subst (λ (d : Broker). slice_get d.entries i ≡ Some e) same at))
+
 -- ---- a marker
+
+-- it is caught up with, where room was made before
+pub caught_from : (h g : Site) (b c : Broker) (k i : ℕ) (e : Entry) (o : Option CachedSnapshot) (p : PlanBook) → g ≡ h → c ≡ b → slice_get c.entries i ≡ Some e → is_data e.content ≡ false
+    → o ≡ own_snapshot g c (sub_at c.subs k) e.ident.origin e.content → IsPrepared g c (passes_by g c (sub_at c.subs k) i o) p → IsPrepared h b (offer_index h b (sub_at b.subs k) i) p
+caught_from h g b c k i e o p site same at marker brought prepared =
+    subst (λ (f : Site). IsPrepared f b (offer_index f b (sub_at b.subs k) i) p) site
+    (subst (λ (d : Broker). IsPrepared g d (offer_index g d (sub_at d.subs k) i) p) same
+    (subst (λ (q : Plan). IsPrepared g c q p)
+    (ap (λ (x : Option CachedSnapshot). passes_by g c (sub_at c.subs k) i x) brought ∙ sym (is_caught_up g c (sub_at c.subs k) i e at marker)) prepared))
 
 -- one more snapshot, and the oldest gone where there are too many
 all_push : (h : Site) (cs : List CachedSnapshot) (c : CachedSnapshot) → AllByRecursion (IsSnapshotOf h) cs → IsSnapshotOf h c → AllByRecursion (IsSnapshotOf h) (cs ++ c ∷ [])

@@ -1,6 +1,6 @@
 -- Events that are idle, that give an index, and that write a cursor: each is the machine's plan, and a broker can do it.
 use Rattle.std.proofs.Common.{◌≡◌, ℕ, ◌+◌, ◌<◌, ◌≤◌, ◌^◌, true, List, [], ◌∷◌, ◌++◌, length, map, refl, sym, ◌∙◌, ap, subst, arith}
-use Rattle.std.specs.Prelude.{Option}
+use Rattle.std.specs.Prelude.{Option, Result, OnOk}
 use Rattle.std.specs.List.{AllByRecursion}
 use Rattle.geo_base.specs.declared.change.Change.TheVariants as change
 use Rattle.geo_base.specs.declared.entry.Entry.{Entry}
@@ -100,3 +100,11 @@ writing_is k w v o u cs q p begun is same told = is ∙ rw (begun, same, told) r
 pub writing_room : (room : Room) (k : ℕ) (w : SubWrite) (o : Option BookWrite) (cs : List BookChange) (p : PlanBook) → WritesHaveRoom room k (cursor_writes w o)
     → total change_room cs ≡ 0 → total change_senders cs ≡ 0 → p ≡ writing_book k w o cs → HasRoom room p
 writing_room room k w o cs p writes none still is = rw is (record { writes = writes; given = omega (arith, none); senders = omega (arith, writes.senders, still) })
+
+-- ---- a plan that is the same as another one
+
+pub idle_as : (h : Site) (b : Broker) (q : Plan) (p : PlanBook) → q ≡ idle_plan → p ≡ idle_book → IsPrepared h b q p
+idle_as h b q p same is = rw same (idle h b p is)
+
+pub plan_as : {E : Type 0} (h : Site) (b : Broker) (q w : Plan) (p : PlanBook) (r : Result (Unit {0}) E) → q ≡ w → OnOk r (IsPrepared h b w p) → OnOk r (IsPrepared h b q p)
+plan_as {E} h b q w p r same prepared = rw same prepared

@@ -21,7 +21,6 @@ use snapshot_cache::SnapshotCache;
 use std::alloc::Global;
 
 /// The marker at an index is acknowledged by the subscription at a place, to which it brought a snapshot, if it did.
-#[tactic(auto, using(crate::proofs::Shapes::writing_room, broker_plans::proofs::Updates::update_appends))]
 pub(crate) fn catch_up(
     alloc: Global,
     book: &mut BrokerState,

@@ -25,7 +25,6 @@ use topic_ledger::or_first;
 
 /// What an offer of the subscription of a name will do; idle where there is none, where nothing is due, and where a message is due
 /// and no consumer for it has a permit. Only room is made; an `Err` is want of memory.
-#[tactic(auto, using(crate::proofs::Offers::no_sub, crate::proofs::Offers::nothing_due, crate::proofs::Offers::some_due, crate::proofs::Shapes::idle, crate::proofs::Shapes::idle_room))]
 pub fn prepare_offer(
     alloc: Global,
     book: &mut BrokerState,
@@ -44,8 +43,7 @@ pub fn prepare_offer(
     let Some(index) = least_due(book, place) else {
         return Ok(());
     };
-    offer_index(alloc, book, place, index, plan)?;
-    Ok(())
+    offer_index(alloc, book, place, index, plan)
 }
 
 /// The least index that is due at the subscription at a place.
@@ -60,7 +58,6 @@ fn least_due(book: &BrokerState, place: usize) -> Option<u64>
 }
 
 /// What becomes of an index that is due at the subscription at a place.
-#[tactic(auto, using(crate::proofs::Offers::is_given, crate::proofs::Offers::is_caught_up, crate::proofs::Offers::stored_there))]
 fn offer_index(
     alloc: Global,
     book: &mut BrokerState,
@@ -80,12 +77,10 @@ fn offer_index(
     book.reserve_sub(place, 1, 0)?;
     let entry = entry_at(book, index);
     if is_message(entry) {
-        give_message(alloc, book, place, index, entry, plan)?;
-        return Ok(());
+        return give_message(alloc, book, place, index, entry, plan);
     }
     let snapshot = own_snapshot(alloc, book, place, entry)?;
-    catch_up(alloc, book, place, index, snapshot, plan)?;
-    Ok(())
+    catch_up(alloc, book, place, index, snapshot, plan)
 }
 
 /// The entry at an index.

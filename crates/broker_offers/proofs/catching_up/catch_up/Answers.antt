@@ -1,15 +1,25 @@
-use Rattle.std.proofs.Common.{◌≡◌, ◌∙◌, ℕ, List, [], ◌∷◌, ◌++◌, refl, ap}
+use Rattle.std.proofs.Common.{◌≡◌, ◌∙◌, ℕ, List, [], ◌∷◌, ◌++◌, refl, sym, ap, subst}
+use Rattle.std.specs.Prelude.{Option, IfSome}
 use Rattle.std.proofs.lemmas.Result.{on_ok_weaker}
 use Rattle.geo_base.specs.Offering.{passes_by}
 use Rattle.broker_subs.specs.Table.{sub_at}
 use Rattle.broker_subs.specs.declared.writing.SubWrite.TheVariants as sub_write
 use Rattle.broker_state.specs.Room.{HasRoom}
+use Rattle.broker_state.specs.declared.write.BookWrite.{BookWrite}
 use Rattle.broker_plans.specs.Prepared.{IsPrepared}
-use Rattle.broker_plans.specs.Updates.{update_after}
+use Rattle.broker_plans.specs.Updates.{IsAppend, update_after}
+use Rattle.broker_plans.proofs.Updates.{update_appends}
 use Rattle.broker_offers.specs.Offering.{cached_with, catch_up_changes}
 use Rattle.broker_offers.proofs.Offers.{catches_up, catch_up_room, catch_up_still}
 use Rattle.broker_offers.proofs.Shapes.{writing_is, writing_room}
 use Rattle.broker_offers.proofs.catching_up.catch_up.Goals as goal
+
+pub begin_write-requires-clause-update : goal.begin_write-requires-clause-update
+begin_write-requires-clause-update c =
+    let b = c.args.book.now.broker in
+    let k = c.args.place in
+    subst (λ (o : Option BookWrite). IfSome o IsAppend) (sym c.in_ok-update.ensures)
+    (update_appends c.args.book.now.site b k (sub_write.Acks c.in_ok-indexes.indexes) (cached_with (sub_at b.subs k).cache c.args.snapshot))
 
 pub returns-clause-prepared : goal.returns-clause-prepared
 returns-clause-prepared c =
