@@ -7,6 +7,7 @@ use Rattle.geo_base.specs.declared.entry.Entry.{Entry}
 use Rattle.geo_base.specs.declared.entry.Ident.{Ident}
 use Rattle.dedup_table.specs.declared.stream.Stream.{Stream}
 use Rattle.geo_base.specs.declared.packet.Out.{Out}
+use Rattle.geo_base.specs.declared.position.Position.{Position}
 use Rattle.geo_base.specs.declared.write.Write.{Write}
 use Rattle.geo_base.specs.Broker.{Broker, Site}
 use Rattle.geo_base.specs.Plan.{plan_of}
@@ -43,8 +44,10 @@ old_stored h b e p old is =
       stored = record { writes = tt; changes = tt };
     })
 
-pub new_place : (per : ℕ) (b : Broker) (e : Entry) → accepts b.entries e.ident ≡ true → Some (next_position per b.ledgers) ≡ receipt_position per b e
-new_place per b e new = rw new refl
+-- the position of the store whose state is the same
+pub new_position : (per : ℕ) (b c : Broker) (e : Entry) (m : ℕ) (ls : List ℕ) (p : Position) → accepts b.entries e.ident ≡ true → p ≡ next_position m ls → m ≡ per → ls ≡ c.ledgers → c ≡ b
+    → Some p ≡ receipt_position per b e
+new_position per b c e m ls p new at each ledgers same = rw (at, each, ledgers, same, new) refl
 
 pub old_place : (per : ℕ) (b : Broker) (e : Entry) → accepts b.entries e.ident ≡ false → Some nowhere ≡ receipt_position per b e
 old_place per b e old = rw old refl

@@ -24,18 +24,23 @@ pub fn own_marker(
     requires number { MarkerFits book.now.site book.now.broker }
     ensures { IfOk result (λ e. e ≡ own_marker book.now.site book.now.broker marker to names) }
 {
+    let origin = book.site().own();
+    let seq = book.next_marker();
     let marker = BoxedMarker::new(alloc, marker)?;
-    let meta = Metadata::new(alloc, 0, None, names, Blob::new(alloc))?;
+    let rest = Blob::new(alloc);
+    let meta = Metadata::new(alloc, 0, None, names, rest)?;
+    let producer = ProducerName::any(alloc, MARKER_PRODUCER)?;
+    let payload = Blob::new(alloc);
     Ok(Entry {
         ident: Ident {
-            origin: book.site().own(),
-            producer: ProducerName::any(alloc, MARKER_PRODUCER)?,
-            seq: book.next_marker(),
+            origin,
+            producer,
+            seq,
         },
         content: Content::Marked(marker),
         to,
         meta,
-        payload: Blob::new(alloc),
+        payload,
     })
 }
 

@@ -1,7 +1,9 @@
 //! An entry that came: it is stored, or is a duplicate. And packets behind what an event does.
-ghost use Rattle.std.specs.Prelude.{◌≡◌, true, false, [], Some, IfOk, OnErr, OnOk};
+ghost use Rattle.std.specs.Prelude.{◌≡◌, ◌≤◌, true, false, [], Some, IfNone, IfOk, IfSome, OnErr, OnOk};
+ghost use Rattle.dedup_table.specs.Table.{stream_of};
 ghost use Rattle.geo_base.specs.Plan.{plan_of};
 ghost use Rattle.geo_base.specs.Storing.{receipt_position, storing};
+ghost use Rattle.geo_base.specs.Topic.{accepts};
 ghost use Rattle.broker_state.specs.State.{SameState};
 ghost use Rattle.broker_state.specs.Plan.{IsEmptyPlan};
 ghost use Rattle.broker_state.specs.Room.{HasRoom};
@@ -14,7 +16,7 @@ ghost use Rattle.broker_plans.specs.Storable.{IsStorable};
 use crate::packet::text;
 use broker_state::{BookWrite, BrokerState, Plan};
 use dedup_table::Stream;
-use geo_base::{Entry, EntryStore, Frame, Memory, Peer, Position, WireOut};
+use geo_base::{Entry, EntryStore, Frame, Ident, Memory, Peer, Position, WireOut};
 use std::alloc::Global;
 
 /// The position of what stands nowhere, -1:-1 as 64-bit numbers: the receipt of a duplicate names it, as those of Pulsar's brokers do.
@@ -25,7 +27,6 @@ pub const NOWHERE: Position = Position {
 
 /// An event that stores an entry which came, unless it is a duplicate. The answer is the position that its receipt names. Where memory is
 /// wanting, the plan has no step.
-#[tactic(auto, using(crate::proofs::Keeping::new_stored, crate::proofs::Keeping::old_stored, crate::proofs::Keeping::new_place, crate::proofs::Keeping::new_room, crate::proofs::Keeping::no_room))]
 pub fn storing(
     alloc: Global,
     book: &mut BrokerState,
@@ -40,14 +41,39 @@ pub fn storing(
     ensures kept { SameState book.old book.new }
     ensures err { OnErr result ((plan.new.writes ≡ []) × (plan.new.changes ≡ []) × (plan.new.sent ≡ [])) }
 {
-    let stream = Stream::of(alloc, &entry.ident)?;
     plan.begin(0);
-    if !book.accepts(&stream, entry.ident.seq) {
-        return Ok(NOWHERE);
+    match new_stream(alloc, book, &entry.ident) {
+        Ok(Some(stream)) => {
+            plan.write(BookWrite::Append { entry, stream })?;
+            Ok(book.store().next())
+        }
+        Ok(None) => {
+            drop(entry);
+            Ok(NOWHERE)
+        }
+        Err(memory) => {
+            drop(entry);
+            Err(memory)
+        }
+    }
+}
+
+/// The stream of an entry that came, and room for the entry; `None` where it is a duplicate.
+fn new_stream(
+    alloc: Global,
+    book: &mut BrokerState,
+    ident: &Ident,
+) -> Result<Option<Stream>, Memory>
+    ensures new { IfOk result (λ o. IfSome o (λ s. (accepts book.old.broker.entries ident.now ≡ true) × (s ≡ stream_of ident.now) × (1 ≤ book.new.room.entries) × (1 ≤ book.new.room.streams))) }
+    ensures duplicate { IfOk result (λ o. IfNone o (accepts book.old.broker.entries ident.now ≡ false)) }
+    ensures kept { SameState book.old book.new }
+{
+    let stream = Stream::of(alloc, ident)?;
+    if !book.accepts(&stream, ident.seq) {
+        return Ok(None);
     }
     book.reserve_entries(1)?;
-    plan.write(BookWrite::Append { entry, stream })?;
-    Ok(book.store().next())
+    Ok(Some(stream))
 }
 
 /// An event that sends, behind all that it does, a packet without an entry; unchanged where memory is wanting.

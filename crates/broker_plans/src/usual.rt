@@ -74,7 +74,6 @@ fn text_len(text: Option<&str>) -> usize
 
 /// An event that stores a message which came, of a cluster, unless it is a duplicate. The answer is the position that its receipt
 /// names.
-#[tactic(auto, using(crate::proofs::Keeping::new_place, crate::proofs::Keeping::old_place, crate::proofs::Keeping::new_room, crate::proofs::Keeping::no_room))]
 pub fn storing_message(
     alloc: Global,
     book: &mut BrokerState,

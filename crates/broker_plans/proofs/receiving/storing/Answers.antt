@@ -1,29 +1,39 @@
-use Rattle.std.proofs.Common.{◌≡◌, true, false}
-use Rattle.geo_base.specs.Topic.{accepts}
-use Rattle.broker_plans.proofs.Keeping.{new_stored, old_place, old_stored, stores_is, stream_tells}
+use Rattle.std.proofs.Common.{◌∙◌, ap}
+use Rattle.geo_base.specs.Broker.{Site}
+use Rattle.broker_plans.proofs.Keeping.{new_position, new_room, new_stored, no_room, old_place, old_stored, stores_is}
 use Rattle.broker_plans.proofs.receiving.storing.Goals as goal
 
-pub returns-then-not-accepts-clause-prepared : goal.returns-then-not-accepts-clause-prepared
-returns-then-not-accepts-clause-prepared c =
-    let b = c.args.book.now.broker in
+pub returns-in_ok-write-in-Ok-Some-clause-prepared : goal.returns-in_ok-write-in-Ok-Some-clause-prepared
+returns-in_ok-write-in-Ok-Some-clause-prepared c =
     let e = c.args.entry in
-    let told = stream_tells b.entries e.ident c.in_ok-stream.stream c.accepts.result c.in_ok-stream.ensures c.accepts.ensures in
-    let old : accepts b.entries e.ident ≡ false = cc in
-    old_stored c.args.book.now.site b e c.begin.new.self old c.begin.ensures
+    let new = rw c.in-Ok-Some.field-0-is at c.in-Ok-Some.ensures.new in
+    let is = stores_is e c.in-Ok-Some.stream c.begin.new.self c.write.new.self new.1 c.begin.ensures c.in_ok-write-in-Ok-Some.ensures.ok in
+    new_stored c.args.book.now.site c.args.book.now.broker e c.write.new.self new.0 c.requires.storable is
 
-pub returns-then-not-accepts-clause-position : goal.returns-then-not-accepts-clause-position
-returns-then-not-accepts-clause-position c =
-    let b = c.args.book.now.broker in
-    let e = c.args.entry in
-    let told = stream_tells b.entries e.ident c.in_ok-stream.stream c.accepts.result c.in_ok-stream.ensures c.accepts.ensures in
-    let old : accepts b.entries e.ident ≡ false = cc in
-    old_place c.args.book.now.site.per_ledger b e old
+pub returns-in_ok-write-in-Ok-Some-clause-position : goal.returns-in_ok-write-in-Ok-Some-clause-position
+returns-in_ok-write-in-Ok-Some-clause-position c =
+    let new = rw c.in-Ok-Some.field-0-is at c.in-Ok-Some.ensures.new in
+    let store = c.store.result.now in
+    let same = c.new_stream.ensures.kept in
+    let each = c.store.ensures.per_ledger ∙ ap (λ (h : Site). h.per_ledger) same.site in
+    new_position c.args.book.now.site.per_ledger c.args.book.now.broker c.new_stream.new.book.broker c.args.entry store.per_ledger store.ledgers c.next.result new.0 c.next.ensures each c.store.ensures.ledgers same.broker
 
-pub returns-clause-prepared : goal.returns-clause-prepared
-returns-clause-prepared c =
-    let b = c.args.book.now.broker in
+pub returns-in_ok-write-in-Ok-Some-clause-room : goal.returns-in_ok-write-in-Ok-Some-clause-room
+returns-in_ok-write-in-Ok-Some-clause-room c =
     let e = c.args.entry in
-    let told = stream_tells b.entries e.ident c.in_ok-stream.stream c.accepts.result c.in_ok-stream.ensures c.accepts.ensures in
-    let new : accepts b.entries e.ident ≡ true = cc in
-    let is = stores_is e c.in_ok-stream.stream c.begin.new.self c.write.new.self c.in_ok-stream.ensures c.begin.ensures c.in_ok-write.ensures.ok in
-    new_stored c.args.book.now.site b e c.write.new.self new c.requires.storable is
+    let new = rw c.in-Ok-Some.field-0-is at c.in-Ok-Some.ensures.new in
+    let is = stores_is e c.in-Ok-Some.stream c.begin.new.self c.write.new.self new.1 c.begin.ensures c.in_ok-write-in-Ok-Some.ensures.ok in
+    new_room c.new_stream.new.book.room e c.write.new.self new.2 new.3 is
+
+pub returns-in-Ok-None-clause-prepared : goal.returns-in-Ok-None-clause-prepared
+returns-in-Ok-None-clause-prepared c =
+    let old = rw c.in-Ok-None.field-0-is at c.in-Ok-None.ensures.duplicate in
+    old_stored c.args.book.now.site c.args.book.now.broker c.args.entry c.begin.new.self old c.begin.ensures
+
+pub returns-in-Ok-None-clause-position : goal.returns-in-Ok-None-clause-position
+returns-in-Ok-None-clause-position c =
+    let old = rw c.in-Ok-None.field-0-is at c.in-Ok-None.ensures.duplicate in
+    old_place c.args.book.now.site.per_ledger c.args.book.now.broker c.args.entry old
+
+pub returns-in-Ok-None-clause-room : goal.returns-in-Ok-None-clause-room
+returns-in-Ok-None-clause-room c = no_room c.new_stream.new.book.room 0 c.begin.new.self c.begin.ensures
