@@ -1,6 +1,6 @@
 -- Prepared events of a sender that reads, step by step.
 use Rattle.std.proofs.Common.{◌≡◌, ℕ, ◌+◌, ◌<◌, ◌≤◌, Bool, true, false, List, [], ◌∷◌, length, refl, sym, subst, arith}
-use Rattle.std.specs.Prelude.{◌&&◌, Option, Some, IfSome, is_none, slice_index_or, slice_set}
+use Rattle.std.specs.Prelude.{◌&&◌, Option, Some, IfSome, Result, OnOk, is_none, slice_index_or, slice_set}
 use Rattle.std.specs.List.{list_any}
 use Rattle.std.proofs.lemmas.List.{get_or-set_same, length-set}
 use Rattle.geo_base.specs.declared.change.Change.TheVariants as change
@@ -9,12 +9,13 @@ use Rattle.geo_base.specs.declared.frame.Frame.TheVariants as frame
 use Rattle.geo_base.specs.declared.marker.Place.TheVariants as place
 use Rattle.geo_base.specs.declared.packet.Peer.TheVariants as peer
 use Rattle.geo_base.specs.declared.snapshot.Builder.{Builder}
+use Rattle.geo_base.specs.declared.snapshot.Progress.{Progress}
 use Rattle.geo_base.specs.declared.write.Write.TheVariants as write
 use Rattle.geo_base.specs.Broker.{Broker, Site, cluster_name, sender_at}
 use Rattle.geo_base.specs.Builder.{snapshot_id}
 use Rattle.geo_base.specs.Cursor.{with_index}
-use Rattle.geo_base.specs.Markers.{asks, snap}
-use Rattle.geo_base.specs.Plan.{idle_plan, plan_of}
+use Rattle.geo_base.specs.Markers.{after_response, asks, snap}
+use Rattle.geo_base.specs.Plan.{Plan, idle_plan, plan_of}
 use Rattle.geo_base.specs.Reading.{forwards}
 use Rattle.geo_base.specs.Sender.{Sender, new_sender}
 use Rattle.geo_base.specs.Subscription.{Subscription}
@@ -209,3 +210,8 @@ pub asks_now : (h g : Site) (b c : Broker) (id : List ℕ) (p : PlanBook) → g 
 unfolding snap
 asks_now h g b c id p site same may named prepared =
     rw (may, sym named) (subst (λ (f : Site). IsPrepared f b (asks f b id) p) site (subst (λ (d : Broker). IsPrepared g d (asks g d id) p) same prepared))
+
+-- what a response came to, and what is done then
+pub progressed : {E : Type 0} (h : Site) (b : Broker) (y i : ℕ) (was now : Progress) (u : Builder) (q : Plan) (p : PlanBook) (r : Result (Unit {0}) E) → was ≡ now → q ≡ after_response h b y i now u
+    → OnOk r (IsPrepared h b q p) → OnOk r (IsPrepared h b (after_response h b y i was u) p)
+progressed {E} h b y i was now u q p r is same prepared = rw is (subst (λ (x : Plan). OnOk r (IsPrepared h b x p)) same prepared)

@@ -121,8 +121,7 @@ fn hear_response(
     let mut tried = builder.copy(alloc)?;
     let local = or_first(book.store().position_of(at.index as usize));
     let progress = tried.on_response(id.as_str(), at.remote, answer.position, local);
-    act_on_progress(alloc, book, at, progress, tried, plan)?;
-    Ok(())
+    act_on_progress(alloc, book, at, progress, tried, plan)
 }
 
 /// Whether a name stands for the cluster of a number.
@@ -169,7 +168,8 @@ fn act_on_progress(
         Progress::Done => {
             let made = snapshot(alloc, book, &builder);
             drop(builder);
-            store_with_builder(alloc, book, at, made?, None, plan)
+            let made = made?;
+            store_with_builder(alloc, book, at, made, None, plan)
         }
     }
 }

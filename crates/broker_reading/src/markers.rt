@@ -22,22 +22,23 @@ use sub_update::named_positions;
 use topic_ledger::or_first;
 
 /// A request of this id, of a snapshot's first or second round.
-#[tactic(auto, using(crate::proofs::Sizes::request_ready))]
 pub(crate) fn request(alloc: Global, book: &BrokerState, id: &str) -> Result<Entry, Memory>
     requires number { MarkerFits book.now.site book.now.broker }
     requires short { length id.now ≤ most_id + 2 }
     ensures marker { IfOk result (λ e. e ≡ request_marker book.now.site book.now.broker id.now) }
     ensures ready { IfOk result (IsReady book.now.site book.now.broker) }
 {
+    let own = book.site().own();
+    let text = Text::from_str(alloc, id)?;
+    let names = Sequence::new(alloc);
     let marker = Marker::Request {
-        id: Text::from_str(alloc, id)?,
-        source: Place::Known(book.site().own()),
+        id: text,
+        source: Place::Known(own),
     };
-    own_marker(alloc, book, marker, Targets::All, Sequence::new(alloc))
+    own_marker(alloc, book, marker, Targets::All, names)
 }
 
 /// The answer to a request of a cluster: the last entry that was stored before it.
-#[tactic(auto, using(crate::proofs::Sizes::response_ready))]
 pub(crate) fn response(
     alloc: Global,
     book: &BrokerState,
@@ -50,18 +51,20 @@ pub(crate) fn response(
     ensures marker { IfOk result (λ e. e ≡ response_marker book.now.site book.now.broker remote id.now) }
     ensures ready { IfOk result (IsReady book.now.site book.now.broker) }
 {
+    let own = book.site().own();
+    let position = or_first(book.store().last());
+    let text = id.copy(alloc)?;
     let marker = Marker::Response {
-        id: id.copy(alloc)?,
+        id: text,
         answer: ClusterPosition {
-            cluster: Place::Known(book.site().own()),
-            position: or_first(book.store().last()),
+            cluster: Place::Known(own),
+            position,
         },
     };
     marker_for(alloc, book, marker, remote)
 }
 
 /// The snapshot that a builder has made.
-#[tactic(auto, using(crate::proofs::Sizes::snapshot_ready))]
 pub(crate) fn snapshot(
     alloc: Global,
     book: &BrokerState,
@@ -76,12 +79,15 @@ pub(crate) fn snapshot(
     let Some(cut) = builder.cut() else {
         unreachable!()
     };
+    let own = book.site().own();
+    let text = Text::from_str(alloc, builder.id())?;
+    let remote = named_positions(alloc, cut)?;
     let marker = Marker::Snapshot {
-        id: Text::from_str(alloc, builder.id())?,
+        id: text,
         local: cut.local,
-        remote: named_positions(alloc, cut)?,
+        remote,
     };
-    marker_for(alloc, book, marker, book.site().own())
+    marker_for(alloc, book, marker, own)
 }
 
 /// A marker that is for one cluster.

@@ -137,7 +137,6 @@ pub(crate) fn acknowledge(
 }
 
 /// The subscription at a place acknowledges what the other cluster could have had up to an index.
-#[tactic(auto, using(crate::proofs::Acknowledged::acknowledges, crate::proofs::Acknowledged::acknowledges_room))]
 fn acknowledge_at(
     alloc: Global,
     book: &mut BrokerState,
@@ -161,8 +160,7 @@ fn acknowledge_at(
     let update = update_after(alloc, book, place, &write, sub_at(book, place).cache())?;
     begin_write(book, place, 0, write, update, plan)?;
     plan.change(BookChange::Sub(SubChange::Acked))?;
-    acknowledge_read(plan, at)?;
-    Ok(())
+    acknowledge_read(plan, at)
 }
 
 /// The write of a cursor by an update of a cluster.
@@ -177,7 +175,6 @@ fn update_acks(book: &BrokerState, cursor: &Cursor, remote: u32, to: u64) -> Sub
 }
 
 /// A subscription of this name is created, and acknowledges what the other cluster could have had up to an index.
-#[tactic(auto, using(crate::proofs::Acknowledged::created, crate::proofs::Acknowledged::created_room))]
 fn create(
     alloc: Global,
     book: &mut BrokerState,
@@ -198,8 +195,7 @@ fn create(
     let runs = sub_update::runs(&Cursor::none(alloc), book.store(), to, at.remote);
     book.reserve_places(1)?;
     let sub = created(alloc, sub, runs)?;
-    begin_created(book.subs().len(), at, sub, to, runs, plan)?;
-    Ok(())
+    begin_created(book.subs().len(), at, sub, to, runs, plan)
 }
 
 /// A replicated subscription of this name at Earliest, with room for what it acknowledges.
@@ -237,6 +233,5 @@ fn begin_created(
         runs,
     }))?;
     plan.change(BookChange::Sub(SubChange::Acked))?;
-    acknowledge_read(plan, at)?;
-    Ok(())
+    acknowledge_read(plan, at)
 }

@@ -1,5 +1,5 @@
 use Rattle.std.proofs.Common.{◌≡◌, ◌∙◌, List, ℕ, true, ap, subst}
-use Rattle.std.specs.Prelude.{Some}
+use Rattle.std.specs.Prelude.{OnOk, Some}
 use Rattle.geo_base.specs.declared.position.Position.{Position}
 use Rattle.geo_base.specs.declared.snapshot.Builder.{Builder}
 use Rattle.geo_base.specs.Builder.{on_response}
@@ -30,5 +30,5 @@ returns-clause-prepared c =
     let from : is_place y c.args.answer.now.cluster ≡ true = cc in
     let local = c.or_first-local.ensures ∙ ap or_first (c.position_of.ensures ∙ ap (λ (ls : List ℕ). position_of ls i) c.store.ensures.ledgers) in
     let heard = c.on_response-progress.ensures.heard ∙ ap (λ (id : List ℕ). on_response tried id y named c.or_first-local.result) c.as_str.ensures ∙ ap (λ (p : Position). on_response tried c.args.id.now y named p) local in
-    subst (λ (p : Plan). IsPrepared h b p c.act_on_progress.new.plan)
-    (heard_is h b y i c.args.id.now c.args.answer.now tried c.on_response-progress.new.self c.on_response-progress.result there from heard) c.in_ok-act_on_progress.ensures.prepared
+    subst (λ (p : Plan). OnOk c.act_on_progress.result (IsPrepared h b p c.act_on_progress.new.plan))
+    (heard_is h b y i c.args.id.now c.args.answer.now tried c.on_response-progress.new.self c.on_response-progress.result there from heard) c.act_on_progress.ensures.prepared
