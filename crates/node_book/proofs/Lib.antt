@@ -1,3 +1,4 @@
+mod Borrowed
 pub mod Lists
 pub mod Numbers
 pub mod Openings

@@ -1,5 +1,7 @@
 -- What a look shows.
-use Rattle.std.proofs.Common.{◌≡◌, ℕ, List, [], ◌∷◌, Bool, true, false, refl, sym, arith}
+use Rattle.std.proofs.Common.{◌≡◌, ℕ, List, [], ◌∷◌, Bool, true, false, refl, sym, ap, ◌∙◌, arith}
+use Rattle.std.specs.Borrow.{Bor}
+use Rattle.std.specs.Option.{option_copied}
 use Rattle.std.specs.Prelude.{Option, Some, None, Result, Ok, Err, OnOk, if◌then◌else◌}
 use Rattle.book_ends.specs.declared.table.EndRow.{EndRow}
 use Rattle.book_ends.specs.Peers.{same_peer}
@@ -23,6 +25,17 @@ pub looked_twice : (i j k : ℕ) → Looked i j → Looked j k → Looked i k
 looked_twice i j k h g =
     let up = h.0 in let more = g.0 in
     (omega (arith, up, more), λ le. h.1 (omega (arith, le, more)))
+
+-- an end gathered, and then showed its next packet; the six facts are those of a peek
+pub looked_shown : {A B C D F : Type 0} (i j k : ℕ) → Looked i j → A × B × C × D × F × Looked j k → Looked i k
+looked_shown i j k h (a, b, c, d, f, more) = looked_twice i j k h more
+
+-- what an end shows, by what a peek gave
+pub shows_none : (u : Option WirePacket) (o : Option (Bor WirePacket)) → u ≡ option_copied o → o ≡ None → u ≡ None
+shows_none u o is none = is ∙ ap (λ (r : Option (Bor WirePacket)). option_copied r) none
+
+pub shows_some : (u : Option WirePacket) (o : Option (Bor WirePacket)) (w : Bor WirePacket) → u ≡ option_copied o → o ≡ Some w → u ≡ Some w.now
+shows_some u o w is some = is ∙ ap (λ (r : Option (Bor WirePacket)). option_copied r) some
 
 as_taken : (names : List (List ℕ)) (w : WirePacket) (u : Option Packet) → StandsForInput names (Some w) u → TakenStands (StandsAs names) (Some w) u
 as_taken names w None stands = absurd stands

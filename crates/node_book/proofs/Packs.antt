@@ -1,6 +1,7 @@
 -- What is packed.
-use Rattle.std.proofs.Common.{◌≡◌, ◌+◌, ◌<◌, ◌^◌, ℕ, Bool, List, [], ◌∷◌, ◌++◌, refl, ap, ◌∙◌, false, true, arith}
-use Rattle.std.specs.Prelude.{if◌then◌else◌, Option, Some, None, Result, Ok, Err, IfNone, IfOk, IfSome}
+use Rattle.std.proofs.Common.{◌≡◌, ◌+◌, ◌<◌, ◌^◌, ℕ, Bool, List, [], ◌∷◌, ◌++◌, refl, sym, ap, subst, ◌∙◌, false, true, arith}
+use Rattle.std.specs.Prelude.{if◌then◌else◌, Option, Some, None, Result, Ok, Err, IfNone, IfOk, IfSome, OnOk}
+use Rattle.std.specs.Option.{option_to_list}
 use Rattle.std.proofs.lemmas.List.{append_assoc}
 use Rattle.book_ends.specs.declared.sending.Addressed.{Addressed}
 use Rattle.book_ends.specs.declared.table.EndRow.{EndRow}
@@ -12,7 +13,7 @@ use Rattle.geo_base.specs.declared.packet.Peer.{Peer}
 use Rattle.geo_base.specs.declared.packet.WireOut.{WireOut}
 use Rattle.node_book.specs.Acts.{packets_of}
 use Rattle.node_book.specs.declared.packing.Packed.{Packed as ReadyPackets}
-use Rattle.node_book.specs.Packing.{GoToPeers, IsPacked, LacksFor, MayJoin, MayNotJoin, packed_all, packed_of}
+use Rattle.node_book.specs.Packing.{GoToPeers, IsPacked, LacksFor, MayJoin, MayNotJoin, all_sent_at, packed_all, packed_of, sent_at}
 use Rattle.wire_ends.specs.declared.packet.WirePacket.{WirePacket}
 use Rattle.wire_ends.specs.Parcels.{Packed}
 use Rattle.world_laws.specs.ByteHistories.{ByteSent}
@@ -40,6 +41,34 @@ peers_still rs rs' (o ∷ os) h same = (same o.to ∙ h.0, peers_still rs rs' os
 
 pub packed_more : (l m : List (ByteSent WirePacket)) (o : ByteSent WirePacket) → (l ++ o ∷ []) ++ m ≡ l ++ o ∷ m
 packed_more l m o = append_assoc l (o ∷ []) m
+
+abbrev sent_as : Peer → WirePacket → ByteSent WirePacket
+sent_as q p = record { to = q; packet = p }
+
+-- the parcel of a packet of an event, behind others
+pub parcel_last : (at : ℕ) (o : WireOut) (as' : List Addressed) (a : Addressed) → a.to ≡ o.to → a.parcel.packet ≡ (sent_at at o).packet → packed_all (as' ++ a ∷ []) ≡ packed_all as' ++ sent_at at o ∷ []
+parcel_last at o as' a to packet = packed_last as' a ∙ ap (λ (s : ByteSent WirePacket). packed_all as' ++ s ∷ []) is
+  where
+    is : packed_of a ≡ sent_at at o
+    is = ap (λ (q : Peer). sent_as q a.parcel.packet) to ∙ ap (λ (p : WirePacket). sent_as o.to p) packet
+
+-- u is what was next of an event's packets os
+next_is : (u : Option WireOut) (o : WireOut) (os os' : List WireOut) → u ≡ Some o → os ≡ option_to_list u ++ os' → os ≡ o ∷ os'
+next_is u o os os' some are = subst (λ (v : Option WireOut). os ≡ option_to_list v ++ os') some are
+
+pub next_goes : {E : Type 0} (rs : List (EndRow E)) (u : Option WireOut) (o : WireOut) (os os' : List WireOut) → u ≡ Some o → os ≡ option_to_list u ++ os' → GoToPeers rs os → (has_peer rs o.to ≡ true) × GoToPeers rs os'
+next_goes rs u o os os' some are goes = subst (λ (l : List WireOut). GoToPeers rs l) (next_is u o os os' some are) goes
+
+-- the next packet, and then all others, were put behind the old ones
+pub sent_more : {T X : Type 0} (r : Result T X) (at at' : ℕ) (u : Option WireOut) (o : WireOut) (os os' : List WireOut) (old mid new : List (ByteSent WirePacket)) → u ≡ Some o → os ≡ option_to_list u ++ os' → at' ≡ at
+    → mid ≡ old ++ sent_at at o ∷ [] → OnOk r (new ≡ mid ++ all_sent_at at' os') → OnOk r (new ≡ old ++ all_sent_at at os)
+sent_more (Err e) at at' u o os os' old mid new some are same first rest = tt
+sent_more (Ok x) at at' u o os os' old mid new some are same first rest =
+    rest
+    ∙ ap (λ (n : ℕ). mid ++ all_sent_at n os') same
+    ∙ ap (λ (l : List (ByteSent WirePacket)). l ++ all_sent_at at os') first
+    ∙ packed_more old (all_sent_at at os') (sent_at at o)
+    ∙ ap (λ (l : List WireOut). old ++ all_sent_at at l) (sym (next_is u o os os' some are))
 
 pub packed_first : (l : List (ByteSent WirePacket)) → [] ++ l ≡ l
 packed_first l = refl

@@ -23,7 +23,6 @@ impl<E: End> NodeBook<E> {
     /// the node's own, it is idle with that packet, an end has too few places for what it sends, or a number that it raises has
     /// no room. Then, and on an `Err`, which is want of memory, state, history, clock and what was sent and taken are as they
     /// were.
-    #[tactic(auto, using(crate::proofs::Outcomes::acted_of, crate::proofs::Outcomes::held_of, crate::proofs::Outcomes::same_of, crate::proofs::Outcomes::err_of, crate::proofs::Outcomes::holds_by, crate::proofs::Outcomes::holds_back))]
     pub fn act(&mut self, alloc: Global, event: &Event) -> Result<bool, Memory>
         ensures acted { IfOk result (λ yes. IsTrue yes → IsActed E.sent E.taken event.now self.old self.new) }
         ensures held { IfOk result (λ yes. IsFalse yes → IsHeld E.shown E.free E.looks event.now self.old self.new) }

@@ -22,7 +22,6 @@ use std::alloc::Global;
 use wire_ends::End;
 
 /// Does an event of a broker: see `NodeBook::act`.
-#[tactic(auto, using(crate::proofs::BrokerActs::broker_elsewhere, crate::proofs::BrokerActs::broker_no_number))]
 pub(crate) fn act_at_broker<E: End>(
     alloc: Global,
     scenario: &Scenario,

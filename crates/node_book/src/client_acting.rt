@@ -24,7 +24,6 @@ use std::alloc::Global;
 use wire_ends::End;
 
 /// Does an event of a client: see `NodeBook::act`.
-#[tactic(auto, using(crate::proofs::ClientActs::is_at, crate::proofs::ClientActs::rises_of, crate::proofs::ClientActs::get_of, crate::proofs::ClientActs::not_get, crate::proofs::ClientActs::client_elsewhere, crate::proofs::ClientActs::client_no_number))]
 pub(crate) fn act_at_client<E: End>(
     alloc: Global,
     scenario: &Scenario,

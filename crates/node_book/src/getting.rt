@@ -24,7 +24,6 @@ use std::alloc::Global;
 use wire_ends::End;
 
 /// Takes the next packet of the broker that the client is connected to, or was last.
-#[tactic(auto, using(crate::proofs::ClientActs::client_there, crate::proofs::ClientActs::client_counts, crate::proofs::ClientActs::client_err, crate::proofs::ClientActs::client_still, crate::proofs::ClientActs::none_stays))]
 pub(crate) fn get<E: End>(
     alloc: Global,
     scenario: &Scenario,
@@ -96,7 +95,6 @@ fn get_from<E: End>(
 }
 
 /// The same of an end.
-#[tactic(auto, using(crate::proofs::Gets::got_it, crate::proofs::Gets::got_none, crate::proofs::Gets::got_late, crate::proofs::Looks::looked_twice))]
 fn get_at<E: End>(
     alloc: Global,
     site: &ClientSite,

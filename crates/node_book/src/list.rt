@@ -38,7 +38,6 @@ impl<E: End> BookList<E> {
     }
 
     /// One more book, behind all others. An `Err` is want of memory, and changes nothing.
-    #[tactic(auto, using(crate::proofs::Lists::all_push))]
     pub fn push(&mut self, book: NodeBook<E>) -> Result<(), Memory>
         ensures ok { OnOk result (self.new ≡ self.old ++ book ∷ []) }
         ensures err { OnErr result (self.new ≡ self.old) }

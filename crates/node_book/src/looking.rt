@@ -95,7 +95,6 @@ fn look_from<E: End>(
 }
 
 /// The same of an end.
-#[tactic(auto, using(crate::proofs::Looks::looked_nothing, crate::proofs::Looks::looked_packet, crate::proofs::Looks::looked_twice))]
 fn look_at<E: End>(
     alloc: Global,
     event: &Event,

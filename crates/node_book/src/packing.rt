@@ -27,7 +27,6 @@ pub(crate) struct Packed {
 /// What an event sends, packed, with room in the log for the event. `shown` is the stamp of the packet that it takes, 0 where it
 /// takes none. `None` where the event is idle, its stamp has no room, or a look finds that an end has too few places. An `Err` is
 /// want of memory.
-#[tactic(auto, using(crate::proofs::Packs::may_join, crate::proofs::Packs::lacks_join))]
 pub(crate) fn make_ready<E: End>(
     alloc: Global,
     ends: &mut EndTable<E>,
@@ -110,7 +109,7 @@ fn pack_all<E: End>(
     Ok(packed)
 }
 
-#[tactic(auto, using(crate::proofs::Packs::packed_more, crate::proofs::Packs::peers_still))]
+#[tactic(auto, using(crate::proofs::Packs::peers_still))]
 fn pack_rest<E: End>(
     alloc: Global,
     ends: &mut EndTable<E>,
@@ -136,7 +135,6 @@ fn pack_rest<E: End>(
 }
 
 /// One more packet: once for the history, and once in its parcel.
-#[tactic(auto, using(crate::proofs::Packs::packed_last))]
 fn pack<E: End>(
     alloc: Global,
     ends: &mut EndTable<E>,

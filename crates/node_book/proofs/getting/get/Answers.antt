@@ -1,6 +1,7 @@
-use Rattle.std.proofs.Common.{refl}
+use Rattle.std.proofs.Common.{le_refl, refl}
+use Rattle.std.proofs.lemmas.Result.{err_from_is_err_and}
 use Rattle.geo_base.specs.declared.packet.Peer.TheVariants as peer
-use Rattle.node_book.proofs.ClientActs.{get_done, get_grown, get_held}
+use Rattle.node_book.proofs.ClientActs.{client_counts, client_err, client_still, client_there, get_done, get_grown, get_held, none_stays}
 use Rattle.node_book.proofs.getting.get.Goals as goal
 
 pub returns-in_default-clause-outcome : goal.returns-in_default-clause-outcome
@@ -24,3 +25,36 @@ returns-clause-outcome g c =
     c.args.ends.now.rows.items c.get_from.new.ends.rows.items c.finish.new.ends.rows.items c.in_ok-last.field-0 c.requires.holds c.requires.at c.requires.numbers c.requires.get c.view.ensures refl c.in-Some.is
     c.in_ok-last.ensures.got c.get_from.ensures.sends c.get_from.ensures.taken c.reserve.ensures.items c.get_from.ensures.number c.new.ensures refl c.new-2.ensures.items c.new-3.ensures.items c.finish.ensures.finished
     c.finish.ensures.clock
+
+pub get_from-requires-clause-there : goal.get_from-requires-clause-there
+get_from-requires-clause-there g c = client_there c.args.scenario.now.setup c.args.own.now c.args.log.now.history.items c.args.log.now.clock c.args.ends.now.rows.items c.requires.holds
+
+pub get_from-requires-clause-counts : goal.get_from-requires-clause-counts
+get_from-requires-clause-counts g c = client_counts c.args.own.now.client c.args.event.now c.requires.numbers c.requires.get
+
+pub returns-in_err-reserve-clause-holds : goal.returns-in_err-reserve-clause-holds
+returns-in_err-reserve-clause-holds g c =
+    client_still c.args.scenario.now.setup c.args.own.now c.args.own.now c.args.log.now.history.items c.reserve.new.self.items c.args.log.now.clock c.args.log.now.clock c.args.ends.now.rows.items c.args.ends.now.rows.items c.requires.holds
+    refl (λ q. refl) c.reserve.ensures.items refl
+
+pub returns-in_err-reserve-clause-err : goal.returns-in_err-reserve-clause-err
+returns-in_err-reserve-clause-err g c =
+    let p = err_from_is_err_and c.from_residual.result c.from_residual.ensures.1 in
+    rw p.1 (client_err c.args.scenario.now c.args.own.now c.args.own.now c.args.log.now.history.items c.reserve.new.self.items c.args.log.now.clock c.args.log.now.clock g.E.End.sent g.E.End.taken g.E.End.free c.args.ends.now.rows.items c.args.ends.now.rows.items
+    refl (record { sent = λ q. refl; free = λ q. le_refl _ }) (λ q. refl) c.reserve.ensures.items refl)
+
+pub returns-in_err-last-clause-holds : goal.returns-in_err-last-clause-holds
+returns-in_err-last-clause-holds g c =
+    client_still c.args.scenario.now.setup c.args.own.now c.get_from.new.own c.args.log.now.history.items c.reserve.new.self.items c.args.log.now.clock c.args.log.now.clock c.args.ends.now.rows.items c.get_from.new.ends.rows.items c.requires.holds
+    c.in_err-last.ensures.err c.get_from.ensures.peers c.reserve.ensures.items refl
+
+pub returns-in_err-last-clause-err : goal.returns-in_err-last-clause-err
+returns-in_err-last-clause-err g c =
+    let p = err_from_is_err_and c.from_residual-in_err-last.result c.from_residual-in_err-last.ensures.1 in
+    rw p.1 (client_err c.args.scenario.now c.args.own.now c.get_from.new.own c.args.log.now.history.items c.reserve.new.self.items c.args.log.now.clock c.args.log.now.clock g.E.End.sent g.E.End.taken g.E.End.free c.args.ends.now.rows.items c.get_from.new.ends.rows.items
+    c.in_err-last.ensures.err c.get_from.ensures.sends c.get_from.ensures.taken c.reserve.ensures.items refl)
+
+pub returns-in_default-clause-holds : goal.returns-in_default-clause-holds
+returns-in_default-clause-holds g c =
+    client_still c.args.scenario.now.setup c.args.own.now c.get_from.new.own c.args.log.now.history.items c.reserve.new.self.items c.args.log.now.clock c.args.log.now.clock c.args.ends.now.rows.items c.get_from.new.ends.rows.items c.requires.holds
+    (none_stays c.args.own.now c.get_from.new.own c.in_ok-last.field-0 c.in_default.is c.in_ok-last.ensures.stays) c.get_from.ensures.peers c.reserve.ensures.items refl
