@@ -276,8 +276,9 @@ impl NodeRings {
         ensures linked { OnOk result (GainsPeer here.peer ends.old.rows.items ends.new.rows.items) }
         ensures nodes { self.new ≡ self.old }
     {
+        ends.rows.reserve(1)?;
         let row = self.ends_to(alloc, here, there)?;
-        ends.rows.push(row)?;
+        ends.rows.push_reserved(row);
         Ok(())
     }
 
@@ -297,8 +298,11 @@ impl NodeRings {
         if let Some(row) = waiting_for(&mut self.waiting[here.node], here.peer) {
             return Ok(row);
         }
+        // room comes first, so that no ring is made that has no place
+        let waiting = &mut self.waiting[there.node].rows;
+        waiting.reserve(1)?;
         let (near, far) = new_rings(alloc, here.peer, there.peer)?;
-        self.waiting[there.node].rows.push(far)?;
+        waiting.push_reserved(far);
         Ok(near)
     }
 }
@@ -345,16 +349,25 @@ fn new_rings(
     ensures far { IfOk result (λ r. r.1.peer ≡ far) }
 {
     let (sends, comes) = ring(alloc, RING_PLACES, PART_BYTES)?;
-    let (answers, returns) = ring(alloc, RING_PLACES, PART_BYTES)?;
-    let here = EndRow {
-        peer: near,
-        take: RingEnd::Take(returns),
-        send: RingEnd::Send(sends),
-    };
-    let there = EndRow {
-        peer: far,
-        take: RingEnd::Take(comes),
-        send: RingEnd::Send(answers),
-    };
-    Ok((here, there))
+    match ring(alloc, RING_PLACES, PART_BYTES) {
+        Ok((answers, returns)) => {
+            let here = EndRow {
+                peer: near,
+                take: RingEnd::Take(returns),
+                send: RingEnd::Send(sends),
+            };
+            let there = EndRow {
+                peer: far,
+                take: RingEnd::Take(comes),
+                send: RingEnd::Send(answers),
+            };
+            Ok((here, there))
+        }
+        Err(error) => {
+            // by calls, so that the ends of a ring are shown to end once
+            drop(sends);
+            drop(comes);
+            Err(error)
+        }
+    }
 }
