@@ -1,8 +1,10 @@
 pub mod Mapped
 pub mod Markers
 pub mod SenderTables
+pub mod SenderSteps
 pub mod Steps
 pub mod Halts
 pub mod InTurn
 pub mod Backlogs
 pub mod Indexes
+pub mod Restored

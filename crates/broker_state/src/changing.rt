@@ -77,7 +77,6 @@ impl BrokerState {
     }
 
     /// The consumers or snapshots of the subscription at a place change.
-    #[tactic(auto, using(crate::proofs::Steps::sub_changed_is))]
     fn change_sub(&mut self, place: usize, change: SubChange)
         requires place { place < length self.old.broker.subs }
         requires room { sub.room_needed change ≤ (room_at self.old.room.subs place).room }

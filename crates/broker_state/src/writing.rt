@@ -70,7 +70,6 @@ impl BrokerState {
     }
 
     /// A subscription is created, last in order.
-    #[tactic(auto, using(crate::proofs::Steps::created_is))]
     fn create(&mut self, sub: Sub, latest: bool)
         requires new { is_new sub }
         requires acks { 0 < sub.acks }
@@ -89,7 +88,6 @@ impl BrokerState {
     }
 
     /// The cursor, kind or mark of the subscription at a place is written.
-    #[tactic(auto, using(crate::proofs::Steps::sub_written_is))]
     fn write_sub(&mut self, place: usize, write: SubWrite)
         requires place { place < length self.old.broker.subs }
         requires acks { sub.acks_needed write ≤ (room_at self.old.room.subs place).acks }

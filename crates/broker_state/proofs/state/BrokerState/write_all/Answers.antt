@@ -1,4 +1,5 @@
-use Rattle.std.proofs.Common.{◌≡◌, ◌∷◌, List, map, ap, sym, ◌∙◌, arith}
+use Rattle.std.proofs.Common.{◌≡◌, [], ◌∷◌, List, map, ap, sym, refl, ◌∙◌, arith}
+use Rattle.std.proofs.lemmas.List.{nil_from_length}
 use Rattle.geo_base.specs.declared.write.Write.{Write}
 use Rattle.geo_base.specs.Broker.{Site, written}
 use Rattle.geo_base.specs.Plan.{all_written}
@@ -7,7 +8,7 @@ use Rattle.broker_state.specs.Fits.{all_names_after}
 use Rattle.broker_state.specs.Plan.{name_of}
 use Rattle.broker_state.specs.Writes.{machine_write}
 use Rattle.broker_state.specs.declared.write.BookWrite.{BookWrite}
-use Rattle.broker_state.proofs.InTurn.{given_next, room_next, same_write}
+use Rattle.broker_state.proofs.InTurn.{fits_now, given_next, placed, room_next, same_write}
 use Rattle.broker_state.proofs.state.BrokerState.write_all.Goals as goal
 
 pub loop-write-preserved : goal.loop-write-preserved
@@ -43,3 +44,65 @@ loop-write-preserved c =
         sessions = c.write.ensures.shape.sessions ∙ inv.shape.sessions;
       };
     }
+
+pub loop-write-init : goal.loop-write-init
+loop-write-init c = record {
+  named = c.requires.named;
+  fits = c.requires.fits;
+  room = c.requires.room;
+  rest = refl;
+  names = refl;
+  given = omega arith;
+  senders = omega arith;
+  site = refl;
+  shape = record { senders = refl; receivers = refl; sessions = refl };
+}
+
+pub write-requires : goal.write-requires
+write-requires c =
+    let k = c.args.place in
+    let es = c.args.self.now.broker.entries in
+    let b = c.loop-write.self.broker in
+    let inv = c.loop-write.invariant in
+    let w = c.in-Some.write in
+    let ws = c.pop_front.new.self.items in
+    let items : c.loop-write.writes.items ≡ w ∷ ws = c.in-Some.ensures.items in
+    let named = rw items at inv.named in
+    let fits = rw items at inv.fits in
+    let room = rw items at inv.room in
+    record {
+      place = placed (name_of c.args.self.now.broker.subs k c.args.writes.now.items) k b.subs w named.0;
+      fits = fits_now es k b w fits.0;
+      entries = omega (arith, room.entries);
+      streams = omega (arith, room.streams);
+      places = omega (arith, room.places);
+      acks = room.acks.0;
+      senders = omega (arith, room.senders);
+    }
+
+pub returns-clause-broker : goal.returns-clause-broker
+returns-clause-broker c =
+    let none : c.loop-write.writes.items ≡ [] = nil_from_length c.loop-write.writes.items (omega (arith, c.in_default.ensures.cases.0, c.loop-write.writes.ok.0)) in
+    rw none at c.loop-write.invariant.rest
+
+pub returns-clause-names : goal.returns-clause-names
+returns-clause-names c =
+    let none : c.loop-write.writes.items ≡ [] = nil_from_length c.loop-write.writes.items (omega (arith, c.in_default.ensures.cases.0, c.loop-write.writes.ok.0)) in
+    rw none at c.loop-write.invariant.names
+
+pub returns-clause-given : goal.returns-clause-given
+returns-clause-given c =
+    let none : c.loop-write.writes.items ≡ [] = nil_from_length c.loop-write.writes.items (omega (arith, c.in_default.ensures.cases.0, c.loop-write.writes.ok.0)) in
+    rw none at c.loop-write.invariant.given
+
+pub returns-clause-senders : goal.returns-clause-senders
+returns-clause-senders c =
+    let none : c.loop-write.writes.items ≡ [] = nil_from_length c.loop-write.writes.items (omega (arith, c.in_default.ensures.cases.0, c.loop-write.writes.ok.0)) in
+    let many = rw none at c.loop-write.invariant.senders in
+    omega (arith, many)
+
+pub returns-clause-site : goal.returns-clause-site
+returns-clause-site c = c.loop-write.invariant.site
+
+pub returns-clause-shape : goal.returns-clause-shape
+returns-clause-shape c = c.loop-write.invariant.shape
