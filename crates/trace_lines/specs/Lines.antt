@@ -2,8 +2,10 @@
 use Rattle.std.specs.Prelude.{ℕ, ◌==◌, if◌then◌else◌, List, [], ◌∷◌, Option, Some, None, codes}
 use Rattle.std.specs.Str.{bytes_eq}
 use Rattle.cursor_acks.specs.Ranges.{indexes_of}
+use Rattle.geo_base.specs.declared.entry.Ident.{Ident}
 use Rattle.geo_base.specs.declared.planned.Cause.{Cause}
 use Rattle.geo_base.specs.declared.planned.Cause.TheVariants as cause
+use Rattle.geo_base.specs.declared.position.Position.{Position}
 use Rattle.trace_lines.specs.Names.{DeclaredNames}
 use Rattle.geo_base.specs.TraceItems.{Act, Acks, Appends, Begins, Creates, Deletes, Item, Seeks, Writes}
 use Rattle.script_names.specs.Words.{Word}
@@ -12,16 +14,20 @@ use Rattle.trace_lines.specs.Entries.{entry_with, what_of}
 use Rattle.trace_lines.specs.Ranges.{ranges_of}
 use Rattle.trace_lines.specs.Words.{declared, number, position_of, start_of, sub_of, targets_of, text_of}
 
--- x is the cluster where it stands
+-- an entry that is named, with the list and what is behind it; x is the cluster where it stands
+abbrev pub append_with : List Word → ℕ → Position → Ident → Word → List Word → Option Act
+append_with clusters x position ident l ws = do
+  to ← targets_of clusters l
+  what ← what_of clusters (ident.origin == x) ws
+  Some (Appends position (entry_with clusters ident to what) what.by)
+
 abbrev pub append_of : List Word → ℕ → List Word → Option Act
 append_of clusters x (p ∷ o ∷ n ∷ q ∷ l ∷ ws) = do
   position ← position_of p
   origin ← declared clusters o
   producer ← text_of n
   seq ← number q
-  to ← targets_of clusters l
-  what ← what_of clusters (origin == x) ws
-  Some (Appends position (entry_with clusters (record { origin = origin; producer = producer; seq = seq }) to what) what.by)
+  append_with clusters x position (record { origin = origin; producer = producer; seq = seq }) l ws
 append_of clusters x ws = None
 
 abbrev pub create_of : List Word → Option Act

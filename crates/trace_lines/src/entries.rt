@@ -14,10 +14,9 @@ use std::alloc::Global;
 
 /// `data KEY TEXT`: the text is all that is left, spaces included.
 #[tactic(auto, using(crate::proofs::Told::data_words))]
-fn data_of(alloc: Global, words: LineWords<'_>) -> Result<Option<What>, Memory>
-    ensures { IfOk result (λ what. what ≡ data_of words.entry) }
+fn data_of(alloc: Global, words: &mut LineWords<'_>) -> Result<Option<What>, Memory>
+    ensures { IfOk result (λ what. what ≡ data_of words.old) }
 {
-    let mut words = words;
     let Some(key) = words.next_word() else {
         return Ok(None);
     };
@@ -43,11 +42,10 @@ pub(crate) fn what_of(
     alloc: Global,
     clusters: &NameTable<'_>,
     is_own: bool,
-    words: LineWords<'_>,
+    words: &mut LineWords<'_>,
 ) -> Result<Option<What>, Memory>
-    ensures { IfOk result (λ what. what ≡ what_of clusters.now is_own words.entry) }
+    ensures { IfOk result (λ what. what ≡ what_of clusters.now is_own words.old) }
 {
-    let mut words = words;
     match words.next_word() {
         None => Ok(None),
         Some(kind) => kind_of(alloc, clusters, is_own, kind, words),
@@ -59,9 +57,9 @@ fn kind_of(
     clusters: &NameTable<'_>,
     is_own: bool,
     kind: &[u8],
-    words: LineWords<'_>,
+    words: &mut LineWords<'_>,
 ) -> Result<Option<What>, Memory>
-    ensures { IfOk result (λ what. what ≡ kind_of clusters.now is_own kind.now words.entry) }
+    ensures { IfOk result (λ what. what ≡ kind_of clusters.now is_own kind.now words.old) }
 {
     if is_word(kind, b"data") {
         data_of(alloc, words)

@@ -1,7 +1,7 @@
 //! Lines.
 ghost use Rattle.std.specs.Prelude.{◌≡◌, ◌<◌, ℕ, [], ◌∷◌, Some, length, option_map, IfNone, IfOk, IfSome, MatchOption};
 ghost use Rattle.geo_base.specs.TraceItems.{Begins};
-ghost use Rattle.trace_lines.specs.Lines.{ack_of, act_of, append_of, cause_of, create_of, delete_of, event_of, item_read, seek_of, write_of};
+ghost use Rattle.trace_lines.specs.Lines.{ack_of, act_of, append_of, append_with, cause_of, create_of, delete_of, event_of, item_read, seek_of, write_of};
 ghost use Rattle.trace_lines.specs.Names.{DeclaredNames};
 ghost use Rattle.trace_lines.specs.Ranges.{ranges_from, ranges_of};
 ghost use Rattle.trace_lines.specs.Said.{act_said, item_said};
@@ -14,7 +14,7 @@ use crate::numbers::{may_follow, number, position_of, range_of};
 use crate::ranges::AckedRanges;
 use crate::texts::{sub_of, text_in};
 use crate::words::LineWords;
-use geo_base::{Cause, Memory, Text, name_text};
+use geo_base::{Cause, Memory, Position, Text, name_text};
 use script_names::{Parts, is_word};
 use std::alloc::Global;
 
@@ -28,9 +28,9 @@ pub fn line_of(alloc: Global, names: &Names<'_>, line: &[u8]) -> Result<Option<L
         return Ok(None);
     };
     if is_word(kind, b"event") {
-        return Ok(event_of(words));
+        return Ok(event_of(&mut words));
     }
-    write_of(alloc, names, kind, words)
+    write_of(alloc, names, kind, &mut words)
 }
 
 /// The number of the event that a line begins, whatever names are declared; None exactly where it begins none. It takes no memory.
@@ -42,22 +42,22 @@ pub fn begun_event(line: &[u8]) -> Option<u64>
     let mut words = LineWords::new(line);
     let kind = words.next_word()?;
     if is_word(kind, b"event") {
-        event_number(words)
+        event_number(&mut words)
     } else {
         None
     }
 }
 
 /// `event NUMBER`
-fn event_of(words: LineWords<'_>) -> Option<Line>
-    ensures { option_map item_said result ≡ event_of words.entry }
+fn event_of(words: &mut LineWords<'_>) -> Option<Line>
+    ensures { option_map item_said result ≡ event_of words.old }
 {
     let number = event_number(words)?;
     Some(Line::Begins(number))
 }
 
-fn event_number(words: LineWords<'_>) -> Option<u64>
-    ensures { option_map Begins result ≡ event_of words.entry }
+fn event_number(words: &mut LineWords<'_>) -> Option<u64>
+    ensures { option_map Begins result ≡ event_of words.old }
 {
     number(words.last_word()?)
 }
@@ -67,15 +67,11 @@ fn write_of(
     alloc: Global,
     names: &Names<'_>,
     kind: &[u8],
-    words: LineWords<'_>,
+    words: &mut LineWords<'_>,
 ) -> Result<Option<Line>, Memory>
-    ensures { IfOk result (λ said. option_map item_said said ≡ write_of names.now kind.now words.entry) }
+    ensures { IfOk result (λ said. option_map item_said said ≡ write_of names.now kind.now words.old) }
 {
-    let mut words = words;
-    let Some(topic) = words.next_word() else {
-        return Ok(None);
-    };
-    let Some(cluster) = words.next_word() else {
+    let Some((topic, cluster)) = words.next_two() else {
         return Ok(None);
     };
     let Some(topic) = declared(names.topics(), topic) else {
@@ -100,9 +96,9 @@ fn written_of(
     names: &Names<'_>,
     cluster: u32,
     kind: &[u8],
-    words: LineWords<'_>,
+    words: &mut LineWords<'_>,
 ) -> Result<Option<Written>, Memory>
-    ensures { IfOk result (λ said. option_map act_said said ≡ act_of names.now.clusters cluster kind.now words.entry) }
+    ensures { IfOk result (λ said. option_map act_said said ≡ act_of names.now.clusters cluster kind.now words.old) }
 {
     if is_word(kind, b"append") {
         append_of(alloc, names, cluster, words)
@@ -124,12 +120,11 @@ fn append_of(
     alloc: Global,
     names: &Names<'_>,
     cluster: u32,
-    words: LineWords<'_>,
+    words: &mut LineWords<'_>,
 ) -> Result<Option<Written>, Memory>
-    ensures { IfOk result (λ said. option_map act_said said ≡ append_of names.now.clusters cluster words.entry) }
+    ensures { IfOk result (λ said. option_map act_said said ≡ append_of names.now.clusters cluster words.old) }
 {
-    let mut words = words;
-    let Some(head) = head_of(&mut words) else {
+    let Some(head) = head_of(words) else {
         return Ok(None);
     };
     let Some(position) = position_of(head.position) else {
@@ -144,28 +139,55 @@ fn append_of(
     let Some(seq) = number(head.seq) else {
         return Ok(None);
     };
-    let Some(to) = targets_of(alloc, names.clusters(), head.list)? else {
-        return Ok(None);
-    };
-    let Some(what) = what_of(alloc, names.clusters(), origin == cluster, words)? else {
-        return Ok(None);
-    };
     let named = Named {
         origin,
         producer,
         seq,
     };
-    let by = what.by;
-    let entry = entry_with(alloc, names, named, to, what)?;
-    Ok(Some(Written::Appends {
+    let begun = Begun {
         position,
+        named,
+        list: head.list,
+    };
+    append_with(alloc, names, cluster, begun, words)
+}
+
+/// Where an entry stands and what names it, and its list as it is written.
+#[derive(Clone, Copy, Drop)]
+struct Begun<'a> {
+    position: Position,
+    named: Named<'a>,
+    list: &'a [u8],
+}
+
+/// `LIST WHAT`
+fn append_with(
+    alloc: Global,
+    names: &Names<'_>,
+    cluster: u32,
+    begun: Begun<'_>,
+    words: &mut LineWords<'_>,
+) -> Result<Option<Written>, Memory>
+    ensures { IfOk result (λ said. option_map act_said said ≡ append_with names.now.clusters cluster begun.entry.position (record { origin = begun.entry.named.origin; producer = begun.entry.named.producer.now; seq = begun.entry.named.seq }) begun.entry.list.now words.old) }
+{
+    let Some(to) = targets_of(alloc, names.clusters(), begun.list)? else {
+        return Ok(None);
+    };
+    let is_own = begun.named.origin == cluster;
+    let Some(what) = what_of(alloc, names.clusters(), is_own, words)? else {
+        return Ok(None);
+    };
+    let by = what.by;
+    let entry = entry_with(alloc, names, begun.named, to, what)?;
+    Ok(Some(Written::Appends {
+        position: begun.position,
         entry,
         by,
     }))
 }
 
 /// The words of an entry before what it is.
-#[derive(Drop)]
+#[derive(Clone, Copy, Drop)]
 struct Head<'a> {
     position: &'a [u8],
     origin: &'a [u8],
@@ -178,24 +200,23 @@ fn head_of<'a>(words: &mut LineWords<'a>) -> Option<Head<'a>>
     ensures { MatchOption result (length words.old < 5)
         (λ head. words.old ≡ head.position.now ∷ head.origin.now ∷ head.producer.now ∷ head.seq.now ∷ head.list.now ∷ words.new) }
 {
+    let (position, origin) = words.next_two()?;
+    let (producer, seq) = words.next_two()?;
+    let list = words.next_word()?;
     Some(Head {
-        position: words.next_word()?,
-        origin: words.next_word()?,
-        producer: words.next_word()?,
-        seq: words.next_word()?,
-        list: words.next_word()?,
+        position,
+        origin,
+        producer,
+        seq,
+        list,
     })
 }
 
 /// `SUB latest` or `SUB earliest`
-fn create_of(alloc: Global, words: LineWords<'_>) -> Result<Option<Written>, Memory>
-    ensures { IfOk result (λ said. option_map act_said said ≡ create_of words.entry) }
+fn create_of(alloc: Global, words: &mut LineWords<'_>) -> Result<Option<Written>, Memory>
+    ensures { IfOk result (λ said. option_map act_said said ≡ create_of words.old) }
 {
-    let mut words = words;
-    let Some(sub) = words.next_word() else {
-        return Ok(None);
-    };
-    let Some(start) = words.last_word() else {
+    let Some((sub, start)) = words.last_two() else {
         return Ok(None);
     };
     let Some(sub) = name_text(sub) else {
@@ -222,8 +243,8 @@ fn start_of(word: &[u8]) -> Option<bool>
 }
 
 /// `SUB`
-fn delete_of(alloc: Global, words: LineWords<'_>) -> Result<Option<Written>, Memory>
-    ensures { IfOk result (λ said. option_map act_said said ≡ delete_of words.entry) }
+fn delete_of(alloc: Global, words: &mut LineWords<'_>) -> Result<Option<Written>, Memory>
+    ensures { IfOk result (λ said. option_map act_said said ≡ delete_of words.old) }
 {
     let Some(sub) = words.last_word() else {
         return Ok(None);
@@ -235,14 +256,10 @@ fn delete_of(alloc: Global, words: LineWords<'_>) -> Result<Option<Written>, Mem
 }
 
 /// `SUB RANGES CAUSE`
-fn ack_of(alloc: Global, words: LineWords<'_>) -> Result<Option<Written>, Memory>
-    ensures { IfOk result (λ said. option_map act_said said ≡ ack_of words.entry) }
+fn ack_of(alloc: Global, words: &mut LineWords<'_>) -> Result<Option<Written>, Memory>
+    ensures { IfOk result (λ said. option_map act_said said ≡ ack_of words.old) }
 {
-    let mut words = words;
-    let Some(sub) = words.next_word() else {
-        return Ok(None);
-    };
-    let Some(ranges) = words.next_word() else {
+    let Some((sub, ranges)) = words.next_two() else {
         return Ok(None);
     };
     let Some(sub) = name_text(sub) else {
@@ -259,10 +276,9 @@ fn ack_of(alloc: Global, words: LineWords<'_>) -> Result<Option<Written>, Memory
 }
 
 /// `client`, `marker` or `update POSITION`
-fn cause_of(words: LineWords<'_>) -> Option<Cause>
-    ensures { result ≡ cause_of words.entry }
+fn cause_of(words: &mut LineWords<'_>) -> Option<Cause>
+    ensures { result ≡ cause_of words.old }
 {
-    let mut words = words;
     let kind = words.next_word()?;
     match words.next_word() {
         None if is_word(kind, b"client") => Some(Cause::Client),
@@ -302,14 +318,10 @@ fn ranges_of(alloc: Global, word: &[u8]) -> Result<Option<AckedRanges>, Memory>
 }
 
 /// `SUB INDEX`
-fn seek_of(alloc: Global, words: LineWords<'_>) -> Result<Option<Written>, Memory>
-    ensures { IfOk result (λ said. option_map act_said said ≡ seek_of words.entry) }
+fn seek_of(alloc: Global, words: &mut LineWords<'_>) -> Result<Option<Written>, Memory>
+    ensures { IfOk result (λ said. option_map act_said said ≡ seek_of words.old) }
 {
-    let mut words = words;
-    let Some(sub) = words.next_word() else {
-        return Ok(None);
-    };
-    let Some(index) = words.last_word() else {
+    let Some((sub, index)) = words.last_two() else {
         return Ok(None);
     };
     let Some(sub) = name_text(sub) else {

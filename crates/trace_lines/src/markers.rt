@@ -36,15 +36,11 @@ fn marker_what(alloc: Global, marker: Marker, by: Option<Position>) -> Result<Op
 pub(crate) fn request_of(
     alloc: Global,
     clusters: &NameTable<'_>,
-    words: LineWords<'_>,
+    words: &mut LineWords<'_>,
 ) -> Result<Option<What>, Memory>
-    ensures { IfOk result (λ what. what ≡ request_of clusters.now words.entry) }
+    ensures { IfOk result (λ what. what ≡ request_of clusters.now words.old) }
 {
-    let mut words = words;
-    let Some(id) = words.next_word() else {
-        return Ok(None);
-    };
-    let Some(source) = words.last_word() else {
+    let Some((id, source)) = words.last_two() else {
         return Ok(None);
     };
     let Some(id) = text_of(alloc, id)? else {
@@ -60,15 +56,11 @@ pub(crate) fn request_of(
 pub(crate) fn response_of(
     alloc: Global,
     clusters: &NameTable<'_>,
-    words: LineWords<'_>,
+    words: &mut LineWords<'_>,
 ) -> Result<Option<What>, Memory>
-    ensures { IfOk result (λ what. what ≡ response_of clusters.now words.entry) }
+    ensures { IfOk result (λ what. what ≡ response_of clusters.now words.old) }
 {
-    let mut words = words;
-    let Some(id) = words.next_word() else {
-        return Ok(None);
-    };
-    let Some(answer) = words.last_word() else {
+    let Some((id, answer)) = words.last_two() else {
         return Ok(None);
     };
     let Some(id) = text_of(alloc, id)? else {
@@ -84,15 +76,11 @@ pub(crate) fn response_of(
 pub(crate) fn snapshot_of(
     alloc: Global,
     clusters: &NameTable<'_>,
-    words: LineWords<'_>,
+    words: &mut LineWords<'_>,
 ) -> Result<Option<What>, Memory>
-    ensures { IfOk result (λ what. what ≡ snapshot_of clusters.now words.entry) }
+    ensures { IfOk result (λ what. what ≡ snapshot_of clusters.now words.old) }
 {
-    let mut words = words;
-    let Some(id) = words.next_word() else {
-        return Ok(None);
-    };
-    let Some(local) = words.next_word() else {
+    let Some((id, local)) = words.next_two() else {
         return Ok(None);
     };
     let Some(id) = text_of(alloc, id)? else {
@@ -111,11 +99,10 @@ pub(crate) fn snapshot_of(
 pub(crate) fn update_of(
     alloc: Global,
     clusters: &NameTable<'_>,
-    words: LineWords<'_>,
+    words: &mut LineWords<'_>,
 ) -> Result<Option<What>, Memory>
-    ensures { IfOk result (λ what. what ≡ update_of clusters.now words.entry) }
+    ensures { IfOk result (λ what. what ≡ update_of clusters.now words.old) }
 {
-    let mut words = words;
     let Some(sub) = words.next_word() else {
         return Ok(None);
     };
@@ -132,11 +119,10 @@ pub(crate) fn update_of(
 pub(crate) fn own_update_of(
     alloc: Global,
     clusters: &NameTable<'_>,
-    words: LineWords<'_>,
+    words: &mut LineWords<'_>,
 ) -> Result<Option<What>, Memory>
-    ensures { IfOk result (λ what. what ≡ own_update_of clusters.now words.entry) }
+    ensures { IfOk result (λ what. what ≡ own_update_of clusters.now words.old) }
 {
-    let mut words = words;
     let Some(sub) = words.next_word() else {
         return Ok(None);
     };
@@ -151,10 +137,9 @@ pub(crate) fn own_update_of(
 }
 
 /// `unread`
-pub(crate) fn unread_of(alloc: Global, words: LineWords<'_>) -> Option<What>
-    ensures { result ≡ unread_of words.entry }
+pub(crate) fn unread_of(alloc: Global, words: &mut LineWords<'_>) -> Option<What>
+    ensures { result ≡ unread_of words.old }
 {
-    let mut words = words;
     match words.next_word() {
         Some(_) => None,
         None => Some(marked(alloc, Content::Unread(0), None)),
@@ -166,11 +151,10 @@ pub(crate) fn unread_of(alloc: Global, words: LineWords<'_>) -> Option<What>
 fn cluster_positions_of(
     alloc: Global,
     clusters: &NameTable<'_>,
-    words: LineWords<'_>,
+    words: &mut LineWords<'_>,
 ) -> Result<Option<Sequence<ClusterPosition>>, Memory>
-    ensures { IfOk result (λ remote. remote ≡ cluster_positions_of clusters.now words.entry) }
+    ensures { IfOk result (λ remote. remote ≡ cluster_positions_of clusters.now words.old) }
 {
-    let mut words = words;
     let mut remote = Sequence::new(alloc);
     while let Some(word) = words.next_word() {
         let Some(position) = cluster_position_of(alloc, clusters, word)? else {
@@ -185,9 +169,9 @@ fn cluster_positions_of(
 fn told_positions_of(
     alloc: Global,
     clusters: &NameTable<'_>,
-    words: LineWords<'_>,
+    words: &mut LineWords<'_>,
 ) -> Result<Option<ToldPositions>, Memory>
-    ensures { IfOk result (λ told. told ≡ told_positions_of clusters.now words.entry) }
+    ensures { IfOk result (λ told. told ≡ told_positions_of clusters.now words.old) }
 {
     let mut remote = Sequence::new(alloc);
     match add_told(alloc, &mut remote, clusters, words) {
@@ -209,13 +193,12 @@ fn add_told(
     alloc: Global,
     remote: &mut Sequence<ClusterPosition>,
     clusters: &NameTable<'_>,
-    words: LineWords<'_>,
+    words: &mut LineWords<'_>,
 ) -> Result<Option<Position>, Memory>
     requires { remote.old ≡ [] }
-    ensures { IfOk result (λ by. MatchOption by (told_positions_of clusters.now words.entry ≡ None)
-        (λ p. told_positions_of clusters.now words.entry ≡ Some (record { remote = remote.new; by = p }))) }
+    ensures { IfOk result (λ by. MatchOption by (told_positions_of clusters.now words.old ≡ None)
+        (λ p. told_positions_of clusters.now words.old ≡ Some (record { remote = remote.new; by = p }))) }
 {
-    let mut words = words;
     while let Some(word) = words.next_word() {
         if is_word(word, b"by") {
             return match by_of(words) {
@@ -232,8 +215,8 @@ fn add_told(
 }
 
 /// The position behind `by`.
-fn by_of(words: LineWords<'_>) -> Option<Position>
-    ensures { result ≡ by_of words.entry }
+fn by_of(words: &mut LineWords<'_>) -> Option<Position>
+    ensures { result ≡ by_of words.old }
 {
     position_of(words.last_word()?)
 }

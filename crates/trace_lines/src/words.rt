@@ -1,5 +1,5 @@
 //! The words of a line that are left.
-ghost use Rattle.std.specs.Prelude.{◌≡◌, ◌≢◌, List, ℕ, [], ◌∷◌, MatchOption};
+ghost use Rattle.std.specs.Prelude.{◌≡◌, ◌≢◌, ◌<◌, List, ℕ, [], ◌∷◌, length, MatchOption};
 ghost use Rattle.script_rows.specs.Words.{words_of};
 
 use script_names::cut_at;
@@ -46,21 +46,38 @@ impl<'a> LineWords<'a> {
         }
     }
 
-    /// The one word that is left; None where none is left, or more.
-    pub(crate) fn last_word(self) -> Option<&'a [u8]>
-        ensures { MatchOption result ((word : List ℕ) → self.entry ≢ word ∷ []) (λ word. self.entry ≡ word.now ∷ []) }
+    /// The next two words.
+    pub(crate) fn next_two(&mut self) -> Option<(&'a [u8], &'a [u8])>
+        ensures { MatchOption result (length self.old < 2) (λ two. self.old ≡ two.0.now ∷ two.1.now ∷ self.new) }
     {
-        let mut words = self;
-        let word = words.next_word()?;
-        match words.next_word() {
+        let first = self.next_word()?;
+        let second = self.next_word()?;
+        Some((first, second))
+    }
+
+    /// The one word that is left; None where none is left, or more.
+    pub(crate) fn last_word(&mut self) -> Option<&'a [u8]>
+        ensures { MatchOption result ((word : List ℕ) → self.old ≢ word ∷ []) (λ word. self.old ≡ word.now ∷ []) }
+    {
+        let word = self.next_word()?;
+        match self.next_word() {
             Some(_) => None,
             None => Some(word),
         }
     }
 
+    /// The two words that are left; None where fewer are left, or more.
+    pub(crate) fn last_two(&mut self) -> Option<(&'a [u8], &'a [u8])>
+        ensures { MatchOption result ((first second : List ℕ) → self.old ≢ first ∷ second ∷ []) (λ two. self.old ≡ two.0.now ∷ two.1.now ∷ []) }
+    {
+        let first = self.next_word()?;
+        let second = self.last_word()?;
+        Some((first, second))
+    }
+
     /// All that is left of the line, as one text; None where no word is left.
-    pub(crate) fn text(self) -> Option<&'a [u8]>
-        ensures { MatchOption result (self.entry ≡ []) (λ text. self.entry ≡ words_of text.now) }
+    pub(crate) fn text(&self) -> Option<&'a [u8]>
+        ensures { MatchOption result (self.now ≡ []) (λ text. self.now ≡ words_of text.now) }
     {
         self.rest
     }
