@@ -1,7 +1,7 @@
 -- The lines of an event, write by write.
 use Rattle.std.proofs.Common.{◌≡◌, ℕ, zero, suc, ◌+◌, ◌<◌, ◌≤◌, Bool, true, false, List, [], ◌∷◌, ◌++◌, drop, length, map, refl, sym, ap, subst, append_assoc, ◌∙◌, arith}
 use Rattle.std.proofs.lemmas.List.{append-nil}
-use Rattle.std.specs.Prelude.{Some, min, slice_get, take, find, if◌then◌else◌}
+use Rattle.std.specs.Prelude.{Some, Result, Ok, Err, OnOk, min, slice_get, take, find, if◌then◌else◌}
 use Rattle.std.specs.Str.{bytes_eq}
 use Rattle.geo_base.specs.declared.entry.Entry.{Entry}
 use Rattle.geo_base.specs.declared.planned.Cause.{Cause}
@@ -18,7 +18,7 @@ use Rattle.broker_state.specs.declared.write.BookWrite.{BookWrite}
 use Rattle.broker_state.specs.declared.write.BookWrite.TheVariants as book_write
 use Rattle.broker_state.specs.Fits.{AllWritesFit, WriteFits}
 use Rattle.broker_state.specs.Writes.{machine_write}
-use Rattle.trace_acts.specs.Naming.{act_line}
+use Rattle.trace_acts.specs.Naming.{Naming, act_line}
 use Rattle.report_lines.proofs.Added.{drop_here}
 use Rattle.trace_acts.specs.Acts.{acts_before}
 use Rattle.trace_events.specs.Writes.{IsWithin, SubIsWithin, lines_of, naming}
@@ -27,6 +27,15 @@ use Rattle.trace_events.specs.Writes.{IsWithin, SubIsWithin, lines_of, naming}
 
 pub one_line : (h : Site) (a : Act) (old new : List ℕ) → new ≡ old ++ act_line (naming h) a → new ≡ old ++ lines_of h (a ∷ [])
 one_line h a old new is = is ∙ ap (λ (t : List ℕ). old ++ t) (sym (append-nil (act_line (naming h) a)))
+
+-- the same, of a result and of a line that says the same
+pub on_said : {T E : Type 0} (r : Result T E) (n m : Naming) (a b : Act) (old new : List ℕ) → n ≡ m → a ≡ b → OnOk r (new ≡ old ++ act_line n a) → OnOk r (new ≡ old ++ act_line m b)
+on_said (Ok x) n m a b old new at same is = is ∙ (ap (λ (k : Naming). old ++ act_line k a) at ∙ ap (λ (c : Act). old ++ act_line m c) same)
+on_said (Err e) n m a b old new at same is = tt
+
+pub on_line : {T E : Type 0} (r : Result T E) (h : Site) (a : Act) (old new : List ℕ) → OnOk r (new ≡ old ++ act_line (naming h) a) → OnOk r (new ≡ old ++ lines_of h (a ∷ []))
+on_line (Ok x) h a old new is = one_line h a old new is
+on_line (Err e) h a old new is = tt
 
 pub no_line : (old : List ℕ) → old ≡ old ++ []
 no_line old = sym (append-nil old)

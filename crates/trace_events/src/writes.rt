@@ -55,7 +55,7 @@ pub fn add_writes(
 }
 
 /// The line of a write, if it has one; `sub` is the name of the event's subscription.
-#[tactic(auto, using(crate::proofs::Steps::one_line, crate::proofs::Seen::seen_same))]
+#[tactic(auto, using(crate::proofs::Seen::seen_same))]
 fn add_write(
     alloc: Global,
     telling: &mut Telling,
