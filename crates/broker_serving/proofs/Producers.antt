@@ -38,6 +38,16 @@ pub attached_producer : (h : Site) (b : Broker) (c : ℕ) (s : Session) (topic :
 attached_producer h b c s topic id request n is =
     sym (producer_served h b c s topic id request n ∙ ap (λ (o : Option ℕ). plan_at o (λ k. refuses c s request k) (attaches c s id request n)) is)
 
+-- by what was asked of the topic, the name and the other clients
+pub refusal_when : (h : Site) (b : Broker) (c : ℕ) (topic n : List ℕ) (t u : Bool) → (bytes_eq topic h.topic && may_attach n) ≡ t → is_taken n c 0 b.sessions ≡ u
+    → refusal h b c topic n ≡ (if not t then Some unknown_error else if u then Some producer_busy else None)
+refusal_when h b c topic n t u allowed taken =
+    ap (λ (x : Bool). if not x then Some unknown_error else if is_taken n c 0 b.sessions then Some producer_busy else None) allowed
+    ∙ ap (λ (y : Bool). if not t then Some unknown_error else if y then Some producer_busy else None) taken
+
+pub taken_as : (c : ℕ) (n m : List ℕ) (ss us : List (Option Session)) (t : Bool) → n ≡ m → ss ≡ us → t ≡ is_taken n c 0 ss → is_taken m c 0 us ≡ t
+taken_as c n m ss us t same_name same_sessions told = sym (told ∙ rw (same_name, same_sessions) refl)
+
 -- a name that may attach is short enough to be answered
 pub short_name : (n : List ℕ) → may_attach n ≡ true → length n ≤ 1024
 short_name n may = grind (arith, nat_tests)
@@ -54,7 +64,7 @@ pub unsound_sent : (h : Site) (b : Broker) (c : ℕ) (s : Session) (id seq : ℕ
 unsound_sent h b c s id seq source e None sound = refl
 unsound_sent h b c s id seq source e (Some n) sound = rw sound refl
 
-last_true : (x y : Bool) → (x && y) ≡ true → y ≡ true
+pub last_true : (x y : Bool) → (x && y) ≡ true → y ≡ true
 last_true true y h = h
 last_true false y h = absurd cc
 

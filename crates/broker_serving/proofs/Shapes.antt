@@ -1,5 +1,5 @@
 -- Events of a few steps: each is the machine's plan, and a broker can do it.
-use Rattle.std.proofs.Common.{◌≡◌, ℕ, ◌<◌, ◌≤◌, Bool, true, false, List, [], ◌∷◌, length, refl, sym, subst, arith}
+use Rattle.std.proofs.Common.{◌≡◌, ℕ, ◌<◌, ◌≤◌, Bool, true, false, List, [], ◌∷◌, ◌++◌, length, refl, sym, ◌∙◌, subst, arith}
 use Rattle.std.specs.Prelude.{if◌then◌else◌, Option, Some, None, Result, OnOk}
 use Rattle.std.proofs.lemmas.Bool.{le-ltb, lt-ltb}
 use Rattle.geo_base.specs.declared.change.Change.{Change}
@@ -22,6 +22,7 @@ use Rattle.broker_subs.specs.declared.changing.SubChange.TheVariants as sub_chan
 use Rattle.broker_state.specs.Fits.{NamedFits}
 use Rattle.broker_state.specs.Plan.{PlanBook, idle_book, name_in, named_plan, quiet_book}
 use Rattle.broker_state.specs.Room.{HasRoom, Room}
+use Rattle.broker_state.specs.declared.change.BookChange.{BookChange}
 use Rattle.broker_state.specs.declared.change.BookChange.TheVariants as book_change
 use Rattle.broker_state.specs.declared.write.BookWrite.TheVariants as book_write
 use Rattle.broker_plans.specs.Prepared.{AlsoSends, ArePackets, IsPrepared, unsent}
@@ -104,6 +105,10 @@ detaches h b c p is =
       fits = record { writes_named = tt; changes_named = (tt, tt); writes = tt; changes = (tt, tt) };
       stored = record { writes = tt; changes = tt };
     })
+
+-- an event that changes one thing
+pub change_alone : (k : ℕ) (x : BookChange) (q p : PlanBook) → q ≡ quiet_book k → p ≡ record q { changes = q.changes ++ x ∷ [] } → p ≡ record (quiet_book k) { changes = x ∷ [] }
+change_alone k x q p begun is = is ∙ rw begun refl
 
 pub permits : (h : Site) (b : Broker) (k c n : ℕ) (p : PlanBook) → k < length b.subs
     → p ≡ record (quiet_book k) { changes = book_change.Sub (sub_change.Permit c n) ∷ [] } → IsPrepared h b (quiet_plan (change.Permit (sub_at b.subs k).name c n ∷ [])) p

@@ -59,7 +59,6 @@ pub(crate) fn serve_ack(
 
 /// A write of the cursor of the subscription at a place, the update that follows it, and nothing acknowledged is out or due from
 /// then on.
-#[tactic(auto, using(crate::proofs::Acks::acked, crate::proofs::Acks::ack_room, broker_plans::proofs::Updates::update_appends))]
 fn acknowledge(
     alloc: Global,
     book: &mut BrokerState,

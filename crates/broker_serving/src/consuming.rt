@@ -40,7 +40,6 @@ pub(crate) fn serve_flow(
 }
 
 /// A consumer of the subscription at a place gains permits.
-#[tactic(auto, using(crate::proofs::Shapes::permits, crate::proofs::Shapes::permit_room))]
 fn permit(
     book: &BrokerState,
     client: u32,

@@ -1,5 +1,5 @@
 //! A broker and its clients' producers: PRODUCER and CLOSE_PRODUCER.
-ghost use Rattle.std.specs.Prelude.{◌≡◌, ◌<◌, ◌≤◌, ◌++◌, ◌∷◌, [], true, None, Some, length, IfOk, OnOk};
+ghost use Rattle.std.specs.Prelude.{◌≡◌, ◌<◌, ◌≤◌, ◌++◌, ◌∷◌, ◌&&◌, [], true, None, Some, length, IfOk, OnOk};
 ghost use Rattle.std.specs.List.{list_any};
 ghost use Rattle.std.specs.Option.{option_copied};
 ghost use Rattle.std.specs.Str.{bytes_eq};
@@ -73,7 +73,7 @@ fn refusal(book: &BrokerState, client: u32, topic: &Text, name: &Text) -> Option
     ensures refusal { result ≡ refusal book.now.site book.now.broker client topic.now name.now }
     ensures allowed { result ≡ None → may_attach name.now ≡ true }
 {
-    if topic.as_bytes() != book.site().topic().as_str().as_bytes() || !may_attach(name.as_bytes()) {
+    if !is_allowed(book, topic, name) {
         return Some(UNKNOWN_ERROR);
     }
     if is_taken(name.as_bytes(), client, book.sessions()) {
@@ -82,8 +82,14 @@ fn refusal(book: &BrokerState, client: u32, topic: &Text, name: &Text) -> Option
     None
 }
 
+/// Whether the topic is the broker's, and the name may be a producer's.
+fn is_allowed(book: &BrokerState, topic: &Text, name: &Text) -> bool
+    ensures { result ≡ (bytes_eq topic.now book.now.site.topic && may_attach name.now) }
+{
+    topic.as_bytes() == book.site().topic().as_str().as_bytes() && may_attach(name.as_bytes())
+}
+
 /// A producer attaches.
-#[tactic(auto, using(crate::proofs::Producers::short_name))]
 fn attach_producer(
     alloc: Global,
     book: &BrokerState,
@@ -202,10 +208,7 @@ fn without_producer(
     let mut kept = Sequence::new(alloc);
     for producer in producers {
         if producer.id != id {
-            kept.push(AttachedProducer {
-                id: producer.id,
-                name: producer.name.copy(alloc)?,
-            })?;
+            add_producer(alloc, &mut kept, producer.id, &producer.name)?;
         }
     }
     Ok(kept)
@@ -221,11 +224,21 @@ fn with_producer(
     ensures { IfOk result (λ ps. ps ≡ producers ++ record { id = id; name = name.now } ∷ []) }
 {
     let mut with = producers;
-    with.push(AttachedProducer {
-        id,
-        name: name.copy(alloc)?,
-    })?;
+    add_producer(alloc, &mut with, id, name)?;
     Ok(with)
+}
+
+/// One more producer.
+fn add_producer(
+    alloc: Global,
+    producers: &mut Sequence<AttachedProducer>,
+    id: u64,
+    name: &Text,
+) -> Result<(), Memory>
+    ensures { OnOk result (producers.new ≡ producers.old ++ record { id = id; name = name.now } ∷ []) }
+{
+    let name = name.copy(alloc)?;
+    producers.push(AttachedProducer { id, name })
 }
 
 /// Whether a name may be a producer's: it is not too long, and none of the system's own.

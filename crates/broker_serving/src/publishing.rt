@@ -95,9 +95,10 @@ fn store(
     let Publish {
         id,
         seq,
-        source: _,
+        source,
         mut entry,
     } = publish;
+    drop(source);
     entry.ident.origin = book.site().own();
     let position = storing(alloc, book, entry, plan)?;
     let receipt = Frame::SendReceipt {

@@ -192,7 +192,9 @@ fn serve_command(
                 request,
                 name,
             };
-            serve_producer(alloc, book, client, &asked, plan)
+            let served = serve_producer(alloc, book, client, &asked, plan);
+            drop(asked);
+            served
         }
         Frame::Send {
             id,
@@ -209,6 +211,7 @@ fn serve_command(
             serve_send(alloc, book, client, publish, plan)
         }
         Frame::CloseProducer { id, request } => {
+            drop(frame);
             serve_close_producer(alloc, book, client, id, request, plan)
         }
         frame => serve_consumer(alloc, book, client, frame, plan),
@@ -238,10 +241,11 @@ fn serve_consumer(
             kind,
             id,
             request,
-            consumer: _,
+            consumer,
             earliest,
             replicated,
         } => {
+            drop(consumer);
             let asked = Joining {
                 topic,
                 sub,
@@ -251,12 +255,16 @@ fn serve_consumer(
                 earliest,
                 replicated,
             };
-            serve_subscribe(alloc, book, client, &asked, plan)
+            let served = serve_subscribe(alloc, book, client, &asked, plan);
+            drop(asked);
+            served
         }
         Frame::Unsubscribe { id, request } => {
+            drop(frame);
             serve_unsubscribe(alloc, book, client, id, request, plan)
         }
         Frame::CloseConsumer { id, request } => {
+            drop(frame);
             serve_close_consumer(alloc, book, client, id, request, plan)
         }
         frame => serve_other(alloc, book, client, frame, plan),
@@ -281,7 +289,10 @@ fn serve_other(
     ensures kept { SameState book.old book.new }
 {
     match frame {
-        Frame::Flow { id, permits } => serve_flow(book, client, id, permits, plan),
+        Frame::Flow { id, permits } => {
+            drop(frame);
+            serve_flow(book, client, id, permits, plan)
+        }
         Frame::Ack {
             id,
             kind,
@@ -292,10 +303,16 @@ fn serve_other(
                 kind,
                 positions,
             };
-            serve_ack(alloc, book, client, &acked, plan)
+            let served = serve_ack(alloc, book, client, &acked, plan);
+            drop(acked);
+            served
         }
-        Frame::Ping => answer(alloc, book, client, Frame::Pong, plan),
+        Frame::Ping => {
+            drop(frame);
+            answer(alloc, book, client, Frame::Pong, plan)
+        }
         Frame::Pong => {
+            drop(frame);
             ignore(book, plan);
             Ok(())
         }

@@ -1,4 +1,4 @@
-use Rattle.std.proofs.Common.{◌≡◌, ◌∙◌, ℕ, ◌++◌, ◌∷◌, [], List, ap, subst}
+use Rattle.std.proofs.Common.{◌≡◌, ◌∙◌, ℕ, ◌≤◌, ◌++◌, ◌∷◌, [], List, length, sym, ap, subst}
 use Rattle.geo_base.specs.declared.frame.Frame.TheVariants as frame
 use Rattle.geo_base.specs.declared.session.AttachedProducer.{AttachedProducer}
 use Rattle.geo_base.specs.Answers.{answer}
@@ -7,8 +7,11 @@ use Rattle.geo_base.specs.Producing.{with_producers, without_producer}
 use Rattle.broker_plans.specs.Prepared.{IsPrepared}
 use Rattle.broker_plans.proofs.Keeping.{room_more}
 use Rattle.broker_serving.specs.Serving.{open_at}
-use Rattle.broker_serving.proofs.Producers.{having_more}
+use Rattle.broker_serving.proofs.Producers.{having_more, short_name}
 use Rattle.broker_serving.proofs.producing.attach_producer.Goals as goal
+
+pub also_answer-requires-clause-small : goal.also_answer-requires-clause-small
+also_answer-requires-clause-small c = subst (λ (n : List ℕ). length n ≤ 1024) (sym c.in_ok-copy.ensures) (short_name c.args.name.now c.requires.allowed)
 
 pub returns-clause-prepared : goal.returns-clause-prepared
 returns-clause-prepared c =
