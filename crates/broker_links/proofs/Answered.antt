@@ -1,6 +1,6 @@
 -- Packets behind what an event does.
 use Rattle.std.proofs.Common.{◌≡◌, ℕ, Bool, true, false, List, [], ◌∷◌, ◌++◌, refl, sym, ◌∙◌, ap, append_assoc, subst}
-use Rattle.std.specs.Prelude.{Option, Some, None}
+use Rattle.std.specs.Prelude.{IfSome, Option, Some, None}
 use Rattle.geo_base.specs.declared.change.Change.{Change}
 use Rattle.geo_base.specs.declared.change.Change.TheVariants as change
 use Rattle.geo_base.specs.declared.entry.Entry.{Entry}
@@ -16,7 +16,7 @@ use Rattle.broker_state.specs.Plan.{PlanBook}
 use Rattle.broker_state.specs.Room.{HasRoom, Room}
 use Rattle.broker_plans.specs.Prepared.{AlsoSends, ArePackets, IsPrepared}
 use Rattle.broker_links.specs.Acts.{opening_plan, receipts, receiving_plan, times}
-use Rattle.broker_links.specs.Answers.{AlsoAnswers, out_of, outs_of, receipt_answer, second_out, success_answer}
+use Rattle.broker_links.specs.Answers.{AlsoAnswers, IsBrief, out_of, outs_of, receipt_answer, second_out, success_answer}
 use Rattle.broker_links.specs.declared.answers.Answer.{Answer}
 
 -- ---- one packet and two
@@ -42,8 +42,8 @@ pub answers_again : (names : List (List ℕ)) (a : Answer) (f : Frame) (p q r : 
 answers_again names a f p q r some first second =
     subst (λ (o : Option Frame). AlsoAnswers names (out_of a.source a.session a.first ∷ second_out a.source a.session o) p r) (sym some) (two names _ _ p q r first second)
 
-pub answers_as : (names : List (List ℕ)) (a wanted : Answer) (p q : PlanBook) → a ≡ wanted → AlsoAnswers names (outs_of a) p q → AlsoAnswers names (outs_of wanted) p q
-answers_as names a wanted p q is more = subst (λ (v : Answer). AlsoAnswers names (outs_of v) p q) is more
+pub second_brief : (names : List (List ℕ)) (o : Option Frame) (f : Frame) → o ≡ Some f → IfSome o (IsBrief names) → IsBrief names f
+second_brief names o f some brief = subst (λ (x : Option Frame). IfSome x (IsBrief names)) some brief
 
 -- ---- an event that sent nothing before
 

@@ -1,5 +1,5 @@
 -- The session that is open on a forward link changes.
-use Rattle.std.proofs.Common.{◌≡◌, ℕ, ◌<◌, [], ◌∷◌, length, refl, arith}
+use Rattle.std.proofs.Common.{◌≡◌, ℕ, ◌<◌, [], ◌∷◌, ◌++◌, ◌∙◌, length, refl, arith}
 use Rattle.std.specs.Prelude.{Option}
 use Rattle.std.proofs.lemmas.List.{length-set}
 use Rattle.geo_base.specs.declared.change.Change.TheVariants as change
@@ -7,10 +7,17 @@ use Rattle.geo_base.specs.Broker.{Broker, Site}
 use Rattle.geo_base.specs.Plan.{quiet_plan}
 use Rattle.broker_state.specs.Plan.{PlanBook, quiet_book}
 use Rattle.broker_state.specs.Room.{HasRoom, Room}
+use Rattle.broker_state.specs.declared.change.BookChange.{BookChange}
 use Rattle.broker_state.specs.declared.change.BookChange.TheVariants as book_change
 use Rattle.broker_plans.specs.Prepared.{IsPrepared}
 
 -- ---- the session of a link changes, once and two times in a row
+
+pub change_alone : (x : BookChange) (q p : PlanBook) → q ≡ quiet_book 0 → p ≡ record q { changes = q.changes ++ x ∷ [] } → p ≡ record (quiet_book 0) { changes = x ∷ [] }
+change_alone x q p begun is = is ∙ rw begun refl
+
+pub change_again : (x : BookChange) (p r : PlanBook) → p ≡ record (quiet_book 0) { changes = x ∷ [] } → r ≡ record p { changes = p.changes ++ x ∷ [] } → r ≡ record (quiet_book 0) { changes = x ∷ x ∷ [] }
+change_again x p r once is = is ∙ rw once refl
 
 pub becomes : (h : Site) (b : Broker) (x : ℕ) (session : Option ℕ) (p : PlanBook) → x < length b.receivers → p ≡ record (quiet_book 0) { changes = book_change.Receiver x session ∷ [] }
     → IsPrepared h b (quiet_plan (change.Receiver x session ∷ [])) p

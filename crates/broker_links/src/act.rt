@@ -114,7 +114,6 @@ fn command_act(book: &BrokerState, source: u32, frame: Frame) -> TakeAct
 }
 
 /// A SEND in the session that is open.
-#[tactic(auto, using(crate::proofs::Storable::storable_within))]
 fn send_act(
     book: &BrokerState,
     source: u32,
@@ -131,6 +130,7 @@ fn send_act(
         entry.ident.origin = source;
         return TakeAct::Receives { seq, entry };
     }
+    drop(entry);
     TakeAct::Refuses
 }
 

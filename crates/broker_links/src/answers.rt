@@ -26,7 +26,6 @@ struct Answer {
 }
 
 /// An event that sends, behind all that it does, an answer.
-#[tactic(auto, using(crate::proofs::Answered::answers_once, crate::proofs::Answered::answers_again))]
 fn also_answer(
     alloc: Global,
     book: &BrokerState,
@@ -49,7 +48,6 @@ fn also_answer(
 }
 
 /// An event that also answers the packet that opened the session of a number.
-#[tactic(auto, using(crate::proofs::Answered::answers_as))]
 pub(crate) fn also_succeed(
     alloc: Global,
     book: &BrokerState,
@@ -67,7 +65,6 @@ pub(crate) fn also_succeed(
 }
 
 /// An event that also answers an entry. The second time it is a duplicate, whose receipt names no position.
-#[tactic(auto, using(crate::proofs::Answered::answers_as))]
 pub(crate) fn also_receipt(
     alloc: Global,
     book: &BrokerState,
@@ -119,15 +116,13 @@ fn success_answer(
 }
 
 /// The frame that says that a session is open.
-#[tactic(auto, using(crate::proofs::Small::success_brief))]
 fn success(alloc: Global, book: &BrokerState, source: u32, request: u64) -> Result<Frame, Memory>
     ensures frame { IfOk result (λ f. f ≡ success book.now.site source request) }
     ensures brief { IfOk result (IsBrief book.now.site.clusters) }
 {
-    Ok(Frame::ProducerSuccess {
-        request,
-        name: book.site().link_producer(alloc, source)?,
-    })
+    let site = book.site();
+    let name = site.link_producer(alloc, source)?;
+    Ok(Frame::ProducerSuccess { request, name })
 }
 
 fn second_success(

@@ -101,15 +101,17 @@ fn also_open(
 }
 
 /// The packet that opens a session has its number as producer id and as request id.
-#[tactic(auto, using(crate::proofs::Small::opening_brief))]
 fn opening_frame(alloc: Global, book: &BrokerState, session: u64) -> Result<Frame, Memory>
     ensures frame { IfOk result (λ f. f ≡ opening book.now.site session) }
     ensures brief { IfOk result (IsBrief book.now.site.clusters) }
 {
+    let site = book.site();
+    let topic = Text::from_str(alloc, site.topic().as_str())?;
+    let name = site.link_producer(alloc, site.own())?;
     Ok(Frame::Producer {
-        topic: Text::from_str(alloc, book.site().topic().as_str())?,
+        topic,
         id: session,
         request: session,
-        name: Some(book.site().link_producer(alloc, book.site().own())?),
+        name: Some(name),
     })
 }

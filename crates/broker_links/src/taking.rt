@@ -128,7 +128,6 @@ fn take_times(
 }
 
 /// What an act will do.
-#[tactic(auto, using(crate::proofs::Plans::quiet, crate::proofs::Plans::quiet_room))]
 fn act(
     alloc: Global,
     book: &mut BrokerState,
@@ -157,7 +156,6 @@ fn act(
 }
 
 /// Another session is open on the link from a cluster, or none.
-#[tactic(auto, using(crate::proofs::Takes::becomes, crate::proofs::Takes::becomes_room))]
 fn set_session(
     book: &BrokerState,
     source: u32,
@@ -175,7 +173,6 @@ fn set_session(
 }
 
 /// The same two times in a row.
-#[tactic(auto, using(crate::proofs::Takes::becomes_twice, crate::proofs::Takes::becomes_twice_room))]
 fn set_session_twice(
     book: &BrokerState,
     source: u32,
