@@ -41,6 +41,12 @@ use Rattle.frame_values.proofs.Entries.{no_rest, says_is}
 pub viewed_reads : (names : List (List ℕ)) (bytes : List ℕ) (w : WireFrame) (r : Result Frame Memory) → IsFrameText bytes w → IfOk r (SaysValue names w) → IfOk r (Reads names bytes)
 viewed_reads names bytes w r is says = IfOk-weaker r (SaysValue names w) (Reads names bytes) (λ f h. told w is h) says
 
+-- what reading a frame of the usual form answers
+pub viewed_answer : (names : List (List ℕ)) (bytes : List ℕ) (o : Option FrameView) (v : FrameView) (r : Result Frame Memory) → IfSome o (λ w. IsFrameText bytes (frame_viewed w)) → o ≡ Some v → IfOk r (SaysValue names (frame_viewed v)) → IfOk r (Reads names bytes)
+viewed_answer names bytes o v r h there says =
+    let is : IsFrameText bytes (frame_viewed v) = subst (λ (x : Option FrameView). IfSome x (λ w. IsFrameText bytes (frame_viewed w))) there h in
+    viewed_reads names bytes (frame_viewed v) r is says
+
 -- a command with a message, and one without
 pub viewed_carries : (names : List (List ℕ)) (v : FrameView) (m : MessageView) (f : Frame) (source : Option Place) (e : Entry) → v.message ≡ Some m → f ≡ carrying (command_viewed v.command) source e → IsEntryOf names (message_viewed m) source e → SaysValue names (frame_viewed v) f
 viewed_carries names v m f source e some is says = says_is names (command_viewed v.command) (option_map message_viewed v.message) (message_viewed m) f source e (ap (λ (o : Option MessageView). option_map message_viewed o) some) is says

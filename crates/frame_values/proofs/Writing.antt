@@ -1,6 +1,6 @@
 -- What the code writes is the text of the frame.
 use Rattle.std.proofs.Common.{◌≡◌, ◌≢◌, ℕ, ◌-◌, List, [], ◌∷◌, true, false, refl, sym, ap, subst, ◌∙◌, arith, length, ◌==◌}
-use Rattle.std.specs.Prelude.{Option, Some, None}
+use Rattle.std.specs.Prelude.{Option, Some, None, Result, Ok, Err, IfOk, IfErr}
 use Rattle.std.proofs.lemmas.Bool.{eqb-true}
 use Rattle.geo_base.specs.declared.entry.Content.TheVariants as content
 use Rattle.geo_base.specs.declared.entry.Entry.{Entry}
@@ -87,6 +87,19 @@ carried_fault names c source e k rest payload why known same is h =
       kept = sym same ∙ h.kept;
       large = subst (λ (w : WireFrame). IsTooLarge (wire_size w) why) one h.large;
     }
+
+-- what writing it answers
+pub carried_answered : (names : List (List ℕ)) (c : Command) (source : Option Place) (e : Entry) (k : KnownMeta) (rest payload : List ℕ) (r : Result (List ℕ) FrameFault)
+    → ((fields : List Field) → joined k fields ≡ metadata_of names source e fields) → rest ≡ e.meta.rest → payload ≡ payload_text names e.content e.payload
+    → IsMarkerRight names e.content e.payload → IfOk r (IsCarryingText c k rest payload) → IfOk r (IsCarriedText names c source e)
+carried_answered names c source e k rest payload (Ok bytes) known same is right h = carried_is names c source e k rest payload bytes known same is right h
+carried_answered names c source e k rest payload (Err why) known same is right h = tt
+
+pub carried_refused : (names : List (List ℕ)) (c : Command) (source : Option Place) (e : Entry) (k : KnownMeta) (rest payload : List ℕ) (r : Result (List ℕ) FrameFault)
+    → ((fields : List Field) → joined k fields ≡ metadata_of names source e fields) → rest ≡ e.meta.rest → payload ≡ payload_text names e.content e.payload
+    → IfErr r (IsCarryingFault c k rest payload) → IfErr r (IsCarriedFault names c source e)
+carried_refused names c source e k rest payload (Ok bytes) known same is h = tt
+carried_refused names c source e k rest payload (Err why) known same is h = carried_fault names c source e k rest payload why known same is h
 
 -- ---- what is too large
 
@@ -186,6 +199,17 @@ simple_written names f c bytes h is whole is_text = record {
 pub simple_fault : (names : List (List ℕ)) (f : Frame) (c : Command) (why : FrameFault) → carries_entry f ≡ false → is_readable f ≡ true → c ≡ command_of f → IsTooLarge (wire_size (simple_wire c)) why → IsTooLarge (frame_size names f - 4) why
 simple_fault names f c why h readable is large =
     large_is names [] f why (no_message names f h).1 readable (subst (λ (w : WireFrame). IsTooLarge (wire_size w) why) (simple_is names f c h is) large)
+
+-- what writing it answers
+pub simple_answered : (names : List (List ℕ)) (f : Frame) (c : Command) (r : Result (List ℕ) FrameFault) → carries_entry f ≡ false → c ≡ command_of f
+    → IfOk r (λ bytes. bytes ≡ frame_text (simple_wire c)) → IfOk r (λ bytes. IsFrameText bytes (simple_wire c)) → IfOk r (IsWritten names f)
+simple_answered names f c (Ok bytes) h is whole is_text = simple_written names f c bytes h is whole is_text
+simple_answered names f c (Err why) h is whole is_text = tt
+
+pub simple_refused : (names : List (List ℕ)) (f : Frame) (c : Command) (r : Result (List ℕ) FrameFault) → carries_entry f ≡ false → is_readable f ≡ true → c ≡ command_of f
+    → IfErr r (IsTooLarge (wire_size (simple_wire c))) → IfErr r (IsTooLarge (frame_size names f - 4))
+simple_refused names f c (Ok bytes) h readable is large = tt
+simple_refused names f c (Err why) h readable is large = simple_fault names f c why h readable is large
 
 -- ---- a marker that keeps no payload
 

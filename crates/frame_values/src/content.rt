@@ -1,5 +1,6 @@
 //! What an entry is, by its marker type and its payload.
 ghost use Rattle.std.specs.Prelude.{◌≡◌, ◌≤◌, ◌<◌, ◌^◌, [], length, map, None, Some, IfOk, MatchOption, OnOk};
+ghost use Rattle.geo_base.specs.declared.marker.Marker.TheVariants as machine;
 ghost use Rattle.geo_base.specs.Sizes.{marker_type, place_name};
 ghost use Rattle.pb_fields.specs.Canonical.{text};
 ghost use Rattle.marker_codec.specs.Canonical.{canonical_fields};
@@ -13,7 +14,7 @@ use crate::place::{name_of, place_of};
 use geo_base::limits::CLUSTERS;
 use geo_base::{
     Blob, BoxedMarker, ClusterName, ClusterPosition, Content, Marker as MachineMarker, Memory,
-    Place, Sequence, Text,
+    Place, Position, Sequence, Text,
 };
 use marker_codec::{ClusterMessageId, Marker, MarkerFault};
 use std::alloc::Global;
@@ -84,54 +85,89 @@ fn placed_marker(
             cluster,
         } => Ok(MachineMarker::Response {
             id: snapshot_id,
-            answer: placed_cluster(alloc, names, &cluster)?,
+            answer: placed_cluster(names, cluster),
         }),
         Marker::Snapshot {
             snapshot_id,
             local_message_id,
             clusters,
-        } => Ok(MachineMarker::Snapshot {
-            id: snapshot_id,
-            local: local_message_id,
-            remote: placed_clusters(alloc, names, clusters.as_slice())?,
-        }),
+        } => match placed_clusters(alloc, names, clusters) {
+            Ok(remote) => Ok(MachineMarker::Snapshot {
+                id: snapshot_id,
+                local: local_message_id,
+                remote,
+            }),
+            Err(why) => {
+                drop(snapshot_id);
+                Err(why)
+            }
+        },
         Marker::Update {
             subscription_name,
             clusters,
-        } => Ok(MachineMarker::Update {
-            sub: subscription_name,
-            remote: placed_clusters(alloc, names, clusters.as_slice())?,
-        }),
+        } => match placed_clusters(alloc, names, clusters) {
+            Ok(remote) => Ok(MachineMarker::Update {
+                sub: subscription_name,
+                remote,
+            }),
+            Err(why) => {
+                drop(subscription_name);
+                Err(why)
+            }
+        },
     }
 }
 
-fn placed_cluster(
-    alloc: Global,
-    names: &[ClusterName],
-    cluster: &ClusterMessageId,
-) -> Result<ClusterPosition, Memory>
+fn placed_cluster(names: &[ClusterName], cluster: ClusterMessageId) -> ClusterPosition
     requires { length names.now ≤ CLUSTERS }
-    ensures { IfOk result (λ c. c ≡ placed_cluster names.now cluster.now) }
+    ensures { result ≡ placed_cluster names.now cluster }
 {
-    Ok(ClusterPosition {
-        cluster: place_of(names, cluster.cluster.copy(alloc)?),
+    ClusterPosition {
+        cluster: place_of(names, cluster.cluster),
         position: cluster.message_id,
-    })
+    }
 }
 
 fn placed_clusters(
     alloc: Global,
     names: &[ClusterName],
-    clusters: &[ClusterMessageId],
+    clusters: Sequence<ClusterMessageId>,
 ) -> Result<Sequence<ClusterPosition>, Memory>
     requires { length names.now ≤ CLUSTERS }
-    ensures { IfOk result (λ cs. cs ≡ map (λ c. placed_cluster names.now c) clusters.now) }
+    ensures { IfOk result (λ cs. cs ≡ map (λ c. placed_cluster names.now c) clusters) }
 {
     let mut placed = Sequence::new(alloc);
-    for cluster in clusters {
-        placed.push(placed_cluster(alloc, names, cluster)?)?;
+    let added = add_placed(alloc, names, &mut placed, clusters.as_slice());
+    // by calls, so that each end is proved once
+    drop(clusters);
+    match added {
+        Ok(()) => Ok(placed),
+        Err(why) => {
+            drop(placed);
+            Err(why)
+        }
     }
-    Ok(placed)
+}
+
+/// Clusters by their numbers, behind none.
+fn add_placed(
+    alloc: Global,
+    names: &[ClusterName],
+    placed: &mut Sequence<ClusterPosition>,
+    clusters: &[ClusterMessageId],
+) -> Result<(), Memory>
+    requires few { length names.now ≤ CLUSTERS }
+    requires fresh { placed.old ≡ [] }
+    ensures { OnOk result (placed.new ≡ map (λ c. placed_cluster names.now c) clusters.now) }
+{
+    for cluster in clusters {
+        let name = cluster.cluster.copy(alloc)?;
+        placed.push(ClusterPosition {
+            cluster: place_of(names, name),
+            position: cluster.message_id,
+        })?;
+    }
+    Ok(())
 }
 
 /// The number in the metadata of an entry: none of a message (marker_type of PulsarMarkers.proto, with this project's own
@@ -195,23 +231,84 @@ fn named_marker(
     ensures { IfOk result (λ m. m ≡ named_marker names.now marker.now) }
 {
     match marker {
-        MachineMarker::Request { id, source } => Ok(Marker::Request {
-            snapshot_id: id.copy(alloc)?,
-            source_cluster: Text::from_str(alloc, name_of(names, source))?,
+        MachineMarker::Request { id, source } => {
+            let snapshot_id = id.copy(alloc)?;
+            match Text::from_str(alloc, name_of(names, source)) {
+                Ok(source_cluster) => Ok(Marker::Request {
+                    snapshot_id,
+                    source_cluster,
+                }),
+                Err(why) => {
+                    drop(snapshot_id);
+                    Err(why)
+                }
+            }
+        }
+        MachineMarker::Response { id, answer } => {
+            let snapshot_id = id.copy(alloc)?;
+            match named_cluster(alloc, names, answer) {
+                Ok(cluster) => Ok(Marker::Response {
+                    snapshot_id,
+                    cluster,
+                }),
+                Err(why) => {
+                    drop(snapshot_id);
+                    Err(why)
+                }
+            }
+        }
+        MachineMarker::Snapshot { id, local, remote } => {
+            named_snapshot(alloc, names, id, *local, remote.as_slice())
+        }
+        MachineMarker::Update { sub, remote } => {
+            named_update(alloc, names, sub, remote.as_slice())
+        }
+    }
+}
+
+/// A snapshot with clusters by their names.
+fn named_snapshot(
+    alloc: Global,
+    names: &[ClusterName],
+    id: &Text,
+    local: Position,
+    remote: &[ClusterPosition],
+) -> Result<Marker, Memory>
+    ensures { IfOk result (λ m. m ≡ named_marker names.now (machine.Snapshot id.now local remote.now)) }
+{
+    let snapshot_id = id.copy(alloc)?;
+    match named_clusters(alloc, names, remote) {
+        Ok(clusters) => Ok(Marker::Snapshot {
+            snapshot_id,
+            local_message_id: local,
+            clusters,
         }),
-        MachineMarker::Response { id, answer } => Ok(Marker::Response {
-            snapshot_id: id.copy(alloc)?,
-            cluster: named_cluster(alloc, names, answer)?,
+        Err(why) => {
+            drop(snapshot_id);
+            Err(why)
+        }
+    }
+}
+
+/// An update with clusters by their names.
+fn named_update(
+    alloc: Global,
+    names: &[ClusterName],
+    sub: &Text,
+    remote: &[ClusterPosition],
+) -> Result<Marker, Memory>
+    ensures { IfOk result (λ m. m ≡ named_marker names.now (machine.Update sub.now remote.now)) }
+{
+    let subscription_name = sub.copy(alloc)?;
+    match named_clusters(alloc, names, remote) {
+        Ok(clusters) => Ok(Marker::Update {
+            subscription_name,
+            clusters,
         }),
-        MachineMarker::Snapshot { id, local, remote } => Ok(Marker::Snapshot {
-            snapshot_id: id.copy(alloc)?,
-            local_message_id: *local,
-            clusters: named_clusters(alloc, names, remote.as_slice())?,
-        }),
-        MachineMarker::Update { sub, remote } => Ok(Marker::Update {
-            subscription_name: sub.copy(alloc)?,
-            clusters: named_clusters(alloc, names, remote.as_slice())?,
-        }),
+        Err(why) => {
+            drop(subscription_name);
+            Err(why)
+        }
     }
 }
 

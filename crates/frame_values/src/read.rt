@@ -17,7 +17,6 @@ use std::alloc::Global;
 /// The value that the bytes stand for: that of the frame that they are a text of, and `Unreadable` exactly where they are
 /// a text of none. `names` are those of the clusters, by their numbers. What the machine does not ask of a command is not
 /// kept; the cluster that stored an entry first does not stand in the bytes, and is 0 here.
-#[tactic(auto, using(crate::proofs::UsualValues::viewed_reads))]
 pub fn read_value(alloc: Global, names: &[ClusterName], bytes: &[u8]) -> Result<Frame, Memory>
     requires { length names.now ≤ CLUSTERS }
     ensures value { IfOk result (Reads names.now bytes.now) }

@@ -118,17 +118,31 @@ pub fn entry_of_message(
     ensures { IfOk result (λ e. e ≡ entry_viewed origin message.entry) }
 {
     let MessageView { meta, payload } = message;
-    Ok(Entry {
-        ident: Ident {
-            origin,
-            producer: ProducerName::any(alloc, meta.producer)?,
-            seq: meta.seq,
+    let producer = ProducerName::any(alloc, meta.producer)?;
+    match optional_text(alloc, meta.key) {
+        Ok(key) => match Blob::from_slice(alloc, payload) {
+            Ok(payload) => Ok(Entry {
+                ident: Ident {
+                    origin,
+                    producer,
+                    seq: meta.seq,
+                },
+                content: Content::Data,
+                to: Targets::All,
+                meta: Metadata::usual(meta.publish_time, key),
+                payload,
+            }),
+            Err(why) => {
+                drop(producer);
+                drop(key);
+                Err(why)
+            }
         },
-        content: Content::Data,
-        to: Targets::All,
-        meta: Metadata::usual(meta.publish_time, optional_text(alloc, meta.key)?),
-        payload: Blob::from_slice(alloc, payload)?,
-    })
+        Err(why) => {
+            drop(producer);
+            Err(why)
+        }
+    }
 }
 
 /// The cluster that a name names, or a copy of the name, where it names none.
@@ -150,7 +164,6 @@ fn place_named(
 }
 
 /// The text of a frame of a command with an entry, where it has the usual form; None says nothing of them.
-#[tactic(auto, using(crate::proofs::UsualValues::carried_is))]
 pub(crate) fn usual_text(
     alloc: Global,
     names: &[ClusterName],

@@ -190,12 +190,17 @@ fn carried_text(
 {
     match usual_text(alloc, names, command, source, entry)? {
         Some(text) => Ok(text),
-        None => any_carried_text(alloc, names, &command.to_command(), source, entry),
+        None => {
+            let command = command.to_command();
+            let text = any_carried_text(alloc, names, &command, source, entry);
+            // by a call, so that the end of a command is proved once
+            drop(command);
+            text
+        }
     }
 }
 
 /// The same of any entry, from where its parts stand.
-#[tactic(auto, using(crate::proofs::Writing::carried_is, crate::proofs::Writing::carried_fault))]
 fn any_carried_text(
     alloc: Global,
     names: &[ClusterName],
@@ -267,7 +272,6 @@ fn ack_text(
 }
 
 /// The text of a frame that carries no message.
-#[tactic(auto, using(crate::proofs::Writing::simple_complete, crate::proofs::Writing::simple_written, crate::proofs::Writing::simple_fault))]
 fn simple_text(alloc: Global, names: &[ClusterName], frame: &Frame) -> Result<Blob, FrameFault>
     requires simple { carries_entry frame.now ≡ false }
     requires readable { is_readable frame.now ≡ true }
