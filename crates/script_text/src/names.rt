@@ -34,15 +34,27 @@ impl Declarations {
         ensures known { OnOk result (IsDeclared self.now.setup) }
     {
         let subs = self.sub_tables(alloc)?;
-        let clients = self.client_names(alloc)?;
-        let nodes = self.node_names(alloc)?;
-        Ok(Names::from_tables(
-            nodes.clusters,
-            nodes.topics,
-            clients.clients,
-            clients.members,
-            subs,
-        ))
+        // each end by a call, so that it is proved once
+        match self.client_names(alloc) {
+            Ok(clients) => match self.node_names(alloc) {
+                Ok(nodes) => Ok(Names::from_tables(
+                    nodes.clusters,
+                    nodes.topics,
+                    clients.clients,
+                    clients.members,
+                    subs,
+                )),
+                Err(Memory) => {
+                    drop(clients);
+                    drop(subs);
+                    Err(Memory)
+                }
+            },
+            Err(Memory) => {
+                drop(subs);
+                Err(Memory)
+            }
+        }
     }
 
     /// The names of the clusters and of the topics.
@@ -69,8 +81,13 @@ impl Declarations {
     {
         let setup = self.setup();
         let clients = client_table(alloc, setup.clients())?;
-        let members = members_of(alloc, setup.clients())?;
-        Ok(ClientNames { clients, members })
+        match members_of(alloc, setup.clients()) {
+            Ok(members) => Ok(ClientNames { clients, members }),
+            Err(Memory) => {
+                drop(clients);
+                Err(Memory)
+            }
+        }
     }
 
     /// The subscriptions of each topic.
@@ -89,7 +106,6 @@ impl Declarations {
     }
 
     /// The same, into tables that are none yet.
-    #[tactic(auto, using(crate::proofs::Tables::one_table, crate::proofs::Tables::subs_apart))]
     fn add_sub_tables<'b>(
         &'b self,
         alloc: Global,
@@ -179,7 +195,6 @@ fn members_of(alloc: Global, clients: &[ClientDecl]) -> Result<Vec<Member>, Memo
 }
 
 /// What is asked of clients, where nothing is said yet.
-#[tactic(auto, using(crate::proofs::Tables::one_mapped))]
 fn add_members(members: &mut Vec<Member>, clients: &[ClientDecl]) -> Result<(), Memory>
     requires fresh { members.old.items ≡ [] }
     ensures { OnOk result (members.new.items ≡ map member_of clients.now) }

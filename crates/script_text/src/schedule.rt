@@ -108,7 +108,6 @@ fn take_lines(names: &Names<'_>, steps: &mut Steps, bytes: &[u8]) -> Result<(), 
 
 /// Writes the steps of a schedule, a line each, by the names of a script. What is written of steps that the script may
 /// schedule reads back the same.
-#[tactic(auto, using(crate::proofs::ScheduleBack::schedule_back))]
 pub fn write_schedule(alloc: Global, scenario: &Scenario, steps: &StepList) -> Result<Blob, Memory>
     ensures text { IfOk result (λ text. text ≡ schedule_text (names_of scenario.now.setup) steps.now) }
     ensures back { IfOk result (λ text. All (IsStep scenario.now.setup) steps.now
