@@ -43,7 +43,6 @@ fn any_value(alloc: Global, names: &[ClusterName], bytes: &[u8]) -> Result<Frame
 }
 
 /// The value that a frame stands for.
-#[tactic(auto, using(crate::proofs::Entries::carrying_rest))]
 fn value_of(alloc: Global, names: &[ClusterName], frame: WireFrame) -> Result<Frame, Memory>
     requires { length names.now ≤ CLUSTERS }
     ensures value { IfOk result (SaysValue names.now frame) }

@@ -94,7 +94,6 @@ fn carrying_value(command: CommandView, source: Option<Place>, entry: Entry) -> 
 }
 
 /// The entry that a message is, and where it says that it was stored first.
-#[tactic(auto, using(crate::proofs::UsualValues::entry_is, crate::proofs::UsualValues::viewed_rest))]
 fn usual_entry(
     alloc: Global,
     names: &[ClusterName],
