@@ -31,7 +31,7 @@ use Rattle.world_kept.proofs.Reaching.{ground}
 use Rattle.world_kept.specs.Reached.{Reached}
 use Rattle.world_laws.specs.Starts.{most_at_start}
 use Rattle.world_laws.specs.Within.{ClientWithin}
-use Rattle.world.specs.ClientSteps.{IsSent, client_in, no_client}
+use Rattle.world.specs.ClientSteps.{ClientDone, IsSent, Rests, Sends, client_in, no_client}
 use Rattle.world.specs.declared.fault.RunFault.TheVariants as fault
 use Rattle.world.specs.Steps.{Leads}
 use Rattle.world.specs.World.{AreNodes, IsAt, WorldBook, kept_of}
@@ -135,31 +135,14 @@ pub has : (s : Setup) (c : ℕ) → c < length s.clients → has_client s c ≡ 
 has s c lt = below c (length s.clients) lt
 
 pub leads_go : (s : Setup) (old new : WorldBook) (w : World) (c : ℕ) (p : PreparedClient) (r : Answer) → IsAt s old → c < length s.clients → Reached s w → Stands s (kept_of old) w
-    → IsPrepared s.clusters (client_in old.clients c) p (go (known_setup s.clusters s.topics) (declared_at s c) (client_in old.clients c)) → not (is_some p.change) ≡ false
-    → OnOk r (IsSent c p old new) → OnOk r (limit_of (old.events + 1) old.idle (old.frame_bytes + bytes_of p.sent) ≡ None)
-    → ((i : ℕ) → r ≡ Err (fault.TooLarge i) → limit_of (old.events + 1) old.idle (old.frame_bytes + bytes_of p.sent) ≡ Some i)
+    → IsPrepared s.clusters (client_in old.clients c) p (go (known_setup s.clusters s.topics) (declared_at s c) (client_in old.clients c)) → ClientDone c p old new r
     → Leads s old new (happens s w (event.Go c)) r
-leads_go s old new w c p r h lt reached stands prepared busy ok within large =
-    sends s old new (happens s w (event.Go c)) c p (go s (declared_at s c) (client_at s w c)) r
-    (λ os active sent. client_goes s (kept_of old) w c os (has s c lt) (ground s h.setup w reached) stands active sent) (goes_at s old w c p h lt stands prepared) busy ok within large
-
-pub rests_go : (s : Setup) (old new : WorldBook) (w : World) (c : ℕ) (p : PreparedClient) (r : Answer) → IsAt s old → c < length s.clients → Stands s (kept_of old) w
-    → IsPrepared s.clusters (client_in old.clients c) p (go (known_setup s.clusters s.topics) (declared_at s c) (client_in old.clients c)) → not (is_some p.change) ≡ true
-    → OnOk r (new ≡ record old { idle = old.idle + 1 }) → OnOk r (limit_of old.events (old.idle + 1) old.frame_bytes ≡ None)
-    → ((i : ℕ) → r ≡ Err (fault.TooLarge i) → limit_of old.events (old.idle + 1) old.frame_bytes ≡ Some i)
-    → Leads s old new (happens s w (event.Go c)) r
-rests_go s old new w c p r h lt stands prepared idle ok within large =
+leads_go s old new w c p r h lt reached stands prepared (Rests idle ok within large) =
     rests s old new (happens s w (event.Go c)) c p (go s (declared_at s c) (client_at s w c)) r
     (λ rest. client_stays s (kept_of old) w c (has s c lt) stands rest) (goes_at s old w c p h lt stands prepared) idle ok within large
-
-pub leads_reconnect : (s : Setup) (old new : WorldBook) (w : World) (c : ℕ) (p : PreparedClient) (r : Answer) → IsAt s old → c < length s.clients → Reached s w → Stands s (kept_of old) w
-    → IsPrepared s.clusters (client_in old.clients c) p (reconnect (known_setup s.clusters s.topics) (declared_at s c) (client_in old.clients c)) → not (is_some p.change) ≡ false
-    → OnOk r (IsSent c p old new) → OnOk r (limit_of (old.events + 1) old.idle (old.frame_bytes + bytes_of p.sent) ≡ None)
-    → ((i : ℕ) → r ≡ Err (fault.TooLarge i) → limit_of (old.events + 1) old.idle (old.frame_bytes + bytes_of p.sent) ≡ Some i)
-    → Leads s old new (happens s w (event.Reconnect c)) r
-leads_reconnect s old new w c p r h lt reached stands prepared busy ok within large =
-    sends s old new (happens s w (event.Reconnect c)) c p (reconnect s (declared_at s c) (client_at s w c)) r
-    (λ os active sent. client_reconnects s (kept_of old) w c os (has s c lt) (ground s h.setup w reached) stands active sent) (reconnects_at s old w c p h lt stands prepared) busy ok within large
+leads_go s old new w c p r h lt reached stands prepared (Sends busy ok within large) =
+    sends s old new (happens s w (event.Go c)) c p (go s (declared_at s c) (client_at s w c)) r
+    (λ os active sent. client_goes s (kept_of old) w c os (has s c lt) (ground s h.setup w reached) stands active sent) (goes_at s old w c p h lt stands prepared) busy ok within large
 
 client_idles : (s : Setup) (w : World) (c : ℕ) (o : Option MachineLink) (a : Acted) → a.idle ≡ true → client_does s w c o a ≡ idles w
 unfolding client_does
@@ -188,21 +171,26 @@ reconnect_rests : (s : Setup) (k : Kept) (w : World) (c : ℕ) → c < length s.
 reconnect_rests s k w c lt h idle =
     subst (Stands s (idled k)) (sym (reconnect_is s w c (has s c lt) ∙ client_idles s w c None (reconnect s (declared_at s c) (client_at s w c)) idle)) (idles_stands s k w h)
 
-pub rests_reconnect : (s : Setup) (old new : WorldBook) (w : World) (c : ℕ) (p : PreparedClient) (r : Answer) → IsAt s old → c < length s.clients → Stands s (kept_of old) w
-    → IsPrepared s.clusters (client_in old.clients c) p (reconnect (known_setup s.clusters s.topics) (declared_at s c) (client_in old.clients c)) → not (is_some p.change) ≡ true
-    → OnOk r (new ≡ record old { idle = old.idle + 1 }) → OnOk r (limit_of old.events (old.idle + 1) old.frame_bytes ≡ None)
-    → ((i : ℕ) → r ≡ Err (fault.TooLarge i) → limit_of old.events (old.idle + 1) old.frame_bytes ≡ Some i)
+pub leads_reconnect : (s : Setup) (old new : WorldBook) (w : World) (c : ℕ) (p : PreparedClient) (r : Answer) → IsAt s old → c < length s.clients → Reached s w → Stands s (kept_of old) w
+    → IsPrepared s.clusters (client_in old.clients c) p (reconnect (known_setup s.clusters s.topics) (declared_at s c) (client_in old.clients c)) → ClientDone c p old new r
     → Leads s old new (happens s w (event.Reconnect c)) r
-rests_reconnect s old new w c p r h lt stands prepared idle ok within large =
+leads_reconnect s old new w c p r h lt reached stands prepared (Rests idle ok within large) =
     rests s old new (happens s w (event.Reconnect c)) c p (reconnect s (declared_at s c) (client_at s w c)) r
     (λ rest. reconnect_rests s (kept_of old) w c lt stands rest) (reconnects_at s old w c p h lt stands prepared) idle ok within large
+leads_reconnect s old new w c p r h lt reached stands prepared (Sends busy ok within large) =
+    sends s old new (happens s w (event.Reconnect c)) c p (reconnect s (declared_at s c) (client_at s w c)) r
+    (λ os active sent. client_reconnects s (kept_of old) w c os (has s c lt) (ground s h.setup w reached) stands active sent) (reconnects_at s old w c p h lt stands prepared) busy ok within large
 
 -- ---- nodes
 
-pub nodes_sent : (s : Setup) (old new : WorldBook) (c : ℕ) (p : PreparedClient) (r : Answer) → IsAt s old → OnOk r (IsSent c p old new) → OnErr r (new ≡ old) → AreNodes s new.nodes
+nodes_sent : (s : Setup) (old new : WorldBook) (c : ℕ) (p : PreparedClient) (r : Answer) → IsAt s old → OnOk r (IsSent c p old new) → OnErr r (new ≡ old) → AreNodes s new.nodes
 nodes_sent s old new c p (Ok unit) h ok err = rw ok.nodes h.nodes
 nodes_sent s old new c p (Err f) h ok err = rw err h.nodes
 
 pub nodes_idle : (s : Setup) (old new : WorldBook) (r : Answer) → IsAt s old → OnOk r (new ≡ record old { idle = old.idle + 1 }) → OnErr r (new ≡ old) → AreNodes s new.nodes
 nodes_idle s old new (Ok unit) h ok err = rw ok h.nodes
 nodes_idle s old new (Err f) h ok err = rw err h.nodes
+
+pub nodes_done : (s : Setup) (old new : WorldBook) (c : ℕ) (p : PreparedClient) (r : Answer) → IsAt s old → ClientDone c p old new r → OnErr r (new ≡ old) → AreNodes s new.nodes
+nodes_done s old new c p r h (Rests idle ok within large) err = nodes_idle s old new r h ok err
+nodes_done s old new c p r h (Sends busy ok within large) err = nodes_sent s old new c p r h ok err

@@ -1,7 +1,8 @@
 -- A broker that goes on from what is durable of it.
-use Rattle.std.proofs.Common.{◌≡◌, ℕ, ◌*◌, ◌/◌, ◌%◌, ◌<◌, ◌≤◌, [], length, sym, ap, subst, ◌∙◌}
-use Rattle.std.specs.Prelude.{None, replicate}
+use Rattle.std.proofs.Common.{◌≡◌, ℕ, ◌*◌, ◌/◌, ◌%◌, ◌<◌, ◌≤◌, List, [], length, sym, ap, subst, ◌∙◌}
+use Rattle.std.specs.Prelude.{None, Result, Ok, Err, IfOk, replicate}
 use Rattle.std.proofs.Math.Nat.{div-lt_iff_lt-mul}
+use Rattle.geo_base.specs.declared.memory.Memory.{Memory}
 use Rattle.geo_base.specs.Broker.{Broker, Site}
 use Rattle.geo_base.specs.Setup.{Setup, sub_names}
 use Rattle.geo_base.specs.World.{site}
@@ -32,7 +33,7 @@ durable_of s t x h b d is known broker own per = record {
 abbrev restored : Broker → ℕ → ℕ → Broker
 restored b clusters clients = record b { receivers = replicate clusters None; sessions = replicate clients None }
 
-pub is_revived : (s : Setup) (n : ℕ) (b : Broker) (d : Durable) (v : BrokerBook) (clients : ℕ) → let c = length s.clusters in
+is_revived : (s : Setup) (n : ℕ) (b : Broker) (d : Durable) (v : BrokerBook) (clients : ℕ) → let c = length s.clusters in
     IsKnownNode s.per_ledger s.clusters (n % c) b → broker_of d ≡ b → length b.entries ≤ most_at_start → clients ≡ length s.clients
     → v.topic ≡ n / c → v.site ≡ site s (n / c) (n % c) → v.names ≡ sub_names s (n / c)
     → v.broker ≡ record (broker_of d) { receivers = replicate (length d.senders) None; sessions = replicate clients None } → IsRevived s n b v
@@ -43,3 +44,13 @@ is_revived s n b d v clients known broker few many topic here names is = record 
       ∙ ap (λ (k : ℕ). restored b k clients) known.all_senders ∙ ap (λ (k : ℕ). restored b (length s.clusters) k) many;
   few = few;
 }
+
+-- the same of the broker that was made, with m clusters found
+pub revived_by : (s : Setup) (n m clients : ℕ) (b : Broker) (d : Durable) (g : Site) (names : List (List ℕ)) (r : Result BrokerBook Memory)
+    → m ≡ length s.clusters → IsKnownNode s.per_ledger s.clusters (n % length s.clusters) b → broker_of d ≡ b → length b.entries ≤ most_at_start → clients ≡ length s.clients
+    → g ≡ site s (n / m) (n % m) → names ≡ sub_names s (n / m) → IfOk r (λ v. v.topic ≡ n / m) → IfOk r (λ v. v.site ≡ g) → IfOk r (λ v. v.names ≡ names)
+    → IfOk r (λ v. v.broker ≡ record (broker_of d) { receivers = replicate (length d.senders) None; sessions = replicate clients None }) → IfOk r (λ v. IsRevived s n b v)
+revived_by s n m clients b d g names (Ok v) size known broker few many here told topic at called is =
+    is_revived s n b d v clients known broker few many (topic ∙ ap (λ (k : ℕ). n / k) size) (at ∙ here ∙ ap (λ (k : ℕ). site s (n / k) (n % k)) size)
+    (called ∙ told ∙ ap (λ (k : ℕ). sub_names s (n / k)) size) is
+revived_by s n m clients b d g names (Err e) size known broker few many here told topic at called is = tt

@@ -1,5 +1,5 @@
 -- How an event of a client leaves the world.
-use Rattle.std.specs.Prelude.{◌≡◌, ℕ, ◌+◌, Bool, true, false, not, List, Option, Some, None, slice_index_or, slice_set}
+use Rattle.std.specs.Prelude.{◌≡◌, ℕ, ◌+◌, Bool, true, false, not, List, Option, Some, None, Result, Err, OnOk, is_some, slice_index_or, slice_set}
 use Rattle.client.specs.Changing.{client_after}
 use Rattle.client.specs.Prepared.{PreparedClient}
 use Rattle.geo_base.specs.Client.{Client, new_client}
@@ -10,8 +10,11 @@ use Rattle.world.specs.World.{WorldBook, kept_of}
 use Rattle.links.specs.declared.name.LinkName.{LinkName}
 use Rattle.links.specs.declared.name.Node.TheVariants as wire_node
 use Rattle.links.specs.Each.{Both}
-use Rattle.links.specs.Queues.{packet_on, taken_from}
+use Rattle.links.specs.Queues.{bytes_of, packet_on, taken_from}
 use Rattle.world_kept.specs.Kept.{client_acted, stamp_at}
+use Rattle.world_kept.specs.Standing.{limit_of}
+use Rattle.world.specs.declared.fault.RunFault.{RunFault}
+use Rattle.world.specs.declared.fault.RunFault.TheVariants as fault
 use Rattle.frame_laws.specs.BytePackets.{StandsForPacket}
 
 abbrev pub no_client : Client
@@ -24,6 +27,11 @@ client_in ms c = slice_index_or ms c no_client
 pub record IsSent (c : ℕ) (p : PreparedClient) (old new : WorldBook) : Type 0 where
   pub kept : kept_of new ≡ client_acted (kept_of old) c (wire_node.Client c) None (client_after p.change (client_in old.clients c)) p.sent
   pub nodes : new.nodes ≡ old.nodes
+
+-- Whatever was prepared at client c: what is idle is counted, and anything else is sent and done. A limit that it would pass is the answer.
+pub data ClientDone (c : ℕ) (p : PreparedClient) (old new : WorldBook) (r : Result (Unit {0}) RunFault) : Type 0 where
+  Rests : not (is_some p.change) ≡ true → OnOk r (new ≡ record old { idle = old.idle + 1 }) → OnOk r (limit_of old.events (old.idle + 1) old.frame_bytes ≡ None) → ((i : ℕ) → r ≡ Err (fault.TooLarge i) → limit_of old.events (old.idle + 1) old.frame_bytes ≡ Some i) → ClientDone c p old new r
+  Sends : not (is_some p.change) ≡ false → OnOk r (IsSent c p old new) → OnOk r (limit_of (old.events + 1) old.idle (old.frame_bytes + bytes_of p.sent) ≡ None) → ((i : ℕ) → r ≡ Err (fault.TooLarge i) → limit_of (old.events + 1) old.idle (old.frame_bytes + bytes_of p.sent) ≡ Some i) → ClientDone c p old new r
 
 -- client c did what the next packet of a link says, which still is there; whatever the packet stands for, it is the machine's get.
 -- took says whether there was one

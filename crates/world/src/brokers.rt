@@ -35,7 +35,7 @@ pub(crate) const BYTE_LIMIT: u64 = 3;
 
 impl World {
     /// An event of a broker, which is counted where it is idle.
-    #[tactic(auto, using(crate::proofs::Acting::leads_acted, crate::proofs::Acting::leads_idled, crate::proofs::ClientEvents::nodes_idle, crate::proofs::Leading::same_err))]
+    #[tactic(auto, using(crate::proofs::Acting::leads_acted))]
     pub(crate) fn broker_event(
         &mut self,
         alloc: Global,
@@ -264,7 +264,6 @@ impl World {
     }
 
     /// Takes the packet of an event whose packets were delivered, and does what was prepared.
-    #[tactic(auto, using(crate::proofs::Nodes::set_node))]
     fn commit_at(&mut self, place: Place, number: usize, plan: &mut Plan, stamp: u64)
         requires node { number < length self.old.nodes }
         requires clock { number < length self.old.broker_clocks }

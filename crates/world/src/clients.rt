@@ -4,7 +4,7 @@ ghost use Rattle.client.specs.Changing.{ClientFits, client_after};
 ghost use Rattle.geo_base.specs.declared.event.Event.TheVariants as event;
 ghost use Rattle.geo_base.specs.Happening.{happens};
 ghost use Rattle.geo_base.specs.World.{World as Machine};
-ghost use Rattle.world.specs.ClientSteps.{IsSent, client_in};
+ghost use Rattle.world.specs.ClientSteps.{ClientDone, IsSent, client_in};
 ghost use Rattle.world.specs.declared.fault.RunFault.TheVariants as fault;
 ghost use Rattle.world.specs.Steps.{Leads};
 ghost use Rattle.world.specs.World.{AreNodes, IsAt, IsWithin, kept_of};
@@ -23,7 +23,6 @@ use std::alloc::Global;
 
 impl World {
     /// A client does what its next line says, or can't yet.
-    #[tactic(auto, using(crate::proofs::ClientEvents::client_below, crate::proofs::ClientEvents::clock_below, crate::proofs::ClientEvents::can_connect, crate::proofs::ClientEvents::stamp_fits, crate::proofs::Places::at_within, crate::proofs::Leading::wants, crate::proofs::ClientEvents::leads_go, crate::proofs::ClientEvents::rests_go, crate::proofs::ClientEvents::nodes_sent, crate::proofs::ClientEvents::nodes_idle))]
     pub(crate) fn client_goes(
         &mut self,
         alloc: Global,
@@ -39,14 +38,10 @@ impl World {
     {
         let site = site_of(scenario, client);
         let prepared = self.clients[client as usize].prepare_go(alloc, &site)?;
-        if prepared.is_idle() {
-            return self.idles();
-        }
-        self.client_sends(alloc, client, prepared)
+        self.client_does(alloc, client, prepared)
     }
 
     /// A client connects again where its connection was lost.
-    #[tactic(auto, using(crate::proofs::ClientEvents::client_below, crate::proofs::ClientEvents::clock_below, crate::proofs::ClientEvents::can_connect, crate::proofs::ClientEvents::stamp_fits, crate::proofs::Places::at_within, crate::proofs::Leading::wants, crate::proofs::ClientEvents::leads_reconnect, crate::proofs::ClientEvents::rests_reconnect, crate::proofs::ClientEvents::nodes_sent, crate::proofs::ClientEvents::nodes_idle))]
     pub(crate) fn client_reconnects(
         &mut self,
         alloc: Global,
@@ -62,7 +57,27 @@ impl World {
     {
         let site = site_of(scenario, client);
         let prepared = self.clients[client as usize].prepare_reconnect(alloc, &site)?;
+        self.client_does(alloc, client, prepared)
+    }
+
+    /// Does what was prepared at a client: an idle event is counted, and any other one is sent and done.
+    fn client_does(
+        &mut self,
+        alloc: Global,
+        client: u32,
+        prepared: Prepared,
+    ) -> Result<(), RunFault>
+        requires client { client < length self.old.clients }
+        requires clock { client < length self.old.client_clocks }
+        requires fits { ClientFits prepared.change (client_in self.old.clients client) }
+        requires within { IsWithin self.old }
+        requires stamp { stamp_at self.old.client_clocks client self.old.links None < 2 ^ 64 }
+        ensures done { ClientDone client prepared self.old self.new result }
+        ensures err { OnErr result (self.new ≡ self.old) }
+    {
         if prepared.is_idle() {
+            // by a call, so that the end of what was prepared is proved by itself
+            drop(prepared);
             return self.idles();
         }
         self.client_sends(alloc, client, prepared)
@@ -88,9 +103,16 @@ impl World {
         let mut prepared = prepared;
         let mut sent = prepared.take_sent(alloc);
         let stamp = self.client_stamp(client, None);
-        self.deliver(Node::Client { client }, stamp, &mut sent)?;
-        self.client_commits(client, prepared, stamp);
-        Ok(())
+        match self.deliver(Node::Client { client }, stamp, &mut sent) {
+            Ok(()) => {
+                self.client_commits(client, prepared, stamp);
+                Ok(())
+            }
+            Err(fault) => {
+                drop(prepared);
+                Err(fault)
+            }
+        }
     }
 
     /// Does what was prepared at a client whose packets were delivered.

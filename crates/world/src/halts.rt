@@ -26,7 +26,6 @@ impl World {
     /// Stops a broker behind the first `writes` durable writes of an event of it: what they wrote stays, what is in memory is lost,
     /// nothing is sent, and the packet that the event takes is gone. An `Err` changes nothing of the world: a limit of the run that
     /// the stop would pass, or want of memory.
-    #[tactic(auto, using(crate::proofs::Places::topic_below, crate::proofs::Places::cluster_below, crate::proofs::Places::number_of, crate::proofs::Places::number_below, crate::proofs::Places::number_rises, crate::proofs::Places::at_within, crate::proofs::Places::at_same, crate::proofs::Halting::leads_large, crate::proofs::Halting::leads_halted, crate::proofs::Halting::same_still, crate::proofs::Leading::wants))]
     pub fn halt(
         &mut self,
         alloc: Global,

@@ -1,9 +1,10 @@
 use Rattle.std.proofs.Common.{sym, subst}
+use Rattle.std.specs.Prelude.{OnErr}
 use Rattle.geo_base.specs.Happening.{happens}
 use Rattle.world_kept.specs.Standing.{Stands}
-use Rattle.world.specs.Steps.{Acts}
+use Rattle.world.specs.Steps.{Acts, IsLater}
 use Rattle.std.proofs.lemmas.Result.{err_from_is_err_and}
-use Rattle.world.specs.World.{SameWorld, WorldBook, kept_of}
+use Rattle.world.specs.World.{IsAt, SameWorld, WorldBook, kept_of}
 use Rattle.world.proofs.Acting.{acts_wants, later_same}
 use Rattle.world.proofs.Places.{at_same}
 use Rattle.world.proofs.Waiting.{acts_waiting, same_itself}
@@ -35,11 +36,21 @@ returns-in_err-plan c =
       err = rw p.1 same;
     }
 
-pub returns-clause-acts : goal.returns-clause-acts
-returns-clause-acts c w reached stands =
-    let s = c.args.scenario.now.setup in
-    let new = c.acts_in-acted.new.self in
-    let next = happens s w c.args.event.now in
-    let r = c.acts_in-acted.result in
-    let acts = c.acts_in-acted.ensures.acts w reached (subst (λ (b : WorldBook). Stands s (kept_of b) w) (sym c.take_plan.ensures.same) stands) in
-    subst (λ (b : WorldBook). Acts s c.args.self.now b next r) (sym c.keep_plan.ensures) (subst (λ (b : WorldBook). Acts s b new next r) c.take_plan.ensures.same acts)
+pub acts_in-acted-requires-clause-at : goal.acts_in-acted-requires-clause-at
+acts_in-acted-requires-clause-at c = subst (λ (b : WorldBook). IsAt c.args.scenario.now.setup b) (sym c.take_plan.ensures.same) c.requires.at
+
+-- the plan is taken out before, and kept behind
+pub returns : goal.returns
+returns c =
+    let s = c.args.scenario.now.setup in let old = c.args.self.now in let new = c.acts_in-acted.new.self in let r = c.acts_in-acted.result in
+    let before = c.take_plan.ensures.same in let behind = c.keep_plan.ensures in let acted = c.acts_in-acted.ensures in
+    record {
+      acts = λ w reached stands.
+          let next = happens s w c.args.event.now in
+          let acts = acted.acts w reached (subst (λ (b : WorldBook). Stands s (kept_of b) w) (sym before) stands) in
+          subst (λ (b : WorldBook). Acts s old b next r) (sym behind) (subst (λ (b : WorldBook). Acts s b new next r) before acts);
+      at = subst (λ (b : WorldBook). IsAt s b) (sym behind) acted.at;
+      later = subst (λ (b : WorldBook). IsLater old b) (sym behind) (subst (λ (b : WorldBook). IsLater b new) before acted.later);
+      idle = λ is. subst (λ (b : WorldBook). SameWorld old b) (sym behind) (subst (λ (b : WorldBook). SameWorld b new) before (acted.idle is));
+      err = subst (λ (b : WorldBook). OnErr r (SameWorld old b)) (sym behind) (subst (λ (b : WorldBook). OnErr r (SameWorld b new)) before acted.err);
+    }

@@ -12,7 +12,7 @@ use Rattle.world.proofs.world.World.client_sends.Goals as goal
 
 pub client_commits-requires : goal.client_commits-requires
 client_commits-requires c =
-    let old = c.args.self.now in let mid = c.deliver.new.self in let n : ℕ = c.args.client in let is = c.in_ok-deliver.ensures.sent in
+    let old = c.args.self.now in let mid = c.deliver.new.self in let n : ℕ = c.args.client in let is = c.in-Ok.ensures.sent in
     let clients : mid.clients ≡ old.clients = ap (λ (b : WorldBook). b.clients) is in
     let clocks : mid.client_clocks ≡ old.client_clocks = ap (λ (b : WorldBook). b.client_clocks) is in
     let events : mid.events ≡ old.events = ap (λ (b : WorldBook). b.events) is in
@@ -25,10 +25,10 @@ client_commits-requires c =
       count = omega (arith, events, few);
     }
 
-pub returns-clause-ok : goal.returns-clause-ok
-returns-clause-ok c =
+pub returns-in-Ok-clause-ok : goal.returns-in-Ok-clause-ok
+returns-in-Ok-clause-ok c =
     let old = c.args.self.now in let mid = c.deliver.new.self in let n : ℕ = c.args.client in let stamp : ℕ = c.client_stamp-stamp.result in let p = c.args.prepared in
     let sent : mid ≡ record old { links = delivered (wire_node.Client n) stamp p.sent old.links; frame_bytes = old.frame_bytes + bytes_of p.sent } =
     subst (λ (os : List WireOut). mid ≡ record old { links = delivered (wire_node.Client n) stamp os old.links; frame_bytes = old.frame_bytes + bytes_of os })
-    c.take_sent-sent.ensures.sent c.in_ok-deliver.ensures.sent in
+    c.take_sent-sent.ensures.sent c.in-Ok.ensures.sent in
     client_finished n stamp p c.take_sent-sent.new.self old mid c.client_commits.new.self c.client_stamp-stamp.ensures sent c.take_sent-sent.ensures.rest c.client_commits.ensures

@@ -2,44 +2,65 @@ use Rattle.std.proofs.Common.{ap, ◌∙◌}
 use Rattle.std.proofs.lemmas.Result.{err_from_is_err_and}
 use Rattle.geo_base.specs.World.{node}
 use Rattle.world.specs.declared.place.Place.{Place}
-use Rattle.world.proofs.Halting.{at_halted, leads_halted, leads_large}
-use Rattle.world.proofs.Places.{number_below, number_of, number_rises}
+use Rattle.world.proofs.Halting.{at_halted, leads_halted, leads_large, same_still}
+use Rattle.world.proofs.Leading.{wants}
+use Rattle.world.proofs.Places.{at_same, at_within, cluster_below, number_below, number_of, number_rises, topic_below}
 use Rattle.world.proofs.world.World.halt.Goals as goal
 
-pub returns-in_err-one_more-clause-leads : goal.returns-in_err-one_more-clause-leads
-returns-in_err-one_more-clause-leads c w reached stands =
+pub node_number-number-requires : goal.node_number-number-requires
+node_number-number-requires c =
+    let s = c.args.scenario.now.setup in let e = c.args.event.now in let place = c.place_of-place.result in
+    record {
+      topic = topic_below s c.args.self.now e place.topic c.requires.at c.requires.broker c.requires.scripted (ap (λ (a : Place). a.topic) c.place_of-place.ensures);
+      cluster = cluster_below s e place.cluster c.requires.broker c.requires.scripted (ap (λ (a : Place). a.cluster) c.place_of-place.ensures);
+    }
+
+pub one_more-requires : goal.one_more-requires
+one_more-requires c = at_within c.args.scenario.now.setup c.args.self.now c.requires.at
+
+pub returns-in_err-one_more : goal.returns-in_err-one_more
+returns-in_err-one_more c =
+    let s = c.args.scenario.now.setup in let old = c.args.self.now in
     let p = err_from_is_err_and c.from_residual.result c.from_residual.ensures.1 in
-    rw (p.1, p.2) (leads_large c.args.scenario.now.setup c.args.self.now c.args.self.now w c.args.event.now c.args.writes c.in_err-one_more.field-0.0 c.requires.broker c.requires.scripted stands
-    c.in_err-one_more.ensures.large)
+    record {
+      leads = λ w reached stands.
+          rw (p.1, p.2) (leads_large s old old w c.args.event.now c.args.writes c.in_err-one_more.field-0.0 c.requires.broker c.requires.scripted stands c.in_err-one_more.ensures.large);
+      at = c.requires.at;
+      err = rw p.1 (same_still old);
+    }
 
-pub stop_at-requires-clause-node : goal.stop_at-requires-clause-node
-stop_at-requires-clause-node c =
-    let s = c.args.scenario.now.setup in
-    number_below s c.args.self.now c.args.event.now c.node_number-number.result c.requires.at c.requires.broker c.requires.scripted
-    (c.node_number-number.ensures ∙ ap (λ (a : Place). node s a.topic a.cluster) c.place_of-place.ensures)
-
-pub stop_at-requires-clause-of : goal.stop_at-requires-clause-of
-stop_at-requires-clause-of c =
-    let s = c.args.scenario.now.setup in
-    number_of s c.args.self.now c.args.event.now c.node_number-number.result c.requires.at c.requires.broker c.requires.scripted
-    (c.node_number-number.ensures ∙ ap (λ (a : Place). node s a.topic a.cluster) c.place_of-place.ensures)
-
-pub stop_at-requires-clause-numbers : goal.stop_at-requires-clause-numbers
-stop_at-requires-clause-numbers c =
-    let s = c.args.scenario.now.setup in
-    number_rises s c.args.self.now c.args.event.now c.node_number-number.result c.requires.at c.requires.broker c.requires.scripted
-    (c.node_number-number.ensures ∙ ap (λ (a : Place). node s a.topic a.cluster) c.place_of-place.ensures)
-
-pub returns-clause-leads : goal.returns-clause-leads
-returns-clause-leads c w reached stands =
-    let s = c.args.scenario.now.setup in
+pub stop_at-requires : goal.stop_at-requires
+stop_at-requires c =
+    let s = c.args.scenario.now.setup in let old = c.args.self.now in let e = c.args.event.now in let n = c.node_number-number.result in
     let number = c.node_number-number.ensures ∙ ap (λ (a : Place). node s a.topic a.cluster) c.place_of-place.ensures in
-    leads_halted s c.args.self.now c.stop_at.new.self w c.args.event.now c.place_of-place.result c.node_number-number.result c.args.writes tt c.requires.at c.requires.broker c.requires.scripted
-    c.place_of-place.ensures number reached stands c.in_ok-stop_at.ensures.ok c.in_ok-one_more.ensures.within
+    record {
+      node = number_below s old e n c.requires.at c.requires.broker c.requires.scripted number;
+      of = number_of s old e n c.requires.at c.requires.broker c.requires.scripted number;
+      numbers = number_rises s old e n c.requires.at c.requires.broker c.requires.scripted number;
+      count = c.in_ok-one_more.ensures.fits;
+    }
 
-pub returns-clause-at : goal.returns-clause-at
-returns-clause-at c =
-    let s = c.args.scenario.now.setup in
+pub returns-in_err-stop_at : goal.returns-in_err-stop_at
+returns-in_err-stop_at c =
+    let s = c.args.scenario.now.setup in let old = c.args.self.now in let new = c.stop_at.new.self in let same = c.in_err-stop_at.ensures.err in
+    let p = err_from_is_err_and c.from_residual-in_err-stop_at.result c.from_residual-in_err-stop_at.ensures.1 in
+    record {
+      leads = λ w reached stands. rw (p.1, p.2) (wants s old new _);
+      at = at_same s old new c.requires.at same;
+      err = rw p.1 same;
+    }
+
+pub returns : goal.returns
+returns c =
+    let s = c.args.scenario.now.setup in let old = c.args.self.now in let new = c.stop_at.new.self in let e = c.args.event.now in
+    let place = c.place_of-place.result in let n = c.node_number-number.result in
     let number = c.node_number-number.ensures ∙ ap (λ (a : Place). node s a.topic a.cluster) c.place_of-place.ensures in
-    at_halted s c.args.self.now c.stop_at.new.self c.args.event.now c.place_of-place.result c.node_number-number.result c.args.writes c.requires.at c.requires.broker c.requires.scripted
-    c.place_of-place.ensures number c.in_ok-stop_at.ensures.ok c.in_ok-one_more.ensures.within
+    record {
+      leads = λ w reached stands.
+          leads_halted s old new w e place n c.args.writes tt c.requires.at c.requires.broker c.requires.scripted c.place_of-place.ensures number reached stands
+          c.in_ok-stop_at.ensures.ok c.in_ok-one_more.ensures.within;
+      at =
+          at_halted s old new e place n c.args.writes c.requires.at c.requires.broker c.requires.scripted c.place_of-place.ensures number
+          c.in_ok-stop_at.ensures.ok c.in_ok-one_more.ensures.within;
+      err = tt;
+    }
