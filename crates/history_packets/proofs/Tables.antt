@@ -1,11 +1,14 @@
 -- Tables that grow at their end, and lists that are read from their front.
 use Rattle.std.proofs.Common.{◌≡◌, ℕ, zero, suc, ◌+◌, ◌*◌, ◌<◌, Bool, true, false, List, [], ◌∷◌, ◌++◌, length, refl, sym, ap, subst, ◌∙◌, ◌==◌, arith}
-use Rattle.std.specs.Prelude.{drop, slice_index_or, take}
+use Rattle.std.specs.Prelude.{drop, if◌then◌else◌, slice_index_or, take}
 use Rattle.std.proofs.lemmas.Bool.{eqb-true, eq-eqb, false≢true}
+use Rattle.std.proofs.lemmas.List.{append_assoc, at_drop_more}
 use Rattle.geo_base.specs.declared.packet.Peer.{Peer}
 use Rattle.geo_base.specs.declared.packet.Peer.TheVariants as peer
-use Rattle.history_packets.specs.Peers.{same_peer}
-use Rattle.history_packets.specs.Slots.{slot}
+use Rattle.wire_ends.specs.declared.packet.WirePacket.{WirePacket}
+use Rattle.world_laws.specs.ByteHistories.{ByteSent}
+use Rattle.history_packets.specs.Peers.{same_peer, sent_once}
+use Rattle.history_packets.specs.Slots.{sends_in, slot}
 
 -- one default more at the end
 pub default_past : {X : Type 0} (xs : List X) (d : X) (k : ℕ) → slice_index_or (xs ++ d ∷ []) k d ≡ slice_index_or xs k d
@@ -59,6 +62,30 @@ slot_same (peer.Broker y) (peer.Forward z) = apart _ _ (λ is. omega (arith, is)
 slot_same (peer.Broker y) (peer.Back z) = apart _ _ (λ is. omega (arith, is))
 slot_same (peer.Broker y) (peer.Client z) = apart _ _ (λ is. omega (arith, is))
 slot_same (peer.Broker y) (peer.Broker z) = same_slot 3 y z
+
+-- one packet more in the slot of its peer
+pub sends_more : (q : Peer) (sent : List (ByteSent WirePacket)) (i : ℕ) (o : ByteSent WirePacket) (old new : List (List WirePacket)) (whole : List WirePacket) → i < length sent
+    → o ≡ slice_index_or sent i o → ((k : ℕ) → sends_in new k ≡ (if slot o.to == k then sends_in old k ++ o.packet ∷ [] else sends_in old k))
+    → sends_in old (slot q) ++ sent_once q (drop i sent) ≡ whole → sends_in new (slot q) ++ sent_once q (drop (i + 1) sent) ≡ whole
+sends_more q sent i o old new whole lt at pushed so_far = by (same_peer o.to q) next here
+  where
+    rest : List WirePacket
+    rest = sent_once q (drop (i + 1) sent)
+
+    before : List WirePacket
+    before = sends_in old (slot q)
+
+    next : sends_in new (slot q) ≡ (if same_peer o.to q then before ++ o.packet ∷ [] else before)
+    next = pushed (slot q) ∙ ap (λ (t : Bool). if t then before ++ o.packet ∷ [] else before) (slot_same o.to q)
+
+    here : sent_once q (drop i sent) ≡ (if same_peer o.to q then o.packet ∷ rest else rest)
+    here = at_drop_more (sent_once q) sent i o lt ∙ ap (λ (x : ByteSent WirePacket). if same_peer x.to q then x.packet ∷ rest else rest) (sym at)
+
+    by : (t : Bool) → sends_in new (slot q) ≡ (if t then before ++ o.packet ∷ [] else before) → sent_once q (drop i sent) ≡ (if t then o.packet ∷ rest else rest)
+        → sends_in new (slot q) ++ rest ≡ whole
+    by true is this =
+        ap (λ (ps : List WirePacket). ps ++ rest) is ∙ append_assoc before (o.packet ∷ []) rest ∙ ap (λ (ps : List WirePacket). before ++ ps) (sym this) ∙ so_far
+    by false is this = ap (λ (ps : List WirePacket). ps ++ rest) is ∙ ap (λ (ps : List WirePacket). before ++ ps) (sym this) ∙ so_far
 
 -- what is read of a list, and its next element
 pub next_left : {X : Type 0} (xs : List X) (i : ℕ) → i < length xs → (x : X) → slice_index_or xs i x ≡ x → drop i xs ≡ x ∷ drop (i + 1) xs

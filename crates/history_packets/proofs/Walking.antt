@@ -65,12 +65,12 @@ kept_there [] n h lt is = absurd (omega (arith, lt))
 kept_there (g ∷ kept) zero h lt is = is
 kept_there (g ∷ kept) (suc n) h lt is = kept_there kept n h (omega (arith, lt)) is
 
-got_at : {X : Type 0} (xs : List X) (i : ℕ) (x : X) → i < length xs → slice_index_or xs i x ≡ x → slice_get xs i ≡ Some x
+pub got_at : {X : Type 0} (xs : List X) (i : ℕ) (x : X) → i < length xs → slice_index_or xs i x ≡ x → slice_get xs i ≡ Some x
 got_at [] i x lt is = absurd (omega (arith, lt))
 got_at (y ∷ xs) zero x lt is = ap (λ z. Some z) is
 got_at (y ∷ xs) (suc i) x lt is = got_at xs i x (omega (arith, lt)) is
 
-got_within : {X : Type 0} (xs : List X) (i : ℕ) (x : X) → slice_get xs i ≡ Some x → i < length xs
+pub got_within : {X : Type 0} (xs : List X) (i : ℕ) (x : X) → slice_get xs i ≡ Some x → i < length xs
 got_within [] i x h = absurd (none-some x h)
 got_within (y ∷ xs) zero x h = omega arith
 got_within (y ∷ xs) (suc i) x h = let lt = got_within xs i x h in omega (arith, lt)

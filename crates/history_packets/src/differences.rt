@@ -1,5 +1,5 @@
 //! The first packet of all that were taken that is not the one that was sent.
-ghost use Rattle.std.specs.Prelude.{◌≡◌, ◌<◌, ◌^◌, ℕ, IfOk, IfSome, None, Ok, length};
+ghost use Rattle.std.specs.Prelude.{◌≡◌, ◌<◌, ◌^◌, ℕ, [], IfOk, IfSome, None, Ok, OnOk, length};
 ghost use Rattle.history_packets.specs.Differences.{AllSent};
 ghost use Rattle.history_packets.specs.Firsts.{AreRising, IsDifference, IsEarlier, IsFirst, IsStamped};
 ghost use Rattle.history_packets.specs.Walks.{AreOutboxes};
@@ -40,15 +40,32 @@ pub fn first_difference(
 }
 
 /// What every node sent.
-#[tactic(auto, using(crate::proofs::Firsts::outboxes_more, crate::proofs::Firsts::outboxes_all))]
 fn outboxes_of<'a>(alloc: Global, histories: &[History<'a>]) -> Result<Vec<Outbox<'a>>, Memory>
     ensures { IfOk result (λ os. AreOutboxes histories.now os.items) }
 {
     let mut outboxes = Vec::new(alloc);
+    match add_outboxes(alloc, histories, &mut outboxes) {
+        Ok(()) => Ok(outboxes),
+        Err(memory) => {
+            drop(outboxes);
+            Err(memory)
+        }
+    }
+}
+
+/// Adds what every node sent, where nothing stands yet.
+fn add_outboxes<'a>(
+    alloc: Global,
+    histories: &[History<'a>],
+    outboxes: &mut Vec<Outbox<'a>>,
+) -> Result<(), Memory>
+    requires { outboxes.old.items ≡ [] }
+    ensures { OnOk result (AreOutboxes histories.now outboxes.new.items) }
+{
     for history in histories {
         outboxes.push(Outbox::of(alloc, history.events())?)?;
     }
-    Ok(outboxes)
+    Ok(())
 }
 
 /// What was found at a node, with the stamp of its event.

@@ -42,10 +42,18 @@ pub fn packets_of(
     };
     let end = layout.end_of(difference.node, found.peer);
     let sent = sent_at(alloc, histories, end, found.index)?;
-    let sent = copied_if(alloc, sent)?;
+    both(alloc, sent, taken)
+}
+
+/// Copies of a packet that was taken and of the one that was sent, where one was.
+fn both(alloc: Global, sent: Option<&WirePacket>, taken: &WirePacket) -> Result<Packets, Memory>
+    ensures sent { IfOk result (λ p. p.sent ≡ option_copied sent.entry) }
+    ensures taken { IfOk result (λ p. p.taken ≡ taken.now) }
+{
+    let taken = copied(alloc, taken)?;
     Ok(Packets {
-        sent,
-        taken: copied(alloc, taken)?,
+        sent: copied_if(alloc, sent)?,
+        taken,
     })
 }
 

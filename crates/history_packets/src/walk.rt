@@ -41,14 +41,9 @@ pub(crate) fn first_of(
     ensures none { result ≡ Ok None → AllSent layout.now histories.now node }
 {
     let mut walk = Walk::new(alloc, layout, node);
-    let events = histories[node].events();
-    for (place, done) in events.iter().enumerate() {
-        if let Some((peer, index)) = walk.differs(layout, outboxes, node, done) {
-            return Ok(Some(Found { place, peer, index }));
-        }
-        walk.pass(done)?;
-    }
-    Ok(None)
+    let found = walk.first_in(layout, histories, outboxes, node);
+    drop(walk);
+    found
 }
 
 /// How far a node's history was read: how many packets it took from each peer, by slot, and where its client is.
@@ -75,6 +70,31 @@ impl Walk {
             counts: Counts::new(alloc),
             cluster: layout.home(node).cluster,
         }
+    }
+
+    /// The first packet of a node that is not the one that was sent, of a walk that has read nothing; None where each is.
+    fn first_in(
+        &mut self,
+        layout: &Layout,
+        histories: &[History<'_>],
+        outboxes: &[Outbox<'_>],
+        node: usize,
+    ) -> Result<Option<Found>, Memory>
+        requires node { node < length histories.now }
+        requires few { node < 2 ^ 32 }
+        requires outboxes { AreOutboxes histories.now outboxes.now }
+        requires unread { IsWalked layout.now node [] self.old }
+        ensures found { IfOk result (λ o. IfSome o (λ f. IsFoundAt layout.now histories.now node f)) }
+        ensures none { result ≡ Ok None → AllSent layout.now histories.now node }
+    {
+        let events = histories[node].events();
+        for (place, done) in events.iter().enumerate() {
+            if let Some((peer, index)) = self.differs(layout, outboxes, node, done) {
+                return Ok(Some(Found { place, peer, index }));
+            }
+            self.pass(done)?;
+        }
+        Ok(None)
     }
 
     /// The peer that an event took a packet from, and how many it took from there before, where the packet is not the one that
