@@ -10,7 +10,7 @@ use Rattle.geo_base.specs.Audit.{Refusal, audited_from, judged, refused}
 use Rattle.geo_base.specs.Mirror.{Mirrors, opening_mirrors, told}
 use Rattle.geo_base.specs.Setup.{Setup}
 use Rattle.geo_base.specs.TraceItems.{Item}
-use Rattle.script_names.specs.Words.{cut_by}
+use Rattle.script_rows.specs.NameWords.{cut_by}
 use Rattle.trace_lines.specs.Lines.{item_read}
 use Rattle.audit.specs.AuditOf.{IsAccepted, audit_of, headed, item_refused, lines_audited, may_come, names_of, told_if}
 use Rattle.audit.specs.Numbers.{IsItemOf}

@@ -8,8 +8,8 @@ use Rattle.std.proofs.lemmas.Option.{none-some, same_Some}
 use Rattle.cursor_acks.specs.Ranges.{indexes_of}
 use Rattle.geo_base.specs.Setup.{Setup}
 use Rattle.geo_base.specs.TraceItems.{Act, Acks, Appends, Begins, Creates, Deletes, Item, Seeks, Writes}
-use Rattle.script_names.specs.Names.{is_among, number_in}
-use Rattle.script_names.specs.Words.{Word, cut_by}
+use Rattle.script_rows.specs.NameBytes.{is_among, number_in}
+use Rattle.script_rows.specs.NameWords.{Word, cut_by}
 use Rattle.script_rows.specs.Words.{◌>>=◌, words_of}
 use Rattle.trace_lines.specs.Entries.{entry_with, what_of}
 use Rattle.trace_lines.specs.Lines.{ack_of, act_of, append_of, cause_of, create_of, delete_of, event_of, item_of, item_read, seek_of, write_of}

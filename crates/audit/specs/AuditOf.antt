@@ -6,7 +6,7 @@ use Rattle.geo_base.specs.Audit.{Refusal, audited, judged, refused}
 use Rattle.geo_base.specs.Mirror.{Mirrors, opening_mirrors, told}
 use Rattle.geo_base.specs.Setup.{Setup}
 use Rattle.geo_base.specs.TraceItems.{Begins, Item, Writes}
-use Rattle.script_names.specs.Words.{cut_by}
+use Rattle.script_rows.specs.NameWords.{cut_by}
 use Rattle.trace_lines.specs.Names.{DeclaredNames}
 use Rattle.trace_lines.specs.Lines.{item_read}
 use Rattle.audit.specs.Numbers.{IsItemOf}

@@ -1,13 +1,13 @@
 //! The audit.
 ghost use Rattle.std.specs.Prelude.{ℕ, ◌≡◌, Ok, Err, IfOk};
 ghost use Rattle.geo_base.specs.Mirror.{opening_mirrors};
-ghost use Rattle.script_names.specs.Words.{cut_by};
+ghost use Rattle.script_rows.specs.NameWords.{cut_by};
 ghost use Rattle.audit.specs.AuditOf.{IsAccepted, audit_of, lines_audited, names_of};
 ghost use Rattle.audit.specs.declared.fault.AuditFault.TheVariants as fault;
 
 use crate::fault::AuditFault;
 use crate::mirrors::AllMirrors;
-use script_names::{cut_at, is_word};
+use script_rows::{cut_at, is_word};
 use script_text::Scenario;
 use std::alloc::Global;
 use trace_lines::Names;

@@ -1,5 +1,5 @@
 //! Words of a script: names, lists and numbers, each once.
-use script_names::{
+use script_rows::{
     NameList, NameTable, NameWord, Parts, list_word, mask_of, number_of, number_word,
 };
 use std::alloc::Global;

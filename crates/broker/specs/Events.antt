@@ -14,7 +14,7 @@ use Rattle.geo_base.specs.Serving.{drop_client, serve}
 use Rattle.geo_base.specs.Setup.{Setup, declared_at, sub_names}
 use Rattle.geo_base.specs.Topic.{next_marker}
 use Rattle.geo_base.specs.World.{site}
-use Rattle.broker_offers.specs.Seeking.{SeekFits}
+use Rattle.broker_tasks.specs.Seeking.{SeekFits}
 use Rattle.broker.specs.Node.{BrokerBook}
 
 -- the name that an event's number of a subscription stands for; past the end it is empty, which no subscription's name is

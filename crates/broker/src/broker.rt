@@ -10,7 +10,7 @@ use broker_subs::Sub;
 use geo_base::{Memory, SubName};
 use std::alloc::Global;
 use std::marker::Model;
-use topic_ledger::TopicLedger;
+use topic_store::TopicLedger;
 
 /// A topic's number, the names of the topic's subscriptions by their numbers in events, and the broker's state. All that is kept can be written again as a frame.
 #[derive(Drop)]

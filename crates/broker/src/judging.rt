@@ -1,6 +1,6 @@
 //! Which events a broker can do.
 ghost use Rattle.std.specs.Prelude.{◌↔◌, IsTrue};
-ghost use Rattle.broker_offers.specs.Seeking.{SeekFits};
+ghost use Rattle.broker_tasks.specs.Seeking.{SeekFits};
 ghost use Rattle.broker.specs.Events.{CanHappen, HasNextMarker, IsClients, IsHere, IsLink, IsOfNode, MarkerRises, SeekRises, SessionRises};
 
 use crate::broker::Broker;

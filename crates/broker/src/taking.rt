@@ -11,8 +11,10 @@ ghost use Rattle.broker_plans.specs.Prepared.{CanWrite};
 ghost use Rattle.broker.specs.Input.{IsInputPrepared, IsReceiptOf};
 
 use crate::reading::{Receipt, read_packet, usual_receipt, usual_send};
-use broker_links::{prepare_receipt, prepare_receive, prepare_take, receives};
-use broker_serving::{prepare_publish, prepare_serve, publishes};
+use broker_packets::{
+    prepare_publish, prepare_receipt, prepare_receive, prepare_serve, prepare_take, publishes,
+    receives,
+};
 use broker_state::{BrokerState, Plan};
 use geo_base::{Fate, Frame, Memory, Packet};
 use std::alloc::Global;

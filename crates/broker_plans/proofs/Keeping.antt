@@ -1,11 +1,11 @@
 -- An entry that came, and packets behind what an event does.
 use Rattle.std.proofs.Common.{◌≡◌, ℕ, ◌≤◌, Bool, true, false, List, [], ◌∷◌, ◌++◌, refl, sym, ◌∙◌, ap, arith}
 use Rattle.std.specs.Prelude.{Some}
-use Rattle.dedup_table.specs.Table.{stream_of}
+use Rattle.topic_store.specs.Table.{stream_of}
 use Rattle.geo_base.specs.declared.change.Change.{Change}
 use Rattle.geo_base.specs.declared.entry.Entry.{Entry}
 use Rattle.geo_base.specs.declared.entry.Ident.{Ident}
-use Rattle.dedup_table.specs.declared.stream.Stream.{Stream}
+use Rattle.topic_store.specs.declared.stream.Stream.{Stream}
 use Rattle.geo_base.specs.declared.packet.Out.{Out}
 use Rattle.geo_base.specs.declared.position.Position.{Position}
 use Rattle.geo_base.specs.declared.write.Write.{Write}

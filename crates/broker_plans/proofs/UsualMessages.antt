@@ -2,8 +2,8 @@
 use Rattle.std.proofs.Common.{◌≡◌, ℕ, ◌+◌, ◌<◌, ◌≤◌, ◌==◌, Bool, true, false, List, [], ◌∷◌, ◌++◌, length, refl, ◌∙◌, arith}
 use Rattle.std.specs.Prelude.{if◌then◌else◌, Option, Some, None}
 use Rattle.std.specs.Option.{option_copied}
-use Rattle.dedup_table.specs.Table.{stream_of}
-use Rattle.dedup_table.specs.declared.stream.Stream.{Stream}
+use Rattle.topic_store.specs.Table.{stream_of}
+use Rattle.topic_store.specs.declared.stream.Stream.{Stream}
 use Rattle.frame_values.proofs.Counting.{varint_most}
 use Rattle.geo_base.specs.declared.entry.Entry.{Entry}
 use Rattle.geo_base.specs.Broker.{Site}

@@ -1,6 +1,6 @@
 -- The writes that an update takes.
 use Rattle.std.specs.Prelude.{ℕ, if◌then◌else◌, Bool, List, [], ◌∷◌, Option, Some, None, ⊤}
-use Rattle.dedup_table.specs.Table.{stream_of}
+use Rattle.topic_store.specs.Table.{stream_of}
 use Rattle.geo_base.specs.declared.entry.Entry.{Entry}
 use Rattle.geo_base.specs.declared.snapshot.CachedSnapshot.{CachedSnapshot}
 use Rattle.geo_base.specs.declared.snapshot.Cut.{Cut}

@@ -5,13 +5,13 @@ ghost use Rattle.broker_plans.specs.Prepared.{MarkerFits};
 ghost use Rattle.broker_plans.specs.Updates.{appending};
 
 use broker_state::{BookWrite, BrokerState};
-use dedup_table::Stream;
 use durable_parts::MARKER_PRODUCER;
 use geo_base::{
     Blob, BoxedMarker, Content, Entry, Ident, Marker, Memory, Metadata, ProducerName, Sequence,
     Targets, Text,
 };
 use std::alloc::Global;
+use topic_store::Stream;
 
 /// A marker that the own cluster writes next, for targets, which have these names.
 pub fn own_marker(

@@ -1,6 +1,6 @@
 //! An entry that came: it is stored, or is a duplicate. And packets behind what an event does.
 ghost use Rattle.std.specs.Prelude.{◌≡◌, ◌≤◌, true, false, [], Some, IfNone, IfOk, IfSome, OnErr, OnOk};
-ghost use Rattle.dedup_table.specs.Table.{stream_of};
+ghost use Rattle.topic_store.specs.Table.{stream_of};
 ghost use Rattle.geo_base.specs.Plan.{plan_of};
 ghost use Rattle.geo_base.specs.Storing.{receipt_position, storing};
 ghost use Rattle.geo_base.specs.Topic.{accepts};
@@ -15,9 +15,9 @@ ghost use Rattle.broker_plans.specs.Storable.{IsStorable};
 
 use crate::packet::text;
 use broker_state::{BookWrite, BrokerState, Plan};
-use dedup_table::Stream;
 use geo_base::{Entry, EntryStore, Frame, Ident, Memory, Peer, Position, WireOut};
 use std::alloc::Global;
+use topic_store::Stream;
 
 /// The position of what stands nowhere, -1:-1 as 64-bit numbers: the receipt of a duplicate names it, as those of Pulsar's brokers do.
 pub const NOWHERE: Position = Position {

@@ -17,7 +17,7 @@ use broker_state::{BookWrite, BrokerState, Plan};
 use broker_subs::{Sub, SubWrite};
 use cursor_acks::Cursor;
 use geo_base::{EntryStore, Memory, Sequence, SubName, Targets};
-use snapshot_cache::SnapshotCache;
+use snapshots::SnapshotCache;
 use std::alloc::Global;
 
 /// The update that follows a write of the cursor of the subscription at a place, which has these snapshots then. The cursor is

@@ -1,7 +1,7 @@
 //! SENDs of the usual form, whose parts are looked at in their place, so that an entry is made once, where it is stored.
 ghost use Rattle.std.specs.Prelude.{◌≡◌, ℕ, ◌≤◌, ◌++◌, ◌∷◌, true, [], Some, IfOk, List, OnOk};
 ghost use Rattle.std.specs.Option.{option_copied};
-ghost use Rattle.dedup_table.specs.Table.{stream_of};
+ghost use Rattle.topic_store.specs.Table.{stream_of};
 ghost use Rattle.geo_base.specs.Plan.{plan_of};
 ghost use Rattle.geo_base.specs.Sizes.{entry_size, most_entry_size};
 ghost use Rattle.geo_base.specs.Storing.{receipt_position, storing};
@@ -16,13 +16,13 @@ ghost use Rattle.frame_values.specs.Usual.{entry_viewed};
 
 use crate::receiving::NOWHERE;
 use broker_state::{BookWrite, BrokerState, Plan};
-use dedup_table::Stream;
 use frame_values::entry_of_message;
 use geo_base::limits::ENTRY_BYTES;
 use geo_base::{EntryStore, Memory, Peer, Position, ProducerName, WireOut};
 use pulsar_commands::CommandView;
 use pulsar_frames::{MessageView, write_usual_command};
 use std::alloc::Global;
+use topic_store::Stream;
 
 /// How long the texts of metadata of the usual form are at most, for an entry that is stored without a count of its bytes (own).
 const SHORT: usize = 128;

@@ -9,7 +9,7 @@ use Rattle.cursor_acks.specs.declared.range.IndexRange.{IndexRange}
 use Rattle.geo_base.specs.declared.entry.Entry.{Entry}
 use Rattle.geo_base.specs.Cursor.{backlog_from, has}
 use Rattle.geo_base.specs.Entry.{is_data}
-use Rattle.topic_ledger.specs.Messages.{is_message, messages_before}
+use Rattle.topic_store.specs.Messages.{is_message, messages_before}
 
 abbrev one : Bool → ℕ
 one b = if b then 1 else 0

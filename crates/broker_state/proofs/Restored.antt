@@ -1,7 +1,7 @@
 -- The parts of a broker that starts again are those of the site's broker.
 use Rattle.std.proofs.Common.{◌≡◌, length}
 use Rattle.std.specs.Prelude.{Result, Ok, Err, IfOk}
-use Rattle.dedup_table.specs.Table.{Tells}
+use Rattle.topic_store.specs.Table.{Tells}
 use Rattle.durable_parts.specs.declared.durable.Durable.{Durable}
 use Rattle.geo_base.specs.Broker.{Site}
 use Rattle.broker_state.specs.Parts.{AreParts}

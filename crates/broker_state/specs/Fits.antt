@@ -1,7 +1,7 @@
 -- Prepared events that a broker can commit: their numbers name what is there, and what they append is accepted.
 use Rattle.std.specs.Prelude.{◌≡◌, ℕ, ◌+◌, ◌<◌, ◌≤◌, ◌^◌, true, List, [], ◌∷◌, ◌++◌, length, None, Some, slice_get, ⊤}
 use Rattle.std.specs.List.{remove}
-use Rattle.dedup_table.specs.Table.{stream_of}
+use Rattle.topic_store.specs.Table.{stream_of}
 use Rattle.geo_base.specs.declared.entry.Entry.{Entry}
 use Rattle.geo_base.specs.Broker.{Broker, changed, sender_at, sub_named, written}
 use Rattle.geo_base.specs.Plan.{all_written}

@@ -1,6 +1,6 @@
 -- A broker's state as its owner sees it.
 use Rattle.std.specs.Prelude.{◌≡◌, ℕ, ◌-◌, ◌^◌, min, List, [], length}
-use Rattle.dedup_table.specs.Table.{Row, Tells}
+use Rattle.topic_store.specs.Table.{Row, Tells}
 use Rattle.geo_base.specs.declared.entry.Entry.{Entry}
 use Rattle.geo_base.specs.Broker.{Broker, Site}
 use Rattle.geo_base.specs.Topic.{next_marker}

@@ -1,13 +1,13 @@
 //! What a subscription has not acknowledged.
 ghost use Rattle.std.specs.Prelude.{◌≡◌, ◌≤◌, ◌+◌, ◌-◌, ◌^◌, min, length};
 ghost use Rattle.geo_base.specs.Broker.{backlog};
-ghost use Rattle.topic_ledger.specs.Messages.{messages_before};
+ghost use Rattle.topic_store.specs.Messages.{messages_before};
 
 use crate::state::BrokerState;
 use broker_subs::Sub;
 use cursor_acks::IndexRange;
 use geo_base::EntryStore;
-use topic_ledger::TopicLedger;
+use topic_store::TopicLedger;
 
 impl BrokerState {
     /// How many of the messages a subscription has not acknowledged: all of them but those in its cursor's ranges.

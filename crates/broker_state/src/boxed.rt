@@ -2,7 +2,7 @@
 ghost use Rattle.std.specs.Prelude.{◌≡◌, IfOk};
 
 use geo_base::Memory;
-use snapshot_builder::Builder;
+use snapshots::Builder;
 use std::alloc::Global;
 use std::boxed::Box;
 use std::marker::Model;

@@ -17,7 +17,7 @@ use crate::state::BrokerState;
 use broker_subs::SubChange;
 use geo_base::Session;
 use replicator::Receiver;
-use snapshot_builder::Builder;
+use snapshots::Builder;
 
 impl BrokerState {
     /// Makes one change in memory of an event about the subscription at a place.

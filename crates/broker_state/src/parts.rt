@@ -1,6 +1,6 @@
 //! What a broker's state is made of, part by part: each step owns few parts, and none but the last the whole.
 ghost use Rattle.std.specs.Prelude.{◌≡◌, ◌<◌, [], ◌∷◌, None, length, replicate, IfOk};
-ghost use Rattle.dedup_table.specs.Table.{Tells};
+ghost use Rattle.topic_store.specs.Table.{Tells};
 ghost use Rattle.geo_base.specs.Broker.{new_broker};
 ghost use Rattle.geo_base.specs.Sender.{new_sender};
 ghost use Rattle.broker_subs.specs.SubBook.{subs_of};
@@ -12,12 +12,11 @@ use crate::senders::SenderTable;
 use crate::site::Site;
 use crate::state::BrokerState;
 use broker_subs::SubTable;
-use dedup_table::DedupTable;
 use durable_parts::{Durable, DurableSenders, DurableSubs, recover};
 use geo_base::{Memory, Session};
 use replicator::Receiver;
 use std::alloc::Global;
-use topic_ledger::TopicLedger;
+use topic_store::{DedupTable, TopicLedger};
 
 /// All that a broker's state is made of beside its site, with no snapshot being made.
 #[derive(Drop)]
@@ -71,7 +70,7 @@ impl BrokerState {
 
 impl Parts {
     /// Those of the broker of a site with an empty topic and no session of so many clients.
-    #[tactic(auto, using(dedup_table::proofs::Tells::tells_none))]
+    #[tactic(auto, using(topic_store::proofs::Tells::tells_none))]
     pub(crate) fn new(alloc: Global, site: &Site, clients: usize) -> Result<Parts, Memory>
         requires { 0 < site.now.per_ledger }
         ensures parts { IfOk result (AreParts site.now) }

@@ -13,13 +13,12 @@ use crate::sender_row::SenderRow;
 use crate::senders::SenderTable;
 use crate::site::Site;
 use broker_subs::SubTable;
-use dedup_table::{DedupTable, Stream, Verdict};
 use geo_base::{EntryStore, Memory, Position, Session};
 use replicator::Receiver;
-use snapshot_builder::Builder;
+use snapshots::Builder;
 use std::alloc::Global;
 use std::marker::Model;
-use topic_ledger::TopicLedger;
+use topic_store::{DedupTable, Stream, TopicLedger, Verdict};
 
 /// What a broker knows of the setup; its topic, with the table of its duplicates and the sequence id of the cluster's next marker;
 /// the senders and receivers by cluster; the subscriptions; the clients' sessions; and the snapshot that is being made.

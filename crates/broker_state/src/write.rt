@@ -1,8 +1,8 @@
 //! Durable writes of a broker.
 
 use broker_subs::{Sub, SubWrite};
-use dedup_table::Stream;
 use geo_base::Entry;
+use topic_store::Stream;
 
 /// One durable write, with all the memory that it takes. The subscription that it is of is the prepared event's.
 #[derive(Drop)]

@@ -1,6 +1,6 @@
 //! Durable writes, done. None takes memory or can fail.
 ghost use Rattle.std.specs.Prelude.{◌≡◌, ◌<◌, ◌≤◌, ◌+◌, ◌-◌, ◌^◌, ◌++◌, ◌∷◌, [], None, true, length, max, min, if◌then◌else◌};
-ghost use Rattle.dedup_table.specs.Table.{stream_of};
+ghost use Rattle.topic_store.specs.Table.{stream_of};
 ghost use Rattle.geo_base.specs.Broker.{sub_named, written};
 ghost use Rattle.geo_base.specs.Topic.{accepts};
 ghost use Rattle.geo_base.specs.declared.write.Write.TheVariants as write;
@@ -14,9 +14,9 @@ use crate::sender_row::SenderStep;
 use crate::state::BrokerState;
 use crate::write::BookWrite;
 use broker_subs::{Sub, SubWrite};
-use dedup_table::Stream;
 use durable_parts::marker_after;
 use geo_base::{Entry, EntryStore};
+use topic_store::Stream;
 
 impl BrokerState {
     /// Does one durable write of an event about the subscription at a place.
@@ -52,7 +52,7 @@ impl BrokerState {
     }
 
     /// An entry is stored.
-    #[tactic(auto, using(dedup_table::proofs::Tells::tells_more, crate::proofs::Markers::marker_more))]
+    #[tactic(auto, using(topic_store::proofs::Tells::tells_more, crate::proofs::Markers::marker_more))]
     fn append(&mut self, entry: Entry, stream: Stream)
         requires accepted { accepts self.old.broker.entries entry.ident ≡ true }
         requires stream { stream ≡ stream_of entry.ident }

@@ -14,7 +14,7 @@ use dispatcher::Dispatcher;
 use durable_parts::DurableSub;
 use geo_base::{Consumer, EntryStore, Memory, SubKind, SubName};
 use key_shared::KeyPick;
-use snapshot_cache::SnapshotCache;
+use snapshots::SnapshotCache;
 use std::alloc::Global;
 use std::marker::Model;
 

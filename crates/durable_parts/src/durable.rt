@@ -12,7 +12,7 @@ use crate::subs::DurableSubs;
 use cursor_acks::Cursor;
 use geo_base::{Memory, NameFault, SubKind, SubName};
 use std::alloc::Global;
-use topic_ledger::TopicLedger;
+use topic_store::TopicLedger;
 
 /// What is durable of a subscription. `seeks` counts how often an operator reset the cursor.
 #[derive(Drop)]

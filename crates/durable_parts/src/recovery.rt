@@ -1,13 +1,13 @@
 //! Recovery from a topic's entries.
 ghost use Rattle.std.specs.Prelude.{◌≡◌, ◌+◌, ◌-◌, ◌^◌, max, min, if◌then◌else◌, IfOk};
-ghost use Rattle.dedup_table.specs.Table.{Tells};
+ghost use Rattle.topic_store.specs.Table.{Tells};
 ghost use Rattle.geo_base.specs.Topic.{next_marker};
 
 use crate::durable::Durable;
 use crate::marker::marker_after;
-use dedup_table::DedupTable;
 use geo_base::{EntryStore, Memory};
 use std::alloc::Global;
+use topic_store::DedupTable;
 
 /// What a broker keeps in memory about the entries that its topic stores.
 #[derive(Drop)]

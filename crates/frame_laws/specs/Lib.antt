@@ -1,3 +1,4 @@
 pub mod BytePackets
 pub mod CutOff
 pub mod Telling
+pub mod Books

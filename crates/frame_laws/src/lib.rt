@@ -1,14 +1,13 @@
-//! What the laws over values say of bytes: what runs send is told whole by its bytes and can be written, a node that keeps the
-//! bytes of its packets keeps a history of the law of the merge, and a packet that was cut off on its way is one that was lost.
-//!
-//! As in `world_laws`, a law is a public function without parameters and without an answer; its contract is the statement,
-//! and its proof stands in `proofs/`.
+//! Laws of frames as bytes and of books of them, over the definitions: a run over bytes is a run of the machine, and books that grow event
+//! by event send what the machine sends.
 #![tactic(auto)]
 
+mod books;
 mod histories;
 mod losses;
 mod telling;
 
+pub use books::{law_book_grows, law_book_sends};
 pub use histories::{law_alike_bytes, law_bare, law_byte_histories};
 pub use losses::{law_cut_off, law_no_bytes};
 pub use telling::{law_told, law_written, plain_told};

@@ -6,7 +6,7 @@ use Rattle.geo_base.specs.declared.event.Step.{Step}
 use Rattle.geo_base.specs.Report.{report}
 use Rattle.geo_base.specs.Run.{all_limits, run, run_under}
 use Rattle.geo_base.specs.Setup.{Setup}
-use Rattle.script_names.specs.Words.{Word}
+use Rattle.script_rows.specs.NameWords.{Word}
 use Rattle.script_rows.specs.declared.fault.Rule.{Rule}
 use Rattle.script_rows.specs.declared.heading.Heading.{Heading}
 use Rattle.script_rows.specs.declared.heading.Heading.TheVariants as heading

@@ -1,7 +1,7 @@
 -- The words of the command that runs nodes on threads: `live WORKERS TURNS` (own).
 use Rattle.std.specs.Prelude.{ℕ, ◌*◌, ◌||◌, if◌then◌else◌, nat_lt, List, [], ◌∷◌, Option, Some, None, codes}
 use Rattle.std.specs.Str.{bytes_eq}
-use Rattle.script_names.specs.Numbers.{number_of}
+use Rattle.script_rows.specs.Numbers.{number_of}
 use Rattle.geo_live.specs.declared.words.Live.{Live}
 
 -- workers: one at least

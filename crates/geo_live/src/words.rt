@@ -3,7 +3,7 @@ ghost use Rattle.std.specs.Prelude.{◌≡◌, ◌<◌, ◌≤◌, IfSome};
 ghost use Rattle.geo_live.specs.Words.{allowed, live_of, most_turns, most_workers, numbered};
 
 use geo_top::Word;
-use script_names::number_of;
+use script_rows::number_of;
 
 /// The most workers, each of which is a thread (own).
 const MOST_WORKERS: u64 = 64;

@@ -10,9 +10,9 @@ use Rattle.text_laws.proofs.ReadBack.{trace_read}
 use Rattle.script_text.specs.Rules.{script_of}
 use Rattle.script_text.specs.Scenario.{IsScenario}
 use Rattle.script_text.specs.Script.{Script}
-use Rattle.trace_inputs.specs.Apart.{AreApart, headed}
-use Rattle.trace_inputs.specs.Starts.{declarations_in}
-use Rattle.trace_inputs.proofs.Behind.{apart_law}
+use Rattle.script_inputs.specs.Apart.{AreApart, headed}
+use Rattle.script_inputs.specs.Starts.{declarations_in}
+use Rattle.script_inputs.proofs.Behind.{apart_law}
 use Rattle.geo_top.specs.declared.top.status.Status.TheVariants as status
 use Rattle.geo_top.specs.Audits.{audit_line}
 use Rattle.geo_top.specs.Outputs.{answer_to_audit, answer_to_audited, answer_to_judged}

@@ -4,8 +4,8 @@ use Rattle.std.specs.Prelude.{None}
 use Rattle.geo_base.specs.declared.event.Step.{Step}
 use Rattle.geo_base.specs.Scripted.{IsScripted}
 use Rattle.geo_base.specs.World.{World, opening_world}
-use Rattle.schedule_gen.proofs.InRange.{is_scenario}
-use Rattle.schedule_gen.specs.Generated.{generated_run}
+use Rattle.script_inputs.proofs.InRange.{is_scenario}
+use Rattle.script_inputs.specs.Generated.{generated_run}
 use Rattle.script_text.specs.Script.{Script}
 use Rattle.state_laws.specs.Saved.{world_from}
 use Rattle.world_laws.proofs.SavedRuns.{reached_law}

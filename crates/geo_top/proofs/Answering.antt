@@ -13,7 +13,7 @@ use Rattle.state_file.specs.Loading.{IsLoaded, Loaded, bad_state, version}
 use Rattle.state_file.specs.State.{SavedState}
 use Rattle.world_laws.proofs.ResumedRuns.{resumed_law}
 use Rattle.world_laws.proofs.SavedRuns.{reached_law}
-use Rattle.trace_inputs.specs.Starts.{declarations_in, trace_in}
+use Rattle.script_inputs.specs.Starts.{declarations_in, trace_in}
 use Rattle.geo_top.specs.declared.top.answer.Answer.{Answer}
 use Rattle.geo_top.specs.declared.top.command.Command.{Command}
 use Rattle.geo_top.specs.declared.top.command.Command.TheVariants as command
@@ -29,7 +29,7 @@ use Rattle.geo_top.specs.Founded.{IsAccepted, IsFounded, IsKnown, IsKnownFor}
 use Rattle.geo_top.specs.OneRun.{IsKept, IsSavedWith, counted_on, lines_before, text_on}
 use Rattle.geo_top.specs.Outputs.{IsAnswerFor, IsAnswerToBytes, IsAnswerToFile, IsAnswerToInput, UnlessLarge, answer_to, answer_to_audited, answer_to_big, answer_to_judged, answer_to_loaded, answer_to_resumed, answer_to_save, output_of, passed_limit, resumed_limit, resumed_report, summary_of, unless_passed}
 use Rattle.geo_top.specs.States.{file_of, state_of_run, stopped}
-use Rattle.schedule_gen.specs.Generated.{generated_run}
+use Rattle.script_inputs.specs.Generated.{generated_run}
 use Rattle.geo_top.proofs.Auditing.{accepted_safe}
 use Rattle.geo_top.proofs.OneRun.{counted_same, kept_is}
 use Rattle.geo_top.proofs.SavedWith.{holds_of, ok_maps}

@@ -10,7 +10,7 @@ use Rattle.script_text.specs.Schedule.{schedule_of}
 use Rattle.script_text.specs.Script.{Fault, Script}
 use Rattle.state_file.specs.Loading.{IsLoaded, Loaded, bad_state, version}
 use Rattle.state_file.specs.State.{SavedState}
-use Rattle.trace_inputs.specs.Starts.{declarations_in, trace_in}
+use Rattle.script_inputs.specs.Starts.{declarations_in, trace_in}
 use Rattle.geo_top.specs.declared.top.answer.Answer.{Answer}
 use Rattle.geo_top.specs.declared.top.command.Command.{Command}
 use Rattle.geo_top.specs.declared.top.command.Command.TheVariants as command
@@ -24,7 +24,7 @@ use Rattle.geo_top.specs.Commands.{audit_command, command_showing}
 use Rattle.geo_top.specs.Outputs.{IsAnswerFor, IsAnswerToBytes, UnlessLarge, answer_to, answer_to_audited, answer_to_generated, answer_to_judged, answer_to_loaded, answer_to_resumed, answer_to_save, output_of, passed_limit, resumed_limit, resumed_report, summary_of, unless_passed}
 use Rattle.geo_top.specs.States.{file_of, stopped}
 use Rattle.geo_top.specs.Statuses.{IsMade, refusal_line}
-use Rattle.schedule_gen.specs.Generated.{generated_run}
+use Rattle.script_inputs.specs.Generated.{generated_run}
 use Rattle.geo_top.proofs.Limits.{IsOnlyLimit, only_limit, only_limit_from}
 
 -- by a status: which words and which input it had for its cause

@@ -7,7 +7,7 @@ use Rattle.geo_base.specs.Run.{run}
 use Rattle.geo_base.specs.Setup.{Declared, Setup}
 use Rattle.geo_base.specs.World.{World, client_at, topic_at}
 use Rattle.world.specs.World.{WorldBook, kept_of}
-use Rattle.schedule_gen.specs.Generated.{generated_run}
+use Rattle.script_inputs.specs.Generated.{generated_run}
 use Rattle.script_text.specs.Script.{Script}
 use Rattle.world_kept.specs.Standing.{Stands}
 use Rattle.state_file.specs.State.{SavedState}

@@ -10,7 +10,7 @@ use Rattle.geo_base.specs.Setup.{Setup}
 use Rattle.geo_base.specs.World.{World, node, topic_at}
 use Rattle.broker.specs.Node.{BrokerBook}
 use Rattle.text_laws.proofs.Ledgers.{readable_law, readable_tellable}
-use Rattle.ledger_texts.specs.Readable.{AreTellable}
+use Rattle.tiered_ledger.specs.Readable.{AreTellable}
 use Rattle.report_lines.proofs.Added.{line_added}
 use Rattle.report_sections.proofs.Parts.{lines_added}
 use Rattle.report_sections.specs.Tiers.{moved_ledgers, moved_line, tier_lines}

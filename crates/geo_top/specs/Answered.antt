@@ -5,14 +5,14 @@ use Rattle.audit.specs.AuditOf.{audit_of}
 use Rattle.geo_base.specs.declared.event.Step.{Step}
 use Rattle.geo_base.specs.Run.{all_limits, is_quiet, run, run_under}
 use Rattle.geo_io.specs.Faults.{Rose, Stood}
-use Rattle.schedule_gen.specs.Generated.{generated_run}
+use Rattle.script_inputs.specs.Generated.{generated_run}
 use Rattle.script_text.specs.Rules.{script_of}
 use Rattle.script_text.specs.Scenario.{IsScenario}
 use Rattle.script_text.specs.Schedule.{schedule_of}
 use Rattle.script_text.specs.Script.{Script}
 use Rattle.state_file.specs.Loading.{IsLoaded, bad_state, version}
 use Rattle.state_file.specs.State.{SavedState}
-use Rattle.trace_inputs.specs.Starts.{declarations_in, trace_in}
+use Rattle.script_inputs.specs.Starts.{declarations_in, trace_in}
 use Rattle.geo_top.specs.declared.top.answer.Answer.{Answer}
 use Rattle.geo_top.specs.declared.top.command.Command.{Command}
 use Rattle.geo_top.specs.declared.top.command.Command.TheVariants as command

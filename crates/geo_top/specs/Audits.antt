@@ -7,7 +7,7 @@ use Rattle.geo_base.specs.Setup.{Setup}
 use Rattle.geo_base.specs.TraceItems.{Item}
 use Rattle.trace_laws.specs.Audited.{IsSafe, all_told}
 use Rattle.trace_lines.specs.Lines.{item_read}
-use Rattle.script_names.specs.Words.{cut_by}
+use Rattle.script_rows.specs.NameWords.{cut_by}
 
 -- what an accepted trace is answered with: how many events it tells
 abbrev pub audit_line : ℕ → List ℕ

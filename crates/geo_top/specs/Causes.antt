@@ -7,7 +7,7 @@ use Rattle.script_text.specs.Schedule.{schedule_of}
 use Rattle.script_text.specs.Script.{Fault}
 use Rattle.state_file.specs.Loading.{IsLoaded, Refusal}
 use Rattle.state_file.specs.State.{SavedState}
-use Rattle.trace_inputs.specs.Starts.{declarations_in, trace_in}
+use Rattle.script_inputs.specs.Starts.{declarations_in, trace_in}
 use Rattle.geo_top.specs.declared.top.command.Command.{Command}
 use Rattle.geo_top.specs.declared.top.command.Command.TheVariants as command
 use Rattle.geo_top.specs.declared.top.command.Reading.{Reading}
@@ -15,7 +15,7 @@ use Rattle.geo_top.specs.declared.top.command.Reading.TheVariants as reading
 use Rattle.geo_top.specs.Commands.{Reads, audit_command, resume_command}
 use Rattle.geo_top.specs.Outputs.{passed_limit, resumed_limit}
 use Rattle.geo_top.specs.States.{stopped}
-use Rattle.schedule_gen.specs.Generated.{generated_run}
+use Rattle.script_inputs.specs.Generated.{generated_run}
 
 -- a line breaks a rule: of the script, or behind the state
 abbrev pub HasBadLineIn : Reading → List ℕ → Fault → Type 0

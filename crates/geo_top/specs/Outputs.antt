@@ -10,7 +10,7 @@ use Rattle.script_text.specs.Schedule.{schedule_of}
 use Rattle.script_text.specs.Script.{Fault, Script}
 use Rattle.state_file.specs.Loading.{IsLoaded, Loaded, bad_state, version}
 use Rattle.state_file.specs.State.{SavedState}
-use Rattle.trace_inputs.specs.Starts.{declarations_in, trace_in}
+use Rattle.script_inputs.specs.Starts.{declarations_in, trace_in}
 use Rattle.geo_top.specs.declared.top.answer.Answer.{Answer}
 use Rattle.geo_top.specs.declared.top.command.Command.{Command}
 use Rattle.geo_top.specs.declared.top.command.Command.TheVariants as command
@@ -27,7 +27,7 @@ use Rattle.geo_top.specs.Statuses.{refusal_line}
 use Rattle.geo_top.specs.Summary.{summary}
 use Rattle.geo_top.specs.Tiered.{tiered}
 use Rattle.geo_top.specs.Traced.{traced_of}
-use Rattle.schedule_gen.specs.Generated.{generated_run}
+use Rattle.script_inputs.specs.Generated.{generated_run}
 
 abbrev pub refused : Status → Answer
 refused s = record { status = s; bytes = refusal_line s }

@@ -6,7 +6,7 @@ use Rattle.geo_base.specs.declared.entry.Entry.{Entry}
 use Rattle.geo_base.specs.Report.{head_line, with_line_feeds, words}
 use Rattle.geo_base.specs.Setup.{Setup}
 use Rattle.geo_base.specs.World.{World, topic_at}
-use Rattle.topic_ledger.specs.Messages.{is_message}
+use Rattle.topic_store.specs.Messages.{is_message}
 
 -- three clusters, and the 2,000 messages that the producers publish
 abbrev pub big_line : ℕ → List ℕ

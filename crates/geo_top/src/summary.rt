@@ -10,7 +10,7 @@ use geo_base::{Blob, EntryStore, Memory};
 use report_lines::add;
 use script_text::Scenario;
 use std::alloc::Global;
-use topic_ledger::TopicLedger;
+use topic_store::TopicLedger;
 use world::World;
 
 /// The one topic of a generated run.

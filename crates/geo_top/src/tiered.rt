@@ -7,7 +7,7 @@ ghost use Rattle.geo_base.specs.Report.{entry_lines, with_line_feeds};
 ghost use Rattle.geo_top.specs.Shown.{shown_world};
 ghost use Rattle.geo_top.specs.Tiered.{AreTopicsTellable, tiered, tiers_at, tiers_of};
 ghost use Rattle.report_sections.specs.Tiers.{moved_line};
-ghost use Rattle.tier_store.specs.Kept.{kept_in};
+ghost use Rattle.topic_upkeep.specs.Kept.{kept_in};
 ghost use Rattle.tiered_ledger.specs.Calls.{offloaded};
 ghost use Rattle.tiered_ledger.specs.Tiered.{Holds};
 ghost use Rattle.world.specs.World.{IsAt};
@@ -18,7 +18,7 @@ use report_lines::add;
 use report_sections::{TieredTopic, add_read_entries, moved_line, moved_to_tier};
 use script_text::Scenario;
 use std::alloc::Global;
-use topic_ledger::TopicLedger;
+use topic_store::TopicLedger;
 use world::World;
 
 /// Of each topic at each cluster of a world, how many of its closed ledgers moved to a tier of its own (all but the last `keep`) and

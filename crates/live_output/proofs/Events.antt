@@ -21,9 +21,9 @@ use Rattle.geo_base.specs.Planned.{in_range}
 use Rattle.geo_base.specs.Reading.{read}
 use Rattle.geo_base.specs.Setup.{Setup, sub_names}
 use Rattle.geo_base.specs.World.{site}
-use Rattle.history_packets.specs.Ends.{AreStood}
-use Rattle.history_packets.specs.Kept.{Kept}
-use Rattle.history_packets.specs.Peers.{LayoutView}
+use Rattle.merge_history.specs.Ends.{AreStood}
+use Rattle.merge_history.specs.Kept.{Kept}
+use Rattle.merge_history.specs.Peers.{LayoutView}
 use Rattle.script_text.specs.Scenario.{IsLink, IsNode}
 use Rattle.world_laws.proofs.Walk.{left, on_if, right}
 use Rattle.live_output.specs.Playing.{IsEventStep}

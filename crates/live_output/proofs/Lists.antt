@@ -6,7 +6,7 @@ use Rattle.std.specs.Prelude.{Result, IfOk}
 use Rattle.std.specs.List.{AllByRecursion}
 use Rattle.geo_base.specs.declared.memory.Memory.{Memory}
 use Rattle.geo_base.specs.NodeState.{NodeState}
-use Rattle.book_laws.specs.Books.{IsBookOf}
+use Rattle.frame_laws.specs.Books.{IsBookOf}
 use Rattle.script_text.specs.Script.{Script}
 use Rattle.merge_history.specs.declared.merge.Merged.{Merged}
 use Rattle.merge_history.specs.Books.{AreBooks, BookView}

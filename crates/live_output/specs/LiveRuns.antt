@@ -7,8 +7,8 @@ use Rattle.script_text.specs.Naming.{names_of}
 use Rattle.script_text.specs.Scenario.{IsStep}
 use Rattle.script_text.specs.Schedule.{schedule_of, schedule_text}
 use Rattle.script_text.specs.Script.{Script}
-use Rattle.history_packets.specs.Ends.{AreStood, layout_of}
-use Rattle.history_packets.specs.Kept.{Kept}
+use Rattle.merge_history.specs.Ends.{AreStood, layout_of}
+use Rattle.merge_history.specs.Kept.{Kept}
 use Rattle.merge_history.specs.Books.{AreKept, BookView}
 use Rattle.geo_top.specs.Headline.{IsAlwaysKept, IsAlwaysOnce, IsAlwaysSafe, IsAlwaysSettled, NothingComesAgain}
 use Rattle.geo_top.specs.Outputs.{passed_limit, report_of}

@@ -2,11 +2,10 @@
 ghost use Rattle.std.specs.Prelude.{◌<◌};
 
 use crate::books::LockedBook;
-use actor_roles::Role;
 use actors::Actor;
 use geo_base::Memory;
 use geo_io::Gate;
-use node_numbers::{broker_number, client_number, cluster_count};
+use node_roles::{Role, broker_number, client_number, cluster_count};
 use script_text::Scenario;
 use std::alloc::Global;
 use std::sync::Wait;

@@ -3,8 +3,8 @@ use Rattle.std.proofs.Common.{◌^◌, ◌<◌, arith}
 use Rattle.geo_base.specs.Nodes.{node_count}
 use Rattle.geo_base.specs.Scripted.{IsScripted}
 use Rattle.geo_base.specs.Setup.{Setup}
-use Rattle.history_packets.specs.Ends.{layout_of}
-use Rattle.history_packets.specs.Peers.{IsLayout}
+use Rattle.merge_history.specs.Ends.{layout_of}
+use Rattle.merge_history.specs.Peers.{IsLayout}
 use Rattle.world_laws.proofs.FewNodes.{few_brokers, few_clients}
 
 pub few_nodes : (s : Setup) → IsScripted s → node_count s < 2 ^ 32

@@ -11,20 +11,20 @@ use Rattle.geo_base.specs.Nodes.{node_count}
 use Rattle.geo_base.specs.Run.{run}
 use Rattle.geo_base.specs.Scripted.{IsScripted}
 use Rattle.geo_base.specs.Setup.{Setup}
-use Rattle.book_laws.specs.Books.{StandsAs}
+use Rattle.frame_laws.specs.Books.{StandsAs}
 use Rattle.world_laws.proofs.MergeOrder.{Rises, rises}
 use Rattle.world_laws.specs.Recorded.{IsAsRecorded}
 use Rattle.script_text.specs.Script.{Script}
 use Rattle.wire_ends.specs.declared.packet.WirePacket.{WirePacket}
 use Rattle.world_laws.proofs.Members.{below_or}
-use Rattle.history_packets.proofs.Firsts.{nothing_past}
-use Rattle.history_packets.proofs.Runs.{runs_begun, runs_whole}
-use Rattle.history_packets.specs.declared.differences.PacketDifference.{PacketDifference}
-use Rattle.history_packets.specs.Differences.{AllSent, Takes, sent_there}
-use Rattle.history_packets.specs.Ends.{AreStood, layout_of}
-use Rattle.history_packets.specs.Firsts.{AreRising, ComesBefore, IsFirst}
-use Rattle.history_packets.specs.Kept.{Kept, kept_by}
-use Rattle.history_packets.specs.Peers.{LayoutView}
+use Rattle.merge_history.proofs.Firsts.{nothing_past}
+use Rattle.merge_history.proofs.Runs.{runs_begun, runs_whole}
+use Rattle.merge_history.specs.declared.differences.PacketDifference.{PacketDifference}
+use Rattle.merge_history.specs.Differences.{AllSent, Takes, sent_there}
+use Rattle.merge_history.specs.Ends.{AreStood, layout_of}
+use Rattle.merge_history.specs.Firsts.{AreRising, ComesBefore, IsFirst}
+use Rattle.merge_history.specs.Kept.{Kept, kept_by}
+use Rattle.merge_history.specs.Peers.{LayoutView}
 use Rattle.merge_history.specs.declared.difference.Difference.{Difference}
 use Rattle.merge_history.specs.declared.difference.Difference.TheVariants as difference
 use Rattle.merge_history.specs.declared.merge.Merged.{Merged}

@@ -10,10 +10,10 @@ use Rattle.geo_base.specs.History.{RecordedEvent}
 use Rattle.geo_base.specs.Merge.{history_of, merge_of, steps_of}
 use Rattle.world_laws.proofs.Effects.{Each, each_both}
 use Rattle.merge_history.specs.declared.turn.Turn.{Turn}
-use Rattle.history_packets.specs.Kept.{Kept, kept_by, kept_stamp}
+use Rattle.merge_history.specs.Kept.{Kept, kept_by, kept_stamp}
 use Rattle.merge_history.specs.Turns.{AlikeAll, AlikeEvents, AreSorted, IsIn, Rise, all_turns, entry_at, event_at, no_event, no_kept, stamp_of, step_at, turns_from}
 use Rattle.merge_history.proofs.Entries.{each_all, each_moved, longer, past, sorted_law}
-use Rattle.history_packets.proofs.Walking.{kept_there}
+use Rattle.merge_history.proofs.Walking.{kept_there}
 
 -- ---- a turn is one of an event that is kept
 longer_yet : {X : Type 0} (xs : List X) (y : X) (ys : List X) → length xs < length (xs ++ y ∷ ys)

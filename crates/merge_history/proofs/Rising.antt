@@ -9,7 +9,7 @@ use Rattle.wire_ends.specs.declared.packet.WirePacket.{WirePacket}
 use Rattle.world_laws.proofs.Effects.{Each}
 use Rattle.world_laws.proofs.MergeOrder.{Rises}
 use Rattle.world_laws.specs.ByteHistories.{StandAll}
-use Rattle.history_packets.specs.Kept.{Kept, kept_by}
+use Rattle.merge_history.specs.Kept.{Kept, kept_by}
 use Rattle.merge_history.specs.Turns.{AlikeAll, AlikeEvents, AreAbove, Rise}
 
 -- ---- the same events

@@ -8,12 +8,12 @@ use Rattle.geo_base.specs.NodeState.{NodeState, opening_state}
 use Rattle.geo_base.specs.Nodes.{node_count}
 use Rattle.geo_base.specs.Scripted.{IsScripted}
 use Rattle.script_text.specs.Script.{Script}
-use Rattle.book_laws.specs.Books.{IsBookOf, StandsAs}
+use Rattle.frame_laws.specs.Books.{IsBookOf, StandsAs}
 use Rattle.world_laws.specs.ByteHistories.{StandAll}
-use Rattle.history_packets.proofs.Firsts.{nothing_past}
-use Rattle.history_packets.proofs.Runs.{layout_is}
-use Rattle.history_packets.specs.Ends.{AreStood, layout_of}
-use Rattle.history_packets.specs.Kept.{Kept, kept_by}
+use Rattle.merge_history.proofs.Firsts.{nothing_past}
+use Rattle.merge_history.proofs.Runs.{layout_is}
+use Rattle.merge_history.specs.Ends.{AreStood, layout_of}
+use Rattle.merge_history.specs.Kept.{Kept, kept_by}
 use Rattle.merge_history.specs.Books.{AreBooks, AreKept, BookView, Counts, IsOwn}
 
 -- ---- one for each of a list

@@ -2,8 +2,8 @@
 use Rattle.std.specs.Prelude.{◌≡◌, ℕ, ◌<◌, Bool, true, false, if◌then◌else◌, List, [], ◌∷◌, length, Some, slice_get, slice_index_or}
 use Rattle.geo_base.specs.NodeState.{NodeState}
 use Rattle.script_text.specs.Script.{Script}
-use Rattle.book_laws.specs.Books.{IsBookOf}
-use Rattle.history_packets.specs.Kept.{Kept, kept_by}
+use Rattle.frame_laws.specs.Books.{IsBookOf}
+use Rattle.merge_history.specs.Kept.{Kept, kept_by}
 
 -- a configuration with the number of a node
 pub record ConfigView : Type 0 where

@@ -1,3 +1,10 @@
+pub mod Kept
+pub mod Peers
+pub mod Slots
+pub mod Differences
+pub mod Walks
+pub mod Firsts
+pub mod Ends
 pub mod Turns
 pub mod Books
 pub mod Merges

@@ -9,11 +9,11 @@ use Rattle.geo_base.specs.Run.{run}
 use Rattle.script_text.specs.Script.{Script}
 use Rattle.wire_ends.specs.declared.packet.WirePacket.{WirePacket}
 use Rattle.world_laws.specs.Recorded.{IsAsRecorded}
-use Rattle.history_packets.specs.Differences.{AllSent, IsSentAt, Takes, index_taken, sent_there}
-use Rattle.history_packets.specs.Ends.{AreStood, layout_of}
-use Rattle.history_packets.specs.Firsts.{ComesBefore}
-use Rattle.history_packets.specs.Kept.{Kept, kept_by}
-use Rattle.history_packets.specs.Peers.{LayoutView}
+use Rattle.merge_history.specs.Differences.{AllSent, IsSentAt, Takes, index_taken, sent_there}
+use Rattle.merge_history.specs.Ends.{AreStood, layout_of}
+use Rattle.merge_history.specs.Firsts.{ComesBefore}
+use Rattle.merge_history.specs.Kept.{Kept, kept_by}
+use Rattle.merge_history.specs.Peers.{LayoutView}
 use Rattle.merge_history.specs.declared.difference.Difference.{Difference}
 use Rattle.merge_history.specs.declared.difference.Difference.TheVariants as difference
 use Rattle.merge_history.specs.declared.merge.Merged.{Merged}

@@ -8,7 +8,7 @@ use Rattle.geo_base.specs.declared.event.Step.TheVariants as step
 use Rattle.geo_base.specs.History.{RecordedEvent}
 use Rattle.geo_base.specs.Merge.{Merged, history_of}
 use Rattle.merge_history.specs.declared.turn.Turn.{Turn}
-use Rattle.history_packets.specs.Kept.{Kept}
+use Rattle.merge_history.specs.Kept.{Kept}
 
 -- those of a history from place i on, by the stamps of its events
 abbrev pub turns_from : {X : Type 0} → (X → ℕ) → ℕ → ℕ → List X → List Turn

@@ -4,8 +4,8 @@ ghost use Rattle.std.specs.Arc.{arc_value};
 ghost use Rattle.merge_history.specs.Books.{IsOwn};
 
 use crate::difference::NodeConfig;
+use book_parts::Done;
 use geo_base::Memory;
-use histories::Done;
 use script_text::Scenario;
 use std::alloc::Global;
 use std::marker::Model;

@@ -1,10 +1,10 @@
 //! Who shares links with whom in a scenario.
 ghost use Rattle.std.specs.Prelude.{◌≡◌, IfOk, OnOk, map};
 ghost use Rattle.geo_base.specs.Scripted.{IsScripted};
-ghost use Rattle.history_packets.specs.Ends.{home_declared, layout_of};
+ghost use Rattle.merge_history.specs.Ends.{home_declared, layout_of};
 
+use crate::{Home, Layout};
 use geo_base::Memory;
-use history_packets::{Home, Layout};
 use script_text::Scenario;
 use std::alloc::Global;
 

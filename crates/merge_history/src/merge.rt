@@ -3,9 +3,9 @@ ghost use Rattle.std.specs.Prelude.{◌≡◌, ◌<◌, ◌^◌, ℕ, IfOk, IfSo
 ghost use Rattle.std.specs.Arc.{arc_value};
 ghost use Rattle.geo_base.specs.NodeState.{NodeState};
 ghost use Rattle.geo_base.specs.Nodes.{node_count};
-ghost use Rattle.history_packets.specs.Differences.{AllSent};
-ghost use Rattle.history_packets.specs.Firsts.{AreRising};
-ghost use Rattle.history_packets.specs.Ends.{layout_of};
+ghost use Rattle.merge_history.specs.Differences.{AllSent};
+ghost use Rattle.merge_history.specs.Firsts.{AreRising};
+ghost use Rattle.merge_history.specs.Ends.{layout_of};
 ghost use Rattle.merge_history.specs.Books.{AreBooks, AreTold, kept_of};
 ghost use Rattle.merge_history.specs.Merges.{DiffersAs, IsMerged, IsPacket, IsStrangeAt};
 
@@ -14,8 +14,8 @@ use crate::difference::{Difference, NodeConfig};
 use crate::layout::layout_of;
 use crate::steps::merged_steps;
 use crate::strange::{Judged, first_strange, judge_books};
+use crate::{History, Layout, first_difference, packets_of};
 use geo_base::Memory;
-use history_packets::{History, Layout, first_difference, packets_of};
 use script_text::{Scenario, StepList};
 use std::alloc::Global;
 use std::sync::Arc;

@@ -3,13 +3,13 @@ ghost use Rattle.std.specs.Prelude.{◌≡◌, ◌++◌, ◌<◌, ◌^◌, ℕ, 
 ghost use Rattle.std.specs.List.Sorted.{IsPermutation};
 ghost use Rattle.geo_base.specs.History.{RecordedEvent};
 ghost use Rattle.geo_base.specs.Merge.{history_of, merge_of, steps_of};
-ghost use Rattle.history_packets.specs.Kept.{kept_stamp};
+ghost use Rattle.merge_history.specs.Kept.{kept_stamp};
 ghost use Rattle.merge_history.specs.Turns.{AlikeAll, AreSorted, IsIn, Rise, all_turns, event_at, step_at, turns_from};
 
+use crate::History;
 use crate::turn::Turn;
+use book_parts::Done;
 use geo_base::{Event, Memory, Step};
-use histories::Done;
-use history_packets::History;
 use script_text::StepList;
 use std::alloc::Global;
 

@@ -2,9 +2,9 @@
 ghost use Rattle.std.specs.Prelude.{◌≡◌, ◌<◌, ℕ, IfOk, IfSome, None, length, slice_index_or, true};
 ghost use Rattle.merge_history.specs.Books.{AreTold, IsFirstFalse, counted_of, kept_of};
 
+use crate::History;
 use crate::book::Book;
 use geo_base::Memory;
-use history_packets::History;
 use script_text::Scenario;
 use std::alloc::Global;
 

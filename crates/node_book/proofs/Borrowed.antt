@@ -1,6 +1,6 @@
 -- A book whose configuration is borrowed, and whose state is matched.
 use Rattle.std.proofs.Common.{◌≡◌, ℕ, List, sym, ap, ◌∙◌}
-use Rattle.book_ends.specs.declared.table.EndRow.{EndRow}
+use Rattle.book_parts.specs.declared.table.EndRow.{EndRow}
 use Rattle.node_book.specs.declared.state.NodeState.{NodeState as Kept}
 use Rattle.node_book.specs.Books.{BookValue, book_at}
 use Rattle.script_text.specs.Script.{Script}

@@ -1,9 +1,9 @@
 -- An event at a broker.
 use Rattle.std.proofs.Common.{◌≡◌, ℕ, Bool, true, false, List, [], max, refl, sym, ap, subst, ◌∙◌, ◌↔◌}
 use Rattle.std.specs.Prelude.{Option, Some, None, IfNone, IfSome, IsTrue}
-use Rattle.book_ends.specs.declared.table.EndRow.{EndRow}
-use Rattle.book_ends.specs.Rows.{LooksRise, SamePeers, SameSends, SameTaken, SameTakes}
-use Rattle.book_ends.specs.Sending.{AreAddressed, HasRoom}
+use Rattle.book_parts.specs.declared.table.EndRow.{EndRow}
+use Rattle.book_parts.specs.Rows.{LooksRise, SamePeers, SameSends, SameTaken, SameTakes}
+use Rattle.book_parts.specs.Sending.{AreAddressed, HasRoom}
 use Rattle.broker.proofs.Planned.{node_plan}
 use Rattle.broker.proofs.Ready.{done_is, idle_is}
 use Rattle.broker.specs.Events.{CanHappen, IsNodeOf, IsOfNode, IsOfTopic, MarkerRises, NumbersRise, SeekRises}
@@ -20,7 +20,7 @@ use Rattle.geo_base.specs.Plan.{Plan, done}
 use Rattle.geo_base.specs.Planned.{broker_plan}
 use Rattle.geo_base.specs.Setup.{Setup, sub_names}
 use Rattle.geo_base.specs.World.{site}
-use Rattle.book_laws.specs.Books.{StandsAs}
+use Rattle.frame_laws.specs.Books.{StandsAs}
 use Rattle.node_book.specs.declared.state.NodeState.TheVariants as kept
 use Rattle.node_book.specs.declared.packing.Packed.{Packed as ReadyPackets}
 use Rattle.node_book.specs.Acting.{Finished}

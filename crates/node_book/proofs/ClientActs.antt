@@ -2,9 +2,9 @@
 use Rattle.std.proofs.Common.{◌≡◌, ℕ, ◌+◌, ◌<◌, ◌≤◌, ◌^◌, Bool, true, false, List, [], length, max, refl, sym, ap, subst, ◌∙◌, ◌↔◌, arith}
 use Rattle.std.specs.Prelude.{Option, Some, None, IfNone, IfSome, IsTrue, is_some, not}
 use Rattle.std.proofs.lemmas.Bool.{ltb-true}
-use Rattle.book_ends.specs.declared.table.EndRow.{EndRow}
-use Rattle.book_ends.specs.Rows.{SamePeers, SameSends, SameTaken, SameTakes}
-use Rattle.book_laws.specs.Books.{StandsAs}
+use Rattle.book_parts.specs.declared.table.EndRow.{EndRow}
+use Rattle.book_parts.specs.Rows.{SamePeers, SameSends, SameTaken, SameTakes}
+use Rattle.frame_laws.specs.Books.{StandsAs}
 use Rattle.client.specs.Changing.{ClientFits, client_after}
 use Rattle.client.specs.Counted.{CanCount}
 use Rattle.client.specs.Prepared.{PreparedClient}

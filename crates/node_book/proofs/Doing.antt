@@ -1,11 +1,11 @@
 -- An event of a node that was prepared, sent and written down has joined its history.
 use Rattle.std.proofs.Common.{◌≡◌, ℕ, ◌+◌, ◌<◌, Bool, true, false, List, [], ◌∷◌, ◌++◌, max, refl, sym, ap, subst, ◌∙◌, arith}
 use Rattle.std.specs.Prelude.{Option, Some, None}
-use Rattle.book_ends.specs.declared.table.EndRow.{EndRow}
-use Rattle.book_ends.specs.Rows.{SamePeers, SameTaken, SameTakes, has_peer, sent_to, shown_from, taken_from}
-use Rattle.book_ends.specs.Sending.{packets_to}
-use Rattle.book_laws.proofs.OneMore.{grows, sends}
-use Rattle.book_laws.specs.Books.{AllToPeers, AreSentAs, IsBookOf, IsNext, StandsAs}
+use Rattle.book_parts.specs.declared.table.EndRow.{EndRow}
+use Rattle.book_parts.specs.Rows.{SamePeers, SameTaken, SameTakes, has_peer, sent_to, shown_from, taken_from}
+use Rattle.book_parts.specs.Sending.{packets_to}
+use Rattle.frame_laws.proofs.OneMore.{grows, sends}
+use Rattle.frame_laws.specs.Books.{AllToPeers, AreSentAs, IsBookOf, IsNext, StandsAs}
 use Rattle.broker_plans.specs.Prepared.{ArePackets}
 use Rattle.geo_base.specs.declared.event.Event.{Event}
 use Rattle.geo_base.specs.declared.event.Event.TheVariants as event

@@ -3,11 +3,11 @@ use Rattle.std.proofs.Common.{◌≡◌, ℕ, List, [], ◌++◌, Bool, true, fa
 use Rattle.std.specs.Prelude.{Option, Some, if◌then◌else◌}
 use Rattle.std.specs.Option.{option_to_list}
 use Rattle.std.proofs.lemmas.List.{append-nil}
-use Rattle.book_ends.specs.declared.sending.Addressed.{Addressed}
-use Rattle.book_ends.specs.declared.table.EndRow.{EndRow}
-use Rattle.book_ends.specs.Peers.{same_peer}
-use Rattle.book_ends.specs.Rows.{SameSends, TookFrom, taken_from}
-use Rattle.book_ends.specs.Sending.{HasRoom}
+use Rattle.book_parts.specs.declared.sending.Addressed.{Addressed}
+use Rattle.book_parts.specs.declared.table.EndRow.{EndRow}
+use Rattle.book_parts.specs.Peers.{same_peer}
+use Rattle.book_parts.specs.Rows.{SameSends, TookFrom, taken_from}
+use Rattle.book_parts.specs.Sending.{HasRoom}
 use Rattle.geo_base.specs.declared.packet.Peer.{Peer}
 use Rattle.node_book.specs.Acts.{packet_from}
 use Rattle.wire_ends.specs.declared.packet.WirePacket.{WirePacket}

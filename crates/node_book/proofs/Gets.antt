@@ -1,9 +1,9 @@
 -- A client takes what an end shows.
 use Rattle.std.proofs.Common.{◌≡◌, ℕ, ◌<◌, ◌≤◌, ◌^◌, false, List, [], max, refl, sym, ap, subst, ◌∙◌}
 use Rattle.std.specs.Prelude.{Option, Some, None, Result, Ok, Err, IfNone, IfOk, IfSome, OnErr}
-use Rattle.book_ends.specs.declared.table.EndRow.{EndRow}
-use Rattle.book_ends.specs.Rows.{place_from}
-use Rattle.book_ends.proofs.Tables.{row_none}
+use Rattle.book_parts.specs.declared.table.EndRow.{EndRow}
+use Rattle.book_parts.specs.Rows.{place_from}
+use Rattle.book_parts.proofs.Tables.{row_none}
 use Rattle.broker_plans.specs.Prepared.{ArePackets}
 use Rattle.client.specs.Packets.{IsSaid, StandsForNext}
 use Rattle.client.specs.Site.{Site, known_setup}

@@ -3,10 +3,10 @@ use Rattle.std.proofs.Common.{◌≡◌, ℕ, List, [], ◌∷◌, Bool, true, f
 use Rattle.std.specs.Borrow.{Bor}
 use Rattle.std.specs.Option.{option_copied}
 use Rattle.std.specs.Prelude.{Option, Some, None, Result, Ok, Err, OnOk, if◌then◌else◌}
-use Rattle.book_ends.specs.declared.table.EndRow.{EndRow}
-use Rattle.book_ends.specs.Peers.{same_peer}
-use Rattle.book_ends.specs.Rows.{has_peer, shown_from}
-use Rattle.book_laws.specs.Books.{StandsAs}
+use Rattle.book_parts.specs.declared.table.EndRow.{EndRow}
+use Rattle.book_parts.specs.Peers.{same_peer}
+use Rattle.book_parts.specs.Rows.{has_peer, shown_from}
+use Rattle.frame_laws.specs.Books.{StandsAs}
 use Rattle.broker.specs.Events.{plan_at_node}
 use Rattle.broker.specs.Input.{IsSaid, StandsForInput}
 use Rattle.broker.specs.Node.{BrokerBook}

@@ -3,8 +3,8 @@ use Rattle.std.proofs.Common.{◌≡◌, ℕ, ◌+◌, ◌-◌, ◌<◌, Bool, t
 use Rattle.std.specs.Prelude.{None}
 use Rattle.std.proofs.lemmas.Bool.{lt-ltb, ltb-true}
 use Rattle.std.proofs.lemmas.List.{length-replicate}
-use Rattle.book_ends.specs.declared.table.EndRow.{EndRow}
-use Rattle.book_laws.specs.Books.{IsBookOf}
+use Rattle.book_parts.specs.declared.table.EndRow.{EndRow}
+use Rattle.frame_laws.specs.Books.{IsBookOf}
 use Rattle.broker.specs.Events.{IsNodeOf}
 use Rattle.broker.specs.Node.{BrokerBook}
 use Rattle.geo_base.specs.Broker.{Broker, Site, new_broker}
@@ -14,7 +14,7 @@ use Rattle.geo_base.specs.Nodes.{BrokerNode, ClientNode, broker_count, is_node, 
 use Rattle.geo_base.specs.Scripted.{IsScripted}
 use Rattle.geo_base.specs.Setup.{Setup, declared_at}
 use Rattle.geo_base.specs.World.{node}
-use Rattle.book_ends.specs.Rows.{SamePeers}
+use Rattle.book_parts.specs.Rows.{SamePeers}
 use Rattle.node_book.specs.declared.state.NodeState.{NodeState as Kept}
 use Rattle.node_book.specs.declared.state.NodeState.TheVariants as kept
 use Rattle.node_book.specs.Books.{BookHolds, HasPeers}

@@ -1,9 +1,9 @@
 -- What became of an event.
 use Rattle.std.proofs.Common.{◌≡◌, ℕ, ◌+◌, ◌≤◌, ◌^◌, Bool, true, false, List, max, refl, sym, subst, ◌∙◌, ◌↔◌}
 use Rattle.std.specs.Prelude.{Option, Some, None, Result, Ok, Err, IfOk, IsFalse, IsTrue, OnErr}
-use Rattle.book_ends.specs.declared.table.EndRow.{EndRow}
-use Rattle.book_ends.specs.Rows.{LooksRise, SameTakes}
-use Rattle.book_laws.specs.Books.{AreSentAs, StandsAs}
+use Rattle.book_parts.specs.declared.table.EndRow.{EndRow}
+use Rattle.book_parts.specs.Rows.{LooksRise, SameTakes}
+use Rattle.frame_laws.specs.Books.{AreSentAs, StandsAs}
 use Rattle.geo_base.specs.declared.event.Event.{Event}
 use Rattle.geo_base.specs.declared.memory.Memory.{Memory}
 use Rattle.geo_base.specs.declared.packet.Packet.{Packet}

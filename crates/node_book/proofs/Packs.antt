@@ -3,11 +3,11 @@ use Rattle.std.proofs.Common.{◌≡◌, ◌+◌, ◌<◌, ◌^◌, ℕ, Bool, L
 use Rattle.std.specs.Prelude.{if◌then◌else◌, Option, Some, None, Result, Ok, Err, IfNone, IfOk, IfSome, OnOk}
 use Rattle.std.specs.Option.{option_to_list}
 use Rattle.std.proofs.lemmas.List.{append_assoc}
-use Rattle.book_ends.specs.declared.sending.Addressed.{Addressed}
-use Rattle.book_ends.specs.declared.table.EndRow.{EndRow}
-use Rattle.book_ends.specs.Peers.{same_peer}
-use Rattle.book_ends.specs.Rows.{LooksRise, SamePeers, has_peer}
-use Rattle.book_ends.specs.Sending.{AreAddressed, ArePeers, LacksRoom, packets_to}
+use Rattle.book_parts.specs.declared.sending.Addressed.{Addressed}
+use Rattle.book_parts.specs.declared.table.EndRow.{EndRow}
+use Rattle.book_parts.specs.Peers.{same_peer}
+use Rattle.book_parts.specs.Rows.{LooksRise, SamePeers, has_peer}
+use Rattle.book_parts.specs.Sending.{AreAddressed, ArePeers, LacksRoom, packets_to}
 use Rattle.geo_base.specs.declared.memory.Memory.{Memory}
 use Rattle.geo_base.specs.declared.packet.Peer.{Peer}
 use Rattle.geo_base.specs.declared.packet.WireOut.{WireOut}

@@ -1,8 +1,8 @@
 -- The last step of an event, and what became of it.
 use Rattle.std.specs.Prelude.{◌≡◌, ℕ, Bool, true, false, List, [], ◌∷◌, ◌++◌, Option}
-use Rattle.book_ends.specs.declared.table.EndRow.{EndRow}
-use Rattle.book_ends.specs.Rows.{sent_to, taken_from}
-use Rattle.book_ends.specs.Sending.{packets_to}
+use Rattle.book_parts.specs.declared.table.EndRow.{EndRow}
+use Rattle.book_parts.specs.Rows.{sent_to, taken_from}
+use Rattle.book_parts.specs.Sending.{packets_to}
 use Rattle.geo_base.specs.declared.event.Event.{Event}
 use Rattle.geo_base.specs.declared.packet.Peer.{Peer}
 use Rattle.node_book.specs.declared.packing.Packed.{Packed}

@@ -1,12 +1,12 @@
 -- What an event does to a book: it joins the history, or nothing is done.
 use Rattle.std.specs.Prelude.{◌≡◌, ℕ, ◌≤◌, ◌^◌, true, false, max, if◌then◌else◌, List, [], ◌∷◌, ◌++◌, Option, Some, None, ⊤}
 use Rattle.std.specs.Option.{option_to_list}
-use Rattle.book_ends.specs.declared.sending.Addressed.{Addressed}
-use Rattle.book_ends.specs.declared.table.EndRow.{EndRow}
-use Rattle.book_ends.specs.Peers.{same_peer}
-use Rattle.book_ends.specs.Rows.{has_peer, looks_from, sent_to, shown_from, taken_from}
-use Rattle.book_ends.specs.Sending.{LacksRoom, packets_to}
-use Rattle.book_laws.specs.Books.{AreSentAs, StandsAs}
+use Rattle.book_parts.specs.declared.sending.Addressed.{Addressed}
+use Rattle.book_parts.specs.declared.table.EndRow.{EndRow}
+use Rattle.book_parts.specs.Peers.{same_peer}
+use Rattle.book_parts.specs.Rows.{has_peer, looks_from, sent_to, shown_from, taken_from}
+use Rattle.book_parts.specs.Sending.{LacksRoom, packets_to}
+use Rattle.frame_laws.specs.Books.{AreSentAs, StandsAs}
 use Rattle.broker.specs.Events.{MarkerRises, SeekRises, SessionRises}
 use Rattle.client.specs.Counted.{CanConnect, CanCount}
 use Rattle.geo_base.specs.declared.event.Event.{Event}

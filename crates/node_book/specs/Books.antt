@@ -1,8 +1,8 @@
 -- The book of a node: what it keeps, and what its type knows of it.
 use Rattle.std.specs.Prelude.{◌≡◌, ℕ, true, List, [], length, ⊤}
-use Rattle.book_ends.specs.declared.table.EndRow.{EndRow}
-use Rattle.book_ends.specs.Rows.{has_peer}
-use Rattle.book_laws.specs.Books.{IsBookOf}
+use Rattle.book_parts.specs.declared.table.EndRow.{EndRow}
+use Rattle.book_parts.specs.Rows.{has_peer}
+use Rattle.frame_laws.specs.Books.{IsBookOf}
 use Rattle.broker.specs.Events.{IsNodeOf}
 use Rattle.geo_base.specs.declared.packet.Peer.{Peer}
 use Rattle.geo_base.specs.NodeState.{BrokerState, ClientState, NodeState}

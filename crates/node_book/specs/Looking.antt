@@ -1,6 +1,6 @@
 -- What an event will do with what came for it.
 use Rattle.std.specs.Prelude.{◌≡◌, ◌≤◌, ◌<◌, ◌^◌, ℕ, Bool, false, max, List, Option, None}
-use Rattle.book_laws.specs.Books.{StandsAs}
+use Rattle.frame_laws.specs.Books.{StandsAs}
 use Rattle.broker.specs.Events.{plan_at_node}
 use Rattle.broker.specs.Node.{BrokerBook}
 use Rattle.broker_plans.specs.Prepared.{ArePackets, IsPrepared}

@@ -1,10 +1,10 @@
 -- What an event sends, made ready.
 use Rattle.std.specs.Prelude.{◌≡◌, ◌+◌, ◌<◌, ◌≤◌, ◌^◌, ℕ, Bool, true, false, List, map}
 use Rattle.std.specs.List.{AllByRecursion}
-use Rattle.book_ends.specs.declared.sending.Addressed.{Addressed}
-use Rattle.book_ends.specs.declared.table.EndRow.{EndRow}
-use Rattle.book_ends.specs.Rows.{has_peer}
-use Rattle.book_ends.specs.Sending.{AreAddressed, HasRoom, LacksRoom}
+use Rattle.book_parts.specs.declared.sending.Addressed.{Addressed}
+use Rattle.book_parts.specs.declared.table.EndRow.{EndRow}
+use Rattle.book_parts.specs.Rows.{has_peer}
+use Rattle.book_parts.specs.Sending.{AreAddressed, HasRoom, LacksRoom}
 use Rattle.geo_base.specs.declared.packet.WireOut.{WireOut}
 use Rattle.node_book.specs.declared.packing.Packed.{Packed as ReadyPackets}
 use Rattle.wire_ends.specs.Parcels.{Packed}

@@ -1,7 +1,7 @@
 //! A node does an event.
 ghost use Rattle.std.specs.Prelude.{◌≡◌, ◌<◌, ◌++◌, IfOk, IsFalse, IsTrue, OnErr, vec_capacity, vec_len};
-ghost use Rattle.book_ends.specs.Rows.{SamePeers, SameSends, taken_from};
-ghost use Rattle.book_ends.specs.Sending.{AreAddressed, HasRoom};
+ghost use Rattle.book_parts.specs.Rows.{SamePeers, SameSends, taken_from};
+ghost use Rattle.book_parts.specs.Sending.{AreAddressed, HasRoom};
 ghost use Rattle.geo_base.specs.declared.packet.Peer.{Peer as AnyPeer};
 ghost use Rattle.node_book.specs.Acting.{Finished};
 ghost use Rattle.node_book.specs.Acts.{IsActed, IsHeld, SameBook, packet_from, shown_for};
@@ -12,9 +12,8 @@ use crate::client_acting::act_at_client;
 use crate::log::Log;
 use crate::packing::Packed;
 use crate::state::NodeState;
-use book_ends::EndTable;
+use book_parts::{Done, EndTable};
 use geo_base::{Event, Memory, Peer};
-use histories::Done;
 use std::alloc::Global;
 use wire_ends::{End, WirePacket};
 

@@ -1,16 +1,15 @@
 //! The book of a node.
 ghost use Rattle.std.specs.Prelude.{◌≡◌, ◌<◌, ◌+◌, length, true};
 ghost use Rattle.std.specs.Arc.{arc_value};
-ghost use Rattle.book_ends.specs.Rows.{has_peer};
+ghost use Rattle.book_parts.specs.Rows.{has_peer};
 ghost use Rattle.geo_base.specs.Nodes.{broker_count, is_node, is_peer, node_number};
 ghost use Rattle.geo_base.specs.World.{node};
 ghost use Rattle.node_book.specs.Books.{IsReplayed, IsStateOf, StateOf, node_in};
 
 use crate::log::Log;
 use crate::state::NodeState;
-use book_ends::EndTable;
+use book_parts::{Done, EndTable};
 use geo_base::{Peer, Stamp};
-use histories::Done;
 use script_text::Scenario;
 use std::alloc::Global;
 use std::marker::Model;

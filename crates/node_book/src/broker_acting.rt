@@ -13,7 +13,7 @@ use crate::log::Log;
 use crate::looking::look;
 use crate::owning::{is_brokers, taken_from};
 use crate::packing::make_ready;
-use book_ends::EndTable;
+use book_parts::EndTable;
 use broker::Broker;
 use broker_state::Plan;
 use geo_base::{Event, Memory};

@@ -15,7 +15,7 @@ use crate::log::Log;
 use crate::owning::{is_clients, is_get, is_go};
 use crate::packing::make_ready;
 use crate::state::NumberedClient;
-use book_ends::EndTable;
+use book_parts::EndTable;
 use client::{Client, Prepared};
 use geo_base::{Event, Memory};
 use node_starts::site_of;

@@ -1,6 +1,6 @@
 //! A client takes the next packet of its broker.
 ghost use Rattle.std.specs.Prelude.{◌≡◌, ◌<◌, ◌≤◌, IfNone, IfOk, IfSome, OnErr, Some, length};
-ghost use Rattle.book_ends.specs.Rows.{SamePeers, SameSends, SameTaken};
+ghost use Rattle.book_parts.specs.Rows.{SamePeers, SameSends, SameTaken};
 ghost use Rattle.client.specs.Counted.{CanCount};
 ghost use Rattle.geo_base.specs.Setup.{declared_at};
 ghost use Rattle.node_book.specs.Acting.{Outcome};
@@ -15,7 +15,7 @@ use crate::acting::finish;
 use crate::log::Log;
 use crate::packing::{Packed, STAMPS};
 use crate::state::NumberedClient;
-use book_ends::EndTable;
+use book_parts::EndTable;
 use client::{Client, ClientSite};
 use geo_base::{Event, Memory, Peer, Stamp};
 use node_starts::site_of;

@@ -1,6 +1,6 @@
 //! What a node did.
+use book_parts::Done;
 use geo_base::Stamp;
-use histories::Done;
 
 /// The events of a node in order, and the stamp of the last one, 0 before any.
 #[derive(Drop)]

@@ -1,6 +1,6 @@
 //! What came for an event of a broker, and what it will do.
 ghost use Rattle.std.specs.Prelude.{◌≡◌, ◌≤◌, IfOk, None, OnOk, Some};
-ghost use Rattle.book_ends.specs.Rows.{LooksRise, SamePeers, SameSends, SameTaken};
+ghost use Rattle.book_parts.specs.Rows.{LooksRise, SamePeers, SameSends, SameTaken};
 ghost use Rattle.broker.specs.Events.{IsOfNode, NumbersRise};
 ghost use Rattle.broker.specs.Node.{IsReady, SameNode};
 ghost use Rattle.broker_state.specs.Plan.{IsEmptyPlan};
@@ -8,7 +8,7 @@ ghost use Rattle.node_book.specs.Acts.{LookedFor, shown_for};
 ghost use Rattle.node_book.specs.Looking.{IsLooked};
 ghost use Rattle.wire_ends.specs.Looks.{Looked};
 
-use book_ends::EndTable;
+use book_parts::EndTable;
 use broker::Broker;
 use broker_state::Plan;
 use geo_base::{Event, Memory, Peer};

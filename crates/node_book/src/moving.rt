@@ -1,7 +1,7 @@
 //! Packets moved by hand between books, for tests: over ends that are lists.
 ghost use Rattle.std.specs.Prelude.{◌≡◌, true, OnErr, OnOk, slice_get};
-ghost use Rattle.book_ends.specs.Hand.{Gave, Kept, Put, held_for};
-ghost use Rattle.book_ends.specs.Rows.{has_peer};
+ghost use Rattle.book_parts.specs.Hand.{Gave, Kept, Put, held_for};
+ghost use Rattle.book_parts.specs.Rows.{has_peer};
 ghost use Rattle.node_book.specs.Books.{SameButEnds};
 
 use crate::book::NodeBook;

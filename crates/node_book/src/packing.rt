@@ -1,14 +1,13 @@
 //! What an event sends, made ready: for the history, and for the ends.
 ghost use Rattle.std.specs.Prelude.{◌≡◌, ◌<◌, ◌++◌, ◌∷◌, [], true, false, max, IfNone, IfOk, IfSome, OnOk, vec_capacity, vec_len};
 ghost use Rattle.std.specs.Vec.Iter.{into_iter_items};
-ghost use Rattle.book_ends.specs.Rows.{LooksRise, SamePeers, SameSends, SameTakes, has_peer};
-ghost use Rattle.book_ends.specs.Sending.{AreAddressed};
+ghost use Rattle.book_parts.specs.Rows.{LooksRise, SamePeers, SameSends, SameTakes, has_peer};
+ghost use Rattle.book_parts.specs.Sending.{AreAddressed};
 ghost use Rattle.node_book.specs.Packing.{GoToPeers, IsPacked, LacksFor, MayJoin, MayNotJoin, all_sent_at, packed_all, sent_at};
 
 use crate::log::Log;
-use book_ends::{Addressed, EndTable};
+use book_parts::{Addressed, EndTable, Sent};
 use geo_base::{Memory, Stamp, WireOut};
-use histories::Sent;
 use std::alloc::Global;
 use std::vec::IntoIter;
 use wire_ends::{End, WirePacket};

@@ -13,7 +13,7 @@ ghost use Rattle.node_book.specs.Books.{HasPeers, opening_book};
 use crate::book::NodeBook;
 use crate::log::Log;
 use crate::state::{NodeState, NumberedClient};
-use book_ends::EndTable;
+use book_parts::EndTable;
 use broker::Broker;
 use client::Client;
 use geo_base::{Memory, Stamp};

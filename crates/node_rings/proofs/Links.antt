@@ -3,9 +3,9 @@ use Rattle.std.proofs.Common.{◌≡◌, ℕ, ◌+◌, ◌<◌, ◌≤◌, Bool,
 use Rattle.std.specs.Prelude.{if◌then◌else◌, not, ◌&&◌, ◌||◌, nat_lt}
 use Rattle.std.proofs.lemmas.Bool.{eq-eqb, lt-ltb}
 use Rattle.std.proofs.lemmas.Bool.Decides.{nat_tests}
-use Rattle.book_ends.specs.declared.table.EndRow.{EndRow}
-use Rattle.book_ends.specs.Peers.{same_peer}
-use Rattle.book_ends.specs.Rows.{has_peer}
+use Rattle.book_parts.specs.declared.table.EndRow.{EndRow}
+use Rattle.book_parts.specs.Peers.{same_peer}
+use Rattle.book_parts.specs.Rows.{has_peer}
 use Rattle.geo_base.specs.declared.packet.Peer.{Peer}
 use Rattle.geo_base.specs.declared.packet.Peer.TheVariants as peer
 use Rattle.geo_base.specs.Nodes.{BrokerNode, ClientNode, is_peer}

@@ -3,12 +3,10 @@ ghost use Rattle.std.specs.Prelude.{◌≡◌, ◌<◌, ◌+◌, [], length, IfO
 ghost use Rattle.geo_base.specs.Nodes.{BrokerNode, ClientNode, node_count, node_number};
 ghost use Rattle.node_rings.specs.Linked.{GainsBroker, GainsPeer, HasBrokers, HasClients, HasPeers, HasSites};
 
-use book_ends::{EndRow, EndTable};
+use book_parts::{EndRow, EndTable};
 use geo_base::{Memory, Peer};
 use link_rings::{RING_PLACES, RingEnd, ring};
-use node_numbers::{
-    broker_number, client_count, client_number, cluster_count, node_count, topic_of,
-};
+use node_roles::{broker_number, client_count, client_number, cluster_count, node_count, topic_of};
 use script_text::Scenario;
 use std::alloc::Global;
 use std::marker::Model;

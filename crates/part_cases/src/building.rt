@@ -3,7 +3,7 @@ ghost use Rattle.std.specs.Prelude.{◌<◌, ◌≤◌};
 
 use crate::telling::{add_number, add_word};
 use geo_base::{Cut, Memory, Position, Progress};
-use snapshot_builder::*;
+use snapshots::*;
 use std::alloc::Global;
 
 /// A response: its id, the cluster that answers, the entry of the position that it names, the entry of its own position here,

@@ -1,14 +1,14 @@
 //! Compacted views.
-ghost use Rattle.compaction.specs.Last.{IsCompacted};
+ghost use Rattle.topic_upkeep.specs.Last.{IsCompacted};
 
 use crate::stored_entries::{message, update};
-use compaction::*;
 use geo_base::{Content, Entry, EntryStore, Memory};
 use rand_core::utils::NextWord;
 use rand_pcg::Pcg32;
 use std::alloc::Global;
 use std::test::Fail;
-use topic_ledger::TopicLedger;
+use topic_store::TopicLedger;
+use topic_upkeep::*;
 
 /// Whether an entry stays in a view by its definition: this searches the topic behind it.
 fn stays(topic: &TopicLedger, horizon: usize, index: usize) -> bool {

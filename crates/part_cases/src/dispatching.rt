@@ -5,7 +5,7 @@ use cursor_acks::Cursor;
 use dispatcher::*;
 use geo_base::{AckKind, Content, Entry, EntryStore, Memory, SubKind, Targets};
 use std::alloc::Global;
-use topic_ledger::ListStore;
+use topic_store::ListStore;
 
 /// A call of a dispatcher, and what it is to answer.
 enum Call {

@@ -1,11 +1,10 @@
 //! The table of duplicates.
 use crate::entries::{entry, ident};
-use dedup_table::*;
 use geo_base::{Content, EntryStore, Memory, ProducerName, Targets};
 use rand_core::utils::NextWord;
 use rand_pcg::Pcg32;
 use std::alloc::Global;
-use topic_ledger::TopicLedger;
+use topic_store::{TopicLedger, *};
 
 fn stream(alloc: Global, origin: u32, producer: &str) -> Result<Stream, Memory> {
     Ok(Stream {

@@ -6,7 +6,7 @@ use dispatcher::{Dispatcher, Offer};
 use geo_base::{Blob, Content, Entry, EntryStore, Memory, Metadata, SubKind, Targets, Text};
 use key_shared::*;
 use std::alloc::Global;
-use topic_ledger::ListStore;
+use topic_store::ListStore;
 
 /// Clients in the order in which their consumers attach, with their permits; the keys of a topic's messages; and which client is
 /// given each message in turn, with the number of its key.

@@ -7,7 +7,7 @@ use geo_base::{Content, EntryStore, Memory, Position, Targets};
 use rand_core::utils::NextWord;
 use rand_pcg::Pcg32;
 use std::alloc::Global;
-use topic_ledger::*;
+use topic_store::*;
 
 /// What is done to a store.
 #[derive(Clone, Copy)]

@@ -1,5 +1,5 @@
 //! Tests of the parts of a broker, and of what is kept: compacted views of a topic, and ledgers in another store. They stand in a crate of
-//! their own, since a crate with tests is proved a second time with them, and in one, since each such crate costs the gate most of a minute
+//! their own, since a crate with tests is proved a second time with them, and in one, since each such crate costs the gate a minute and more
 //! whatever it holds.
 #![tactic(auto)]
 

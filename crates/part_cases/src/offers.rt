@@ -2,8 +2,8 @@
 ghost use Rattle.std.specs.Prelude.{◌≡◌, [], IfOk};
 ghost use Rattle.broker_plans.specs.Prepared.{CanWrite};
 
-use broker_offers::*;
 use broker_state::{BrokerState, Plan, Site};
+use broker_tasks::*;
 use geo_base::{ClusterName, TopicName};
 use std::alloc::Global;
 use std::test::Fail;

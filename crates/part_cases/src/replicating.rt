@@ -11,7 +11,7 @@ use rand_core::utils::NextWord;
 use rand_pcg::Pcg32;
 use replicator::*;
 use std::alloc::Global;
-use topic_ledger::ListStore;
+use topic_store::ListStore;
 
 /// The sending cluster, and the one to which it sends.
 const OWN: u32 = 0;

@@ -2,11 +2,11 @@
 use crate::entries::{entry, ident, sub_name};
 use crate::telling::{add_number, add_pair, add_ranges, add_word};
 use cursor_acks::Cursor;
-use dedup_table::{Stream, Verdict};
 use durable_parts::*;
 use geo_base::{Content, EntryStore, Memory, SubKind, Targets};
 use std::alloc::Global;
 use std::mem::replace;
+use topic_store::{Stream, Verdict};
 
 /// A write, with what it carries told in short: an entry by origin, producer and sequence id, a cursor by its indexes.
 enum Told {

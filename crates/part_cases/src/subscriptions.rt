@@ -6,7 +6,7 @@ use crate::entries::{entry, ident, sub_name};
 use broker_subs::*;
 use geo_base::{Consumer, Content, Entry, EntryStore, Memory, SubKind, Targets};
 use std::alloc::Global;
-use topic_ledger::ListStore;
+use topic_store::ListStore;
 
 fn message(alloc: Global, seq: u64) -> Result<Entry, Memory> {
     let ident = ident(alloc, 0, "p", seq)?;

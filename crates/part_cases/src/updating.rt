@@ -8,7 +8,7 @@ use geo_base::{
 };
 use std::alloc::Global;
 use sub_update::*;
-use topic_ledger::ListStore;
+use topic_store::ListStore;
 
 /// What stands in a topic: a message of a cluster for all or for some clusters, or a marker that has no reading.
 enum Stored {

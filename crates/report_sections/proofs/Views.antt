@@ -4,7 +4,7 @@ use Rattle.std.specs.Prelude.{Option, Some, None, min, slice_get}
 use Rattle.std.proofs.Math.ListN.{drop_of_length-le}
 use Rattle.std.proofs.lemmas.List.{append-nil}
 use Rattle.std.proofs.lemmas.Option.{slice_get_within}
-use Rattle.compaction.specs.View.{IsLeast, is_entry_shown, is_shown}
+use Rattle.topic_upkeep.specs.View.{IsLeast, is_entry_shown, is_shown}
 use Rattle.geo_base.specs.declared.entry.Entry.{Entry}
 use Rattle.geo_base.specs.Report.{entry_line, with_line_feeds}
 use Rattle.geo_base.specs.Topic.{position_at}

@@ -8,9 +8,9 @@ ghost use Rattle.std.specs.List.{sum};
 ghost use Rattle.geo_base.specs.declared.entry.Entry.{Entry};
 ghost use Rattle.geo_base.specs.Report.{entry_line, entry_lines, with_line_feeds};
 ghost use Rattle.geo_base.specs.Topic.{position_at};
-ghost use Rattle.ledger_texts.specs.Readable.{AreTellable};
+ghost use Rattle.tiered_ledger.specs.Readable.{AreTellable};
 ghost use Rattle.report_sections.specs.Tiers.{moved_ledgers, moved_line};
-ghost use Rattle.tier_store.specs.Kept.{kept_in};
+ghost use Rattle.topic_upkeep.specs.Kept.{kept_in};
 ghost use Rattle.tiered_ledger.specs.Calls.{offloaded};
 ghost use Rattle.tiered_ledger.specs.Tiered.{Holds};
 ghost use Rattle.tiered_ledger.specs.declared.part.Part.TheVariants as part;
@@ -19,8 +19,8 @@ use geo_base::limits::CLUSTERS;
 use geo_base::{Blob, ClusterName, EntryStore, Memory};
 use report_lines::add_entry_line;
 use std::alloc::Global;
-use tier_store::{MemTier, Tier};
 use tiered_ledger::{OffloadFault, TieredLedger};
+use topic_upkeep::{MemTier, Tier};
 
 /// A topic at a cluster, of which closed ledgers may stand in a tier in memory of its own.
 pub type TieredTopic = TieredLedger<MemTier>;

@@ -4,15 +4,15 @@
 //! A view is what a reader gets of a compacted topic: of each key the last message (Pulsar manual, topic compaction).
 
 ghost use Rattle.std.specs.Prelude.{◌≡◌, ◌<◌, ◌≤◌, ◌^◌, ◌++◌, ◌∷◌, [], length, string_bytes, IfOk, OnOk, OnErr, take};
-ghost use Rattle.compaction.specs.Last.{IsCompacted};
+ghost use Rattle.topic_upkeep.specs.Last.{IsCompacted};
 ghost use Rattle.geo_base.specs.Report.{with_line_feeds};
 ghost use Rattle.report_sections.specs.Views.{horizon_line, shown_lines, view_messages};
 
-use compaction::{CompactFault, Compacted};
 use geo_base::limits::CLUSTERS;
 use geo_base::{Blob, ClusterName, EntryStore, Memory};
 use report_lines::add_entry;
 use std::alloc::Global;
+use topic_upkeep::{CompactFault, Compacted};
 
 /// A topic at a cluster, each by its name, and the horizon: the index below which its entries are compacted. An `Err` is want of memory.
 pub fn horizon_line(

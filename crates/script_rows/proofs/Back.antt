@@ -12,10 +12,10 @@ use Rattle.std.proofs.lemmas.Option.{slice_get-get_or}
 use Rattle.std.proofs.lemmas.Slice.Eq.{bytes_eq-Decides}
 use Rattle.geo_base.specs.declared.position.Position.{Position}
 use Rattle.geo_base.specs.Name.{is_name, name_byte}
-use Rattle.script_names.specs.Names.{is_among, name_at, number_in}
-use Rattle.script_names.specs.Numbers.{is_digit, number_of}
-use Rattle.script_names.specs.Words.{Word, has_name_bytes, is_long}
-use Rattle.script_names.proofs.Digits.{decimal_digits, number_back}
+use Rattle.script_rows.specs.NameBytes.{is_among, name_at, number_in}
+use Rattle.script_rows.specs.Numbers.{is_digit, number_of}
+use Rattle.script_rows.specs.NameWords.{Word, has_name_bytes, is_long}
+use Rattle.script_rows.proofs.Digits.{decimal_digits, number_back}
 use Rattle.script_rows.specs.declared.column.Column.{Column}
 use Rattle.script_rows.specs.declared.column.Column.TheVariants as column
 use Rattle.script_rows.specs.declared.column.Menu.{Menu}

@@ -3,8 +3,8 @@ use Rattle.std.proofs.Common.{◌≡◌, ℕ, ◌≤◌, nat_le, Bool, true, fal
 use Rattle.std.specs.List.{list_all}
 use Rattle.std.proofs.lemmas.Bool.{and_parts, leb-true}
 use Rattle.std.proofs.lemmas.Option.{cond_some, none-some}
-use Rattle.script_names.specs.Numbers.{has_number_form, is_digit, number_from, number_of, value_from}
-use Rattle.script_names.specs.Words.{Word}
+use Rattle.script_rows.specs.Numbers.{has_number_form, is_digit, number_from, number_of, value_from}
+use Rattle.script_rows.specs.NameWords.{Word}
 use Rattle.script_rows.specs.Words.{◌>>=◌}
 
 pub some_part : {A B : Type 0} (o : Option A) (f : A → Option B) (y : B) → (o >>= f) ≡ Some y → (x : A) × (o ≡ Some x) × (f x ≡ Some y)

@@ -10,10 +10,10 @@ use Rattle.std.proofs.lemmas.Option.{cond_some, none-some, same_Some}
 use Rattle.std.proofs.lemmas.Slice.Eq.{bytes_eq-Decides}
 use Rattle.geo_base.specs.declared.position.Position.{Position}
 use Rattle.geo_base.specs.Name.{is_name, name_byte}
-use Rattle.script_names.specs.Names.{is_among, name_at, number_in}
-use Rattle.script_names.specs.Numbers.{number_of}
-use Rattle.script_names.specs.Words.{Word, cut_by, given, has_name_bytes, is_long}
-use Rattle.script_names.proofs.Digits.{number_back}
+use Rattle.script_rows.specs.NameBytes.{is_among, name_at, number_in}
+use Rattle.script_rows.specs.Numbers.{number_of}
+use Rattle.script_rows.specs.NameWords.{Word, cut_by, given, has_name_bytes, is_long}
+use Rattle.script_rows.proofs.Digits.{number_back}
 use Rattle.script_rows.specs.declared.column.Column.{Column}
 use Rattle.script_rows.specs.declared.column.Column.TheVariants as column
 use Rattle.script_rows.specs.declared.column.Menu.{Menu}

@@ -5,7 +5,7 @@ use Rattle.std.specs.Prelude.{⊤}
 use Rattle.std.proofs.lemmas.Bool.{and_parts}
 use Rattle.std.proofs.lemmas.Option.{none-some, same_Some}
 use Rattle.std.proofs.lemmas.Slice.Eq.{bytes_eq-Decides}
-use Rattle.script_names.specs.Words.{Word}
+use Rattle.script_rows.specs.NameWords.{Word}
 use Rattle.script_rows.specs.declared.act_kind.ActKind.{ActKind}
 use Rattle.script_rows.specs.declared.event_kind.EventKind.{EventKind}
 use Rattle.script_rows.specs.declared.event_kind.EventKind.TheVariants as kind

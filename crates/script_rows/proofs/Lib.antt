@@ -1,3 +1,10 @@
+pub mod Ascii
+pub mod Cuts
+pub mod Digits
+pub mod Lists
+pub mod Masks
+pub mod FoundNames
+pub mod Numbers
 pub mod Back
 pub mod Choices
 pub mod Chosen
@@ -6,7 +13,7 @@ pub mod Gathered
 pub mod Heads
 pub mod Lines
 pub mod Lowers
-pub mod Parts
+pub mod WordParts
 pub mod Places
 pub mod Plain
 pub mod Ranges

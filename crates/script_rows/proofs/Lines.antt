@@ -9,7 +9,7 @@ use Rattle.geo_base.specs.declared.event.Fate.{Fate}
 use Rattle.geo_base.specs.declared.event.Fate.TheVariants as fate
 use Rattle.geo_base.specs.declared.event.Step.{Step}
 use Rattle.geo_base.specs.declared.event.Step.TheVariants as step
-use Rattle.script_names.specs.Words.{Word}
+use Rattle.script_rows.specs.NameWords.{Word}
 use Rattle.script_rows.specs.declared.column.Column.{Column}
 use Rattle.script_rows.specs.declared.event_kind.EventKind.{EventKind}
 use Rattle.script_rows.specs.declared.fault.Rule.{Rule}

@@ -11,10 +11,10 @@ use Rattle.geo_base.specs.declared.event.Step.{Step}
 use Rattle.geo_base.specs.declared.event.Step.TheVariants as step
 use Rattle.geo_base.specs.declared.position.Position.{Position}
 use Rattle.geo_base.specs.Name.{is_name, name_byte}
-use Rattle.script_names.specs.Names.{name_at}
-use Rattle.script_names.specs.Numbers.{is_digit}
-use Rattle.script_names.specs.Words.{Word}
-use Rattle.script_names.proofs.Digits.{decimal_digits}
+use Rattle.script_rows.specs.NameBytes.{name_at}
+use Rattle.script_rows.specs.Numbers.{is_digit}
+use Rattle.script_rows.specs.NameWords.{Word}
+use Rattle.script_rows.proofs.Digits.{decimal_digits}
 use Rattle.script_rows.specs.declared.column.Column.{Column}
 use Rattle.script_rows.specs.declared.column.Column.TheVariants as column
 use Rattle.script_rows.specs.declared.column.Menu.{Menu}

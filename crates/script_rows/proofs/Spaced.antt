@@ -4,7 +4,7 @@ use Rattle.std.specs.Fmt.{decimal}
 use Rattle.std.specs.List.{join_with_byte}
 use Rattle.std.proofs.lemmas.List.{append_assoc, append-nil, drop_all}
 use Rattle.geo_base.specs.declared.event.Event.{Event}
-use Rattle.script_names.specs.Words.{Word}
+use Rattle.script_rows.specs.NameWords.{Word}
 use Rattle.script_rows.specs.declared.column.Column.{Column}
 use Rattle.script_rows.specs.declared.value.Value.{Value}
 use Rattle.script_rows.specs.Names.{Names, Seen}

@@ -2,8 +2,8 @@
 use Rattle.std.proofs.Common.{◌≡◌, ℕ, false, cond, List, [], length, Option, None, Some, ap, ◌∙◌, refl, sym}
 use Rattle.std.specs.Prelude.{slice_get, unwrap_or}
 use Rattle.std.proofs.lemmas.Option.{unwrap_or-slice_get}
-use Rattle.script_names.specs.Names.{is_among, name_at, number_in}
-use Rattle.script_names.specs.Words.{Word}
+use Rattle.script_rows.specs.NameBytes.{is_among, name_at, number_in}
+use Rattle.script_rows.specs.NameWords.{Word}
 use Rattle.script_rows.specs.Names.{Names, subs_of}
 
 none_there : (n : Names) (t : ℕ) → slice_get n.subs t ≡ None → subs_of n t ≡ []

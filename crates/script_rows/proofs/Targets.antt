@@ -8,9 +8,9 @@ use Rattle.std.proofs.lemmas.Option.{cond_some, same_Some}
 use Rattle.std.proofs.lemmas.Slice.Eq.{bytes_eq-Decides}
 use Rattle.geo_base.specs.declared.entry.Targets.{Targets}
 use Rattle.geo_base.specs.declared.entry.Targets.TheVariants as targets
-use Rattle.script_names.specs.Names.{bit, has_stranger, is_among, mask_of}
-use Rattle.script_names.specs.Words.{Word, given, has_name_bytes, listed}
-use Rattle.script_names.proofs.Masks.{mask-lt}
+use Rattle.script_rows.specs.NameBytes.{bit, has_stranger, is_among, mask_of}
+use Rattle.script_rows.specs.NameWords.{Word, given, has_name_bytes, listed}
+use Rattle.script_rows.proofs.Masks.{mask-lt}
 use Rattle.script_rows.specs.declared.value.Value.TheVariants as value
 use Rattle.script_rows.specs.Columns.{target_names, targets_of}
 use Rattle.script_rows.specs.Written.{IsTargetsValue}

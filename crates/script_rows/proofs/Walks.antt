@@ -1,7 +1,7 @@
 -- A walk over the words of a line, word by word.
 use Rattle.std.proofs.Common.{◌≡◌, nat_le, Bool, true, false, cond, List, ◌∷◌, find, Option, Some, None, Ok, Err, is_none, refl, sym, ap, ◌∙◌}
 use Rattle.std.proofs.lemmas.Bool.{both_ways}
-use Rattle.script_names.specs.Words.{Word}
+use Rattle.script_rows.specs.NameWords.{Word}
 use Rattle.script_rows.specs.declared.column.Column.{Column}
 use Rattle.script_rows.specs.declared.fault.Rule.{Rule}
 use Rattle.script_rows.specs.declared.value.Value.{Value}

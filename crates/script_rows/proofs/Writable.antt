@@ -7,8 +7,8 @@ use Rattle.geo_base.specs.declared.event.Event.{Event}
 use Rattle.geo_base.specs.declared.event.Event.TheVariants as event
 use Rattle.geo_base.specs.declared.event.Fate.{Fate}
 use Rattle.geo_base.specs.declared.event.Fate.TheVariants as fate
-use Rattle.script_names.specs.Names.{name_at, number_in}
-use Rattle.script_names.specs.Words.{Word}
+use Rattle.script_rows.specs.NameBytes.{name_at, number_in}
+use Rattle.script_rows.specs.NameWords.{Word}
 use Rattle.script_rows.specs.declared.column.Column.{Column}
 use Rattle.script_rows.specs.declared.column.Column.TheVariants as column
 use Rattle.script_rows.specs.declared.column.Menu.TheVariants as menu

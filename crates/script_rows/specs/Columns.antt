@@ -5,9 +5,9 @@ use Rattle.std.specs.Str.{bytes_eq}
 use Rattle.geo_base.specs.declared.entry.Targets.{Targets}
 use Rattle.geo_base.specs.declared.entry.Targets.TheVariants as targets
 use Rattle.geo_base.specs.declared.position.Position.{Position}
-use Rattle.script_names.specs.Names.{has_long, has_repeat, has_stranger, is_among, mask_of, number_in}
-use Rattle.script_names.specs.Numbers.{number_of}
-use Rattle.script_names.specs.Words.{Word, cut_by, given, has_name_bytes, is_long, listed}
+use Rattle.script_rows.specs.NameBytes.{has_long, has_repeat, has_stranger, is_among, mask_of, number_in}
+use Rattle.script_rows.specs.Numbers.{number_of}
+use Rattle.script_rows.specs.NameWords.{Word, cut_by, given, has_name_bytes, is_long, listed}
 use Rattle.script_rows.specs.declared.column.Column.{Column}
 use Rattle.script_rows.specs.declared.column.Column.TheVariants as column
 use Rattle.script_rows.specs.declared.column.Menu.{Menu}

@@ -1,3 +1,6 @@
+pub mod NameWords
+pub mod NameBytes
+pub mod Numbers
 pub mod Words
 pub mod Names
 pub mod Reading

@@ -1,8 +1,8 @@
 -- What a line may name.
 use Rattle.std.specs.Prelude.{ℕ, ◌==◌, true, false, if◌then◌else◌, List, [], ◌∷◌, ◌++◌, length, filter, slice_index_or, slice_set}
 use Rattle.script_rows.specs.declared.names.Member.{Member}
-use Rattle.script_names.specs.Names.{is_among, number_in}
-use Rattle.script_names.specs.Words.{Word}
+use Rattle.script_rows.specs.NameBytes.{is_among, number_in}
+use Rattle.script_rows.specs.NameWords.{Word}
 use Rattle.script_rows.specs.declared.column.Role.{Role}
 use Rattle.script_rows.specs.declared.column.Role.TheVariants as role
 

@@ -1,7 +1,7 @@
 -- A line read in one walk: what each word says, or the lowest rule that one of them breaks.
 use Rattle.std.specs.Prelude.{nat_le, Bool, true, false, if◌then◌else◌, List, find, Option, Some, None, Result, Ok, Err}
 use Rattle.geo_base.specs.declared.event.Step.{Step}
-use Rattle.script_names.specs.Words.{Word}
+use Rattle.script_rows.specs.NameWords.{Word}
 use Rattle.script_rows.specs.declared.column.Column.{Column}
 use Rattle.script_rows.specs.declared.column.Column.TheVariants as column
 use Rattle.script_rows.specs.declared.fault.Rule.{Rule}

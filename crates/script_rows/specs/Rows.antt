@@ -35,7 +35,7 @@ use Rattle.script_rows.specs.declared.line_kind.LineKind.{LineKind}
 use Rattle.script_rows.specs.declared.line_kind.LineKind.TheVariants as line
 use Rattle.script_rows.specs.declared.progress.Stage.{Stage}
 use Rattle.script_rows.specs.declared.progress.Stage.TheVariants as stage
-use Rattle.script_names.specs.Words.{Word}
+use Rattle.script_rows.specs.NameWords.{Word}
 
 -- ---- events
 -- T X Y: a topic and the two ends of a link

@@ -15,7 +15,7 @@ use Rattle.geo_base.specs.declared.event.Step.TheVariants as step
 use Rattle.geo_base.specs.declared.frame.SubKind.{SubKind}
 use Rattle.geo_base.specs.declared.frame.SubKind.TheVariants as sub_kind
 use Rattle.geo_base.specs.declared.position.Position.{Position}
-use Rattle.script_names.specs.Words.{Word}
+use Rattle.script_rows.specs.NameWords.{Word}
 use Rattle.script_rows.specs.declared.act_kind.ActKind.{ActKind}
 use Rattle.script_rows.specs.declared.act_kind.ActKind.TheVariants as act
 use Rattle.script_rows.specs.declared.event_kind.EventKind.{EventKind}

@@ -1,7 +1,7 @@
 -- The words of a line.
 use Rattle.std.specs.Prelude.{ℕ, zero, suc, List, [], ◌∷◌, Option, Some, None, option_and_then}
 use Rattle.std.specs.List.{join_with_byte}
-use Rattle.script_names.specs.Words.{Word, cut_by}
+use Rattle.script_rows.specs.NameWords.{Word, cut_by}
 
 -- what comes of a part, where there is one
 infixl 10 ◌>>=◌

@@ -3,7 +3,7 @@ ghost use Rattle.std.specs.Prelude.{◌≡◌};
 ghost use Rattle.script_rows.specs.Rows.{act_built, act_columns, act_of_word, act_word, role_of};
 
 use crate::column::{Column, Menu, Role};
-use script_names::is_word;
+use crate::is_word;
 
 /// The kind of a client's line, by the words after `do C`.
 #[derive(Clone, Copy, Drop, PartialEq, Eq)]
@@ -71,7 +71,7 @@ const MOVE: &[Column] = &[Column::Cluster];
 
 impl ActKind {
     /// The kind of client line that a word stands for.
-    #[tactic(auto, using(crate::proofs::Parts::found_later))]
+    #[tactic(auto, using(crate::proofs::WordParts::found_later))]
     pub(crate) fn of(word: &[u8]) -> Option<ActKind>
         ensures { result ≡ act_of_word word.now }
     {

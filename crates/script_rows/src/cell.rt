@@ -1,8 +1,8 @@
 //! A word in its column: what it says there, or the lowest rule that it breaks.
 ghost use Rattle.std.specs.Prelude.{◌≡◌, ◌-◌, ◌^◌, false, nat_lt, not, true, if◌then◌else◌, is_none, length, option_map, None, Some};
-ghost use Rattle.script_names.specs.Names.{is_among, number_in};
-ghost use Rattle.script_names.specs.Numbers.{number_of};
-ghost use Rattle.script_names.specs.Words.{has_name_bytes, is_long};
+ghost use Rattle.script_rows.specs.NameBytes.{is_among, number_in};
+ghost use Rattle.script_rows.specs.Numbers.{number_of};
+ghost use Rattle.script_rows.specs.NameWords.{has_name_bytes, is_long};
 ghost use Rattle.script_rows.specs.Columns.{choice_of, counted, is_other_role, key_of, place_of};
 ghost use Rattle.script_rows.specs.Names.{nothing_seen};
 ghost use Rattle.script_rows.specs.Reading.{cell_read, is_named, said};
@@ -14,9 +14,9 @@ use crate::fault::Rule;
 use crate::names::{Member, Names};
 use crate::seen::{Seen, THOUSAND};
 use crate::value::{TextWord, Value};
+use crate::{NameTable, NameWord, has_name_bytes, mask_of, number_of};
 use geo_base::Targets;
 use geo_base::limits::{CLIENTS, CLUSTERS, NAME_BYTES, SUBSCRIPTIONS, TEXT_BYTES, TOPICS};
-use script_names::{NameTable, NameWord, has_name_bytes, mask_of, number_of};
 
 /// The greatest sequence id: it fits a signed number of 64 bits.
 const MOST_SEQ: u64 = 9_223_372_036_854_775_807;

@@ -1,14 +1,14 @@
 //! Words of a choice, and words with a form of their own.
 ghost use Rattle.std.specs.Prelude.{◌≡◌, ◌≤◌, if◌then◌else◌, Some, None, length, codes};
 ghost use Rattle.std.specs.Str.{bytes_eq};
-ghost use Rattle.script_names.specs.Words.{cut_by, listed};
+ghost use Rattle.script_rows.specs.NameWords.{cut_by, listed};
 ghost use Rattle.script_rows.specs.Columns.{choice_of, key_of, pair_of, place_of, targets_of};
 ghost use Rattle.script_rows.specs.Rows.{is_later};
 ghost use Rattle.script_rows.specs.declared.column.Menu.TheVariants as menu_word;
 
 use crate::column::Menu;
+use crate::{NameList, NameTable, NameWord, cut_at, is_word, mask_of, number_of};
 use geo_base::{Position, Targets};
-use script_names::{NameList, NameTable, NameWord, cut_at, is_word, mask_of, number_of};
 
 /// The number of a word among those of a choice.
 pub(crate) fn choice_of(menu: Menu, word: &[u8]) -> Option<u32>
@@ -96,7 +96,7 @@ pub(crate) fn place_of(word: &[u8]) -> Option<Option<Position>>
 }
 
 /// `L:E`
-#[tactic(auto, using(crate::proofs::Parts::no_pair, crate::proofs::Parts::has_parts))]
+#[tactic(auto, using(crate::proofs::WordParts::no_pair, crate::proofs::WordParts::has_parts))]
 fn pair_of(word: &[u8]) -> Option<Position>
     ensures { result ≡ pair_of (cut_by 58 word.now) }
 {

@@ -3,7 +3,7 @@ ghost use Rattle.std.specs.Prelude.{◌≡◌};
 ghost use Rattle.script_rows.specs.Rows.{event_built, event_columns, event_of_word, event_word, may_halt};
 
 use crate::column::{Column, Menu};
-use script_names::is_word;
+use crate::is_word;
 
 /// The kind of an event.
 #[derive(Clone, Copy, Drop, PartialEq, Eq)]
@@ -79,7 +79,7 @@ const SEEK: &[Column] = &[
 
 impl EventKind {
     /// The kind of event whose lines begin with a word.
-    #[tactic(auto, using(crate::proofs::Parts::found_later))]
+    #[tactic(auto, using(crate::proofs::WordParts::found_later))]
     pub(crate) fn of(word: &[u8]) -> Option<EventKind>
         ensures { result ≡ event_of_word word.now }
     {

@@ -7,10 +7,10 @@ ghost use Rattle.script_rows.specs.Words.{words_of};
 use crate::act_kind::ActKind;
 use crate::cells::Cells;
 use crate::event_kind::EventKind;
+use crate::is_word;
 use crate::kind::Kind;
 use crate::line_kind::LineKind;
 use crate::words::{LineWords, Words};
-use script_names::is_word;
 
 /// Whether `halt` is read.
 const IS_HALT_BUILT: bool = true;

@@ -1,4 +1,8 @@
-//! The rows of a script: which words a line of each kind has, what they say, and which rules they break.
+//! The rows of a script: which words a line of each kind has, what they say, and which rules they break; and the names, numbers and lists of
+//! names that stand in its words.
+//!
+//! A script's bytes are cut into lines, words and lists without a copy: what is here points into them. [`NameTable`]
+//! finds a declared name by a table, so that a line costs the same whichever of its kind it names.
 //!
 //! A row is a word, a list of columns, and one arm that makes its value. All that a reader judges is said of columns,
 //! so that a new event is a row and an arm: `specs/Rows.antt` has the table, `specs/Columns.antt` what a word says in a
@@ -12,6 +16,7 @@ mod cells;
 mod choice;
 mod column;
 mod columns;
+mod cut;
 mod event_kind;
 mod fault;
 mod heading;
@@ -19,10 +24,15 @@ mod judge;
 mod kind;
 mod law;
 mod line_kind;
+mod name_law;
+mod name_list;
+mod name_word;
 mod names;
+mod number;
 mod progress;
 mod row;
 mod seen;
+mod table;
 mod value;
 mod values;
 mod words;
@@ -31,14 +41,20 @@ mod write;
 pub use act_kind::ActKind;
 pub use cells::Cells;
 pub use column::{Column, Menu, Role};
+pub use cut::{Parts, cut_at, is_word};
 pub use event_kind::EventKind;
 pub use fault::{LineFault, Rule};
 pub use heading::{Heading, heading_of};
 pub use kind::Kind;
 pub use law::{steps_are_known, steps_read_back};
 pub use line_kind::LineKind;
+pub use name_law::{lists_read_back, numbers_read_back};
+pub use name_list::{NameList, list_word, mask_of};
+pub use name_word::{NameWord, has_name_bytes};
 pub use names::{Member, Names};
+pub use number::{number_of, number_word};
 pub use progress::{Progress, Stage};
 pub use row::Row;
+pub use table::NameTable;
 pub use value::{TextWord, Value};
 pub use values::{item_at, line_of, name_at, rest, step_of};

@@ -3,7 +3,7 @@ ghost use Rattle.std.specs.Prelude.{◌≡◌};
 ghost use Rattle.script_rows.specs.Rows.{line_built, line_columns, line_of_word, line_word};
 
 use crate::column::{Column, Menu};
-use script_names::is_word;
+use crate::is_word;
 
 /// The kind of a line that neither is a client's nor schedules an event.
 #[derive(Clone, Copy, Drop, PartialEq, Eq)]
@@ -67,7 +67,7 @@ const CLIENT: &[Column] = &[Column::NewClient, Column::Home, Column::Cluster];
 
 impl LineKind {
     /// The kind of line that begins with a word.
-    #[tactic(auto, using(crate::proofs::Parts::found_later))]
+    #[tactic(auto, using(crate::proofs::WordParts::found_later))]
     pub(crate) fn of(word: &[u8]) -> Option<LineKind>
         ensures { result ≡ line_of_word word.now }
     {

@@ -1,12 +1,12 @@
 //! What a line may name.
 ghost use Rattle.std.specs.Prelude.{◌≡◌, ◌+◌, ◌<◌, ◌≤◌, ◌^◌, [], false, if◌then◌else◌, length, slice_get, None, Some, OnErr, OnOk};
 ghost use Rattle.std.specs.Option.{option_copied};
-ghost use Rattle.script_names.specs.Names.{is_among, name_at, number_in};
+ghost use Rattle.script_rows.specs.NameBytes.{is_among, name_at, number_in};
 ghost use Rattle.script_rows.specs.Names.{count_of, in_role, member_at, member_of, subs_of, with_client, with_cluster, with_role, with_sub, with_topic};
 
+use crate::NameTable;
 use crate::column::Role;
 use geo_base::Memory;
-use script_names::NameTable;
 use std::alloc::Global;
 use std::marker::Model;
 

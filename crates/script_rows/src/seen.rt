@@ -1,14 +1,14 @@
 //! What the words before in a line named.
 ghost use Rattle.std.specs.Prelude.{◌≡◌, ◌-◌, Some, unwrap_or};
-ghost use Rattle.script_names.specs.Numbers.{number_of};
+ghost use Rattle.script_rows.specs.Numbers.{number_of};
 ghost use Rattle.script_rows.specs.Columns.{seen_after, value_of};
 ghost use Rattle.script_rows.specs.Names.{nothing_seen};
 ghost use Rattle.script_rows.specs.declared.column.Column.TheVariants as kind;
 
 use crate::column::Column;
 use crate::names::Names;
+use crate::number_of;
 use crate::value::Value;
-use script_names::number_of;
 use std::marker::Model;
 
 /// The parts that chances are counted in.

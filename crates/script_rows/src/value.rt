@@ -1,8 +1,8 @@
 //! What words say in their columns.
 ghost use Rattle.std.specs.Prelude.{◌≡◌};
 
+use crate::NameWord;
 use geo_base::{Position, Targets};
-use script_names::NameWord;
 use std::marker::Model;
 
 /// A text of a line.

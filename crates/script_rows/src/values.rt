@@ -2,13 +2,13 @@
 ghost use Rattle.std.specs.Prelude.{◌≡◌, ◌==◌, IfOk};
 ghost use Rattle.script_rows.specs.Values.{IsAtBroker, IsAtLink, event_of, fate_numbered, ident_of, item_at, key_at, line_of, name_at, place_at, rest, seq_at, step_of, sub_kind_numbered, text_at, to_at};
 
+use crate::NameWord;
 use crate::act_kind::ActKind;
 use crate::event_kind::EventKind;
 use crate::kind::Kind;
 use crate::line_kind::LineKind;
 use crate::value::Value;
 use geo_base::{Blob, Event, Fate, Ident, Line, Memory, Position, Step, SubKind, Targets, Text};
-use script_names::NameWord;
 use std::alloc::Global;
 
 /// The step of a line that schedules one; a line of another kind schedules none, and is given `settle`.

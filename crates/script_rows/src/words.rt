@@ -2,7 +2,7 @@
 ghost use Rattle.std.specs.Prelude.{◌≡◌, [], ◌∷◌, MatchOption};
 ghost use Rattle.script_rows.specs.Words.{gathered, words_of};
 
-use script_names::cut_at;
+use crate::cut_at;
 use std::marker::Model;
 
 /// The words that are left, each between spaces.

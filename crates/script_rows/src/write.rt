@@ -1,7 +1,7 @@
 //! Steps written by their rows.
 ghost use Rattle.std.specs.Prelude.{◌≡◌, [], ◌∷◌, ◌++◌, IfOk, OnOk, OnErr, take, length, codes};
 ghost use Rattle.std.specs.Fmt.{decimal};
-ghost use Rattle.script_names.specs.Names.{name_at};
+ghost use Rattle.script_rows.specs.NameBytes.{name_at};
 ghost use Rattle.script_rows.specs.declared.column.Column.TheVariants as kind;
 ghost use Rattle.script_rows.specs.Names.{nothing_seen};
 ghost use Rattle.script_rows.specs.Values.{IsAtLink, item, key, name, place, seq, text, to};
@@ -14,8 +14,8 @@ use crate::event_kind::EventKind;
 use crate::names::Names;
 use crate::seen::Seen;
 use crate::value::Value;
+use crate::{NameTable, list_word, number_word};
 use geo_base::{Blob, Event, Fate, Memory, Position, Sequence, Step, Targets};
-use script_names::{NameTable, list_word, number_word};
 use std::alloc::Global;
 use std::fmt::Write;
 

@@ -5,8 +5,8 @@ use Rattle.std.proofs.lemmas.Bool.{and_parts, cases_lt}
 use Rattle.std.proofs.lemmas.List.{get_or_past}
 use Rattle.std.proofs.lemmas.Map.Made.{length-from_same_keys}
 use Rattle.geo_base.specs.Setup.{Setup, sub_names}
-use Rattle.script_names.specs.Names.{is_among, number_in}
-use Rattle.script_names.specs.Words.{Word, given, has_name_bytes}
+use Rattle.script_rows.specs.NameBytes.{is_among, number_in}
+use Rattle.script_rows.specs.NameWords.{Word, given, has_name_bytes}
 use Rattle.script_rows.specs.declared.act_kind.ActKind.{ActKind}
 use Rattle.script_rows.specs.declared.act_kind.ActKind.TheVariants as act
 use Rattle.script_rows.specs.declared.column.Column.{Column}

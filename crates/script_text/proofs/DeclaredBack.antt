@@ -10,9 +10,9 @@ use Rattle.std.proofs.lemmas.List.Elements.{filter-append}
 use Rattle.geo_base.specs.Name.{is_name}
 use Rattle.geo_base.specs.Scripted.{AreDistinct, is_declared, is_line, stays_or_is_silent}
 use Rattle.geo_base.specs.Setup.{Declared, Setup}
-use Rattle.script_names.specs.Names.{is_among, name_at}
-use Rattle.script_names.specs.Numbers.{number_of}
-use Rattle.script_names.specs.Words.{Word}
+use Rattle.script_rows.specs.NameBytes.{is_among, name_at}
+use Rattle.script_rows.specs.Numbers.{number_of}
+use Rattle.script_rows.specs.NameWords.{Word}
 use Rattle.script_rows.specs.declared.fault.Rule.{Rule}
 use Rattle.script_rows.specs.declared.kind.Kind.TheVariants as kind
 use Rattle.script_rows.specs.declared.line_kind.LineKind.TheVariants as row

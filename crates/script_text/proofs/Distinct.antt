@@ -8,7 +8,7 @@ use Rattle.std.proofs.lemmas.List.Folds.{list_any_at}
 use Rattle.std.proofs.lemmas.Option.{get_or_from_slice_get, slice_get_within, slice_get-get_or}
 use Rattle.geo_base.specs.Scripted.{AreDistinct}
 use Rattle.geo_base.specs.Setup.{Declared}
-use Rattle.script_names.specs.Names.{is_among}
+use Rattle.script_rows.specs.NameBytes.{is_among}
 
 -- a name that is not among the names is none of them
 apart_from_new : (names : List (List ℕ)) (n : List ℕ) (k : ℕ) → is_among names n ≡ false → k < length names → bytes_eq (get_or names k []) n ≡ false

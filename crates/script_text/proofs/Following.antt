@@ -4,7 +4,7 @@ use Rattle.std.proofs.lemmas.Bool.{and_from, cases_Bool, le-ltb}
 use Rattle.std.proofs.lemmas.List.{append-nil}
 use Rattle.std.proofs.lemmas.Option.{none-some}
 use Rattle.geo_base.specs.declared.event.Step.{Step}
-use Rattle.script_names.specs.Words.{Word}
+use Rattle.script_rows.specs.NameWords.{Word}
 use Rattle.script_rows.specs.declared.fault.Rule.{Rule}
 use Rattle.script_rows.specs.declared.fault.Rule.TheVariants as rule
 use Rattle.script_rows.specs.declared.heading.Heading.{Heading}

@@ -13,8 +13,8 @@ use Rattle.geo_base.specs.declared.client.Line.TheVariants as line
 use Rattle.geo_base.specs.Name.{is_name}
 use Rattle.geo_base.specs.Scripted.{AreDistinct, clients_of, is_line, is_move, is_produce, stays_or_is_silent}
 use Rattle.geo_base.specs.Setup.{Declared, Setup, declared_at, nobody, sub_names}
-use Rattle.script_names.specs.Names.{is_among}
-use Rattle.script_names.specs.Words.{Word}
+use Rattle.script_rows.specs.NameBytes.{is_among}
+use Rattle.script_rows.specs.NameWords.{Word}
 use Rattle.script_rows.specs.declared.act_kind.ActKind.{ActKind}
 use Rattle.script_rows.specs.declared.act_kind.ActKind.TheVariants as act
 use Rattle.script_rows.specs.declared.column.Column.TheVariants as column

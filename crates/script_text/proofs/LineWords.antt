@@ -16,8 +16,8 @@ use Rattle.geo_base.specs.declared.frame.SubKind.TheVariants as sub_kind
 use Rattle.geo_base.specs.Name.{is_name}
 use Rattle.geo_base.specs.Scripted.{is_known, is_line, is_optional_name, most_text_bytes, names_some}
 use Rattle.geo_base.specs.Setup.{Declared, Setup}
-use Rattle.script_names.specs.Names.{is_among, name_at}
-use Rattle.script_names.specs.Words.{Word}
+use Rattle.script_rows.specs.NameBytes.{is_among, name_at}
+use Rattle.script_rows.specs.NameWords.{Word}
 use Rattle.script_rows.specs.declared.act_kind.ActKind.{ActKind}
 use Rattle.script_rows.specs.declared.act_kind.ActKind.TheVariants as act
 use Rattle.script_rows.specs.declared.heading.Heading.TheVariants as heading

@@ -15,8 +15,8 @@ use Rattle.geo_base.specs.declared.entry.Targets.{Targets}
 use Rattle.geo_base.specs.Name.{is_name}
 use Rattle.geo_base.specs.Scripted.{IsScripted, is_declared, is_line}
 use Rattle.geo_base.specs.Setup.{Declared, Setup, sub_names}
-use Rattle.script_names.specs.Names.{is_among, name_at}
-use Rattle.script_names.specs.Words.{Word}
+use Rattle.script_rows.specs.NameBytes.{is_among, name_at}
+use Rattle.script_rows.specs.NameWords.{Word}
 use Rattle.script_rows.specs.declared.act_kind.ActKind.TheVariants as act
 use Rattle.script_rows.specs.declared.column.Column.{Column}
 use Rattle.script_rows.specs.declared.column.Column.TheVariants as column

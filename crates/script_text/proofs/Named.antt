@@ -16,7 +16,7 @@ use Rattle.script_rows.specs.Written.{AreDeclared, AreNames}
 use Rattle.script_text.specs.Drafts.{IsDeclared}
 use Rattle.script_text.specs.Scenario.{IsEvent, IsLink, IsNode, IsStep}
 use Rattle.script_text.specs.Naming.{names_of}
-use Rattle.script_names.specs.Words.{Word}
+use Rattle.script_rows.specs.NameWords.{Word}
 use Rattle.script_text.proofs.Distinct.{AreDistinct-nil}
 use Rattle.script_text.proofs.Tables.{clients_named, subs_apart, subs_named}
 

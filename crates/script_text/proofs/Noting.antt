@@ -11,8 +11,8 @@ use Rattle.std.proofs.lemmas.Map.Keys.{IsDistinct-push}
 use Rattle.geo_base.specs.declared.client.Line.{Line}
 use Rattle.geo_base.specs.declared.client.Line.TheVariants as line
 use Rattle.geo_base.specs.Setup.{Declared, Setup, declared_at, nobody, sub_names}
-use Rattle.script_names.specs.Names.{is_among}
-use Rattle.script_names.specs.Words.{Word}
+use Rattle.script_rows.specs.NameBytes.{is_among}
+use Rattle.script_rows.specs.NameWords.{Word}
 use Rattle.script_rows.specs.declared.column.Role.{Role}
 use Rattle.script_rows.specs.declared.names.Member.{Member}
 use Rattle.script_rows.specs.Names.{Names, in_role, member_at, stranger, subs_of, with_role}

@@ -13,8 +13,8 @@ use Rattle.geo_base.specs.declared.client.Line.{Line}
 use Rattle.geo_base.specs.declared.client.Line.TheVariants as line
 use Rattle.geo_base.specs.Scripted.{IsScripted, is_declared, is_line, is_move, is_produce, stays_or_is_silent}
 use Rattle.geo_base.specs.Setup.{Declared, Setup, declared_at, nobody, sub_names}
-use Rattle.script_names.specs.Names.{is_among, name_at}
-use Rattle.script_names.specs.Words.{Word}
+use Rattle.script_rows.specs.NameBytes.{is_among, name_at}
+use Rattle.script_rows.specs.NameWords.{Word}
 use Rattle.script_rows.specs.Columns.{is_other_role}
 use Rattle.script_rows.specs.Names.{member_at}
 use Rattle.script_rows.specs.Rows.{role_of}

@@ -7,9 +7,9 @@ use Rattle.std.proofs.lemmas.List.Elements.{All-from_get_or}
 use Rattle.std.proofs.lemmas.List.Folds.{list_all-append}
 use Rattle.std.proofs.lemmas.List.Splits.{slice_split_at, slice_split_none}
 use Rattle.geo_base.specs.Name.{is_name, name_byte}
-use Rattle.script_names.specs.Numbers.{is_digit}
-use Rattle.script_names.specs.Words.{Word, has_name_bytes, is_long}
-use Rattle.script_names.proofs.Digits.{decimal_digits}
+use Rattle.script_rows.specs.Numbers.{is_digit}
+use Rattle.script_rows.specs.NameWords.{Word, has_name_bytes, is_long}
+use Rattle.script_rows.proofs.Digits.{decimal_digits}
 use Rattle.script_rows.specs.Words.{words_of}
 use Rattle.script_rows.specs.Written.{spaced}
 use Rattle.script_rows.proofs.Back.{passes}

@@ -4,7 +4,7 @@ use Rattle.std.specs.List.{list_all}
 use Rattle.std.proofs.lemmas.Bool.{and_from, le-ltb, or_from}
 use Rattle.std.proofs.lemmas.List.{append_assoc}
 use Rattle.geo_base.specs.Setup.{Setup}
-use Rattle.script_names.specs.Words.{Word}
+use Rattle.script_rows.specs.NameWords.{Word}
 use Rattle.script_rows.specs.declared.fault.Rule.{Rule}
 use Rattle.script_rows.specs.declared.fault.Rule.TheVariants as rule
 use Rattle.script_rows.specs.declared.heading.Heading.{Heading}

@@ -8,10 +8,10 @@ use Rattle.geo_base.specs.declared.entry.Targets.TheVariants as targets
 use Rattle.geo_base.specs.Name.{is_name}
 use Rattle.geo_base.specs.Scripted.{clients_of, is_known, is_line, is_optional_name, most_flow, most_text_bytes, names_some}
 use Rattle.geo_base.specs.Setup.{Declared, Setup}
-use Rattle.script_names.specs.Names.{is_among, name_at, number_in}
-use Rattle.script_names.specs.Numbers.{number_of}
-use Rattle.script_names.specs.Words.{Word}
-use Rattle.script_names.proofs.Digits.{number_back}
+use Rattle.script_rows.specs.NameBytes.{is_among, name_at, number_in}
+use Rattle.script_rows.specs.Numbers.{number_of}
+use Rattle.script_rows.specs.NameWords.{Word}
+use Rattle.script_rows.proofs.Digits.{number_back}
 use Rattle.script_rows.specs.declared.act_kind.ActKind.{ActKind}
 use Rattle.script_rows.specs.declared.act_kind.ActKind.TheVariants as act
 use Rattle.script_rows.specs.declared.column.Column.{Column}

@@ -15,9 +15,9 @@ use Rattle.geo_base.specs.declared.client.Line.{Line}
 use Rattle.geo_base.specs.declared.client.Line.TheVariants as line
 use Rattle.geo_base.specs.declared.frame.SubKind.{SubKind}
 use Rattle.geo_base.specs.Setup.{Declared, Setup, declared_at, nobody, sub_names, with_client, with_line, with_name}
-use Rattle.script_names.specs.Names.{is_among}
+use Rattle.script_rows.specs.NameBytes.{is_among}
 use Rattle.script_text.specs.Subs.{is_named_by, is_sub_of, same_name, sub_in}
-use Rattle.script_names.specs.Words.{Word}
+use Rattle.script_rows.specs.NameWords.{Word}
 
 -- ---- tests
 or_assoc : (a b c : Bool) → ((a || b) || c) ≡ (a || (b || c))

@@ -13,8 +13,8 @@ use Rattle.geo_base.specs.declared.client.Line.TheVariants as line
 use Rattle.geo_base.specs.Name.{is_name}
 use Rattle.geo_base.specs.Scripted.{AreDistinct, is_declared, is_line, stays_or_is_silent}
 use Rattle.geo_base.specs.Setup.{Declared, Setup, sub_names, with_client, with_line, with_name}
-use Rattle.script_names.specs.Names.{is_among}
-use Rattle.script_names.specs.Words.{Word}
+use Rattle.script_rows.specs.NameBytes.{is_among}
+use Rattle.script_rows.specs.NameWords.{Word}
 use Rattle.script_rows.specs.declared.names.Member.{Member}
 use Rattle.script_rows.specs.Names.{Names}
 use Rattle.script_text.specs.Naming.{member_of, names_of}

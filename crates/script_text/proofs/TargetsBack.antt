@@ -12,9 +12,9 @@ use Rattle.geo_base.specs.declared.entry.Targets.{Targets}
 use Rattle.geo_base.specs.declared.entry.Targets.TheVariants as targets
 use Rattle.geo_base.specs.Name.{is_name, name_byte}
 use Rattle.geo_base.specs.Scripted.{AreDistinct, names_some}
-use Rattle.script_names.specs.Names.{AreApart, has_long, has_repeat, has_stranger, is_among, mask_of, names_in}
-use Rattle.script_names.specs.Words.{Word, has_name_bytes, is_long, listed}
-use Rattle.script_names.proofs.Masks.{mask_back}
+use Rattle.script_rows.specs.NameBytes.{AreApart, has_long, has_repeat, has_stranger, is_among, mask_of, names_in}
+use Rattle.script_rows.specs.NameWords.{Word, has_name_bytes, is_long, listed}
+use Rattle.script_rows.proofs.Masks.{mask_back}
 use Rattle.script_rows.specs.Columns.{target_names, targets_of}
 use Rattle.script_rows.specs.Written.{AreNames, targets_word}
 use Rattle.script_rows.proofs.Back.{passes}

@@ -3,8 +3,8 @@ use Rattle.std.proofs.Common.{◌≡◌, ℕ, List, [], ◌∷◌, ◌++◌, cod
 use Rattle.std.proofs.lemmas.List.{append_assoc, append-nil}
 use Rattle.geo_base.specs.declared.client.Line.{Line}
 use Rattle.geo_base.specs.Setup.{Declared}
-use Rattle.script_names.specs.Names.{name_at}
-use Rattle.script_names.specs.Words.{Word}
+use Rattle.script_rows.specs.NameBytes.{name_at}
+use Rattle.script_rows.specs.NameWords.{Word}
 use Rattle.script_rows.specs.Written.{spaced}
 use Rattle.script_text.specs.Canonical.{all_lines_text, clients_text, line_words, lines_text, names_text, pushed, row_text}
 

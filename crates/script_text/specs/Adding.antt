@@ -3,7 +3,7 @@ use Rattle.std.specs.Prelude.{ℕ, true, if◌then◌else◌, List, [], ◌∷�
 use Rattle.geo_base.specs.declared.client.Line.{Line}
 use Rattle.geo_base.specs.declared.event.Step.{Step}
 use Rattle.geo_base.specs.Setup.{Declared, Setup, declared_at}
-use Rattle.script_names.specs.Words.{Word}
+use Rattle.script_rows.specs.NameWords.{Word}
 use Rattle.script_rows.specs.declared.heading.Heading.{Heading}
 use Rattle.script_rows.specs.declared.heading.Heading.TheVariants as heading
 use Rattle.script_rows.specs.declared.kind.Kind.{Kind}

@@ -7,8 +7,8 @@ use Rattle.geo_base.specs.declared.entry.Ident.{Ident}
 use Rattle.geo_base.specs.declared.frame.SubKind.{SubKind}
 use Rattle.geo_base.specs.declared.frame.SubKind.TheVariants as sub_kind
 use Rattle.geo_base.specs.Setup.{Declared, Setup}
-use Rattle.script_names.specs.Names.{name_at}
-use Rattle.script_names.specs.Words.{Word}
+use Rattle.script_rows.specs.NameBytes.{name_at}
+use Rattle.script_rows.specs.NameWords.{Word}
 use Rattle.script_rows.specs.Written.{key_word, spaced, targets_word}
 use Rattle.script_text.specs.declared.chance.Chance.{Chance}
 use Rattle.script_text.specs.Script.{Script}

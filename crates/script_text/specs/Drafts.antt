@@ -6,8 +6,8 @@ use Rattle.geo_base.specs.declared.client.Line.TheVariants as line
 use Rattle.geo_base.specs.Name.{is_name}
 use Rattle.geo_base.specs.Scripted.{AreDistinct, clients_of, is_declared}
 use Rattle.geo_base.specs.Setup.{Declared, Setup, declared_at, sub_names}
-use Rattle.script_names.specs.Names.{is_among}
-use Rattle.script_names.specs.Words.{Word}
+use Rattle.script_rows.specs.NameBytes.{is_among}
+use Rattle.script_rows.specs.NameWords.{Word}
 use Rattle.script_rows.specs.declared.act_kind.ActKind.{ActKind}
 use Rattle.script_rows.specs.declared.fault.LineFault.{LineFault}
 use Rattle.script_rows.specs.declared.fault.LineFault.TheVariants as fault

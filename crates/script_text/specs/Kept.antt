@@ -4,7 +4,7 @@ use Rattle.geo_base.specs.declared.client.Line.{Line}
 use Rattle.geo_base.specs.Name.{is_name}
 use Rattle.geo_base.specs.Scripted.{AreDistinct, clients_of, is_line, stays_or_is_silent}
 use Rattle.geo_base.specs.Setup.{Declared, Setup, sub_names}
-use Rattle.script_names.specs.Words.{Word}
+use Rattle.script_rows.specs.NameWords.{Word}
 use Rattle.script_rows.specs.Rows.{rank}
 use Rattle.script_rows.specs.Written.{AreNames}
 use Rattle.script_text.specs.Scenario.{IsChance, has_printable_text}

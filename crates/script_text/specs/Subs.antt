@@ -6,8 +6,8 @@ use Rattle.std.specs.Str.{bytes_eq}
 use Rattle.geo_base.specs.declared.client.Line.{Line}
 use Rattle.geo_base.specs.declared.client.Line.TheVariants as line
 use Rattle.geo_base.specs.Setup.{Declared, Setup, sub_names}
-use Rattle.script_names.specs.Names.{is_among}
-use Rattle.script_names.specs.Words.{Word}
+use Rattle.script_rows.specs.NameBytes.{is_among}
+use Rattle.script_rows.specs.NameWords.{Word}
 use Rattle.script_rows.specs.Names.{Names}
 use Rattle.script_text.specs.Naming.{names_of}
 

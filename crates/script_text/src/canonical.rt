@@ -2,7 +2,7 @@
 ghost use Rattle.std.specs.Prelude.{◌≡◌, [], ◌∷◌, ◌++◌, Ok, IfOk, OnOk, codes};
 ghost use Rattle.std.specs.Fmt.{decimal};
 ghost use Rattle.geo_base.specs.Setup.{Setup};
-ghost use Rattle.script_names.specs.Names.{name_at};
+ghost use Rattle.script_rows.specs.NameBytes.{name_at};
 ghost use Rattle.script_rows.specs.Written.{key_word, targets_word};
 ghost use Rattle.script_text.specs.Canonical.{all_lines_text, chance_text, clients_text, declarations_text, declared_alone, head_word, ident_words, kind_word, ledger_text, line_words, lines_text, names_text, pushed, replication_word, start_word};
 ghost use Rattle.script_text.specs.Naming.{names_of};
@@ -13,8 +13,7 @@ use crate::client::ClientDecl;
 use crate::scenario::Scenario;
 use geo_base::limits::LEDGER_ENTRIES;
 use geo_base::{Blob, Ident, Line, Memory, Name, SubKind, Targets, Text};
-use script_names::{NameTable, list_word, number_word};
-use script_rows::Names;
+use script_rows::{NameTable, Names, list_word, number_word};
 use std::alloc::Global;
 
 /// Writes what a script declares: its one text without skipped lines and without events. The `ledger` line is left out where a

@@ -1,7 +1,7 @@
 //! What the lines so far declare.
 ghost use Rattle.std.specs.Prelude.{◌≡◌, ◌<◌, true, false, length, IfOk, OnOk};
 ghost use Rattle.geo_base.specs.Name.{is_name};
-ghost use Rattle.script_names.specs.Names.{is_among};
+ghost use Rattle.script_rows.specs.NameBytes.{is_among};
 ghost use Rattle.script_rows.specs.Names.{with_role};
 ghost use Rattle.script_rows.specs.Rows.{role_of};
 ghost use Rattle.script_rows.specs.Values.{line_of};
@@ -17,10 +17,9 @@ use crate::setup::SetupParts;
 use crate::steps::read_row;
 use geo_base::limits::LEDGER_ENTRIES;
 use geo_base::{ClusterName, Line, Memory, ProducerName, Sequence, TopicName};
-use script_names::NameWord;
 use script_rows::{
-    ActKind, Heading, Kind, LineFault, LineKind, Names, Progress, Row, Stage, Value, heading_of,
-    item_at, line_of, name_at, rest,
+    ActKind, Heading, Kind, LineFault, LineKind, NameWord, Names, Progress, Row, Stage, Value,
+    heading_of, item_at, line_of, name_at, rest,
 };
 use std::alloc::Global;
 use std::marker::Model;

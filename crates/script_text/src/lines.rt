@@ -1,7 +1,7 @@
 //! The lines of a script.
 ghost use Rattle.std.specs.Prelude.{◌≡◌, ◌==◌, ◌&&◌, false, [], ◌∷◌, MatchOption, IfNone, IfSome, position};
 ghost use Rattle.std.specs.List.{list_all};
-ghost use Rattle.script_names.specs.Words.{cut_by};
+ghost use Rattle.script_rows.specs.NameWords.{cut_by};
 ghost use Rattle.script_text.specs.Drafts.{StartsWithStep, says_step};
 ghost use Rattle.script_text.specs.Lines.{lines_of, is_skipped, is_printable};
 

@@ -9,8 +9,7 @@ ghost use Rattle.script_text.specs.Naming.{member_of, names_of};
 use crate::client::ClientDecl;
 use crate::declarations::Declarations;
 use geo_base::{Line, Memory, Name};
-use script_names::NameTable;
-use script_rows::{Member, Names};
+use script_rows::{Member, NameTable, Names};
 use std::alloc::Global;
 
 /// The names of the clusters and of the topics.

@@ -2,7 +2,7 @@
 ghost use Rattle.std.specs.Prelude.{◌≡◌, ℕ, ◌<◌, [], length, fold, get_or, IfOk, OnOk};
 ghost use Rattle.std.specs.Option.{option_copied};
 ghost use Rattle.geo_base.specs.Setup.{with_client, with_line, with_name};
-ghost use Rattle.script_names.specs.Names.{is_among};
+ghost use Rattle.script_rows.specs.NameBytes.{is_among};
 ghost use Rattle.script_text.specs.Subs.{sub_in};
 
 use crate::client::ClientDecl;

@@ -11,16 +11,16 @@ use Rattle.geo_base.specs.Setup.{Declared, Setup, nobody}
 use Rattle.script_text.specs.Canonical.{declarations_text}
 use Rattle.script_text.specs.Rules.{script_of}
 use Rattle.script_text.specs.Script.{Script}
-use Rattle.state_clients.specs.Clients.{client_at, client_text}
-use Rattle.state_clients.proofs.Back.{client_again}
+use Rattle.state_nodes.specs.Clients.{client_at, client_text}
+use Rattle.state_nodes.proofs.ClientBack.{client_again}
 use Rattle.state_items.specs.Reading.{◌>>=◌, Read, many, number_at, word_at}
 use Rattle.state_items.specs.Telling.{Many, Then}
 use Rattle.state_items.specs.Texts.{number, word}
 use Rattle.state_items.proofs.Again.{number_again, number_long, word_again, word_long}
-use Rattle.state_brokers.specs.Counts.{counts_text}
-use Rattle.state_brokers.specs.Nodes.{node_text}
-use Rattle.state_brokers.proofs.Back.{counts_again}
-use Rattle.state_brokers.proofs.NodeBack.{node_again}
+use Rattle.state_nodes.specs.Counts.{counts_text}
+use Rattle.state_nodes.specs.Nodes.{node_text}
+use Rattle.state_nodes.proofs.Back.{counts_again}
+use Rattle.state_nodes.proofs.NodeBack.{node_again}
 use Rattle.state_file.specs.Fitting.{AreClients, AreDurable, IsState}
 use Rattle.state_file.specs.Loading.{IsLoaded, whole}
 use Rattle.state_file.specs.Reading.{AreNodes, IsBody, IsNodeBehind, client_behind, declarations_at, head_at, magic_at, so_many, tail_at, version_at}

@@ -8,7 +8,7 @@ use Rattle.state_items.specs.Reading.{Fails, Gives}
 use Rattle.state_items.specs.Telling.{Tells, TellsFault, goes, stops}
 use Rattle.state_file.specs.Reading.{AreNodes, IsBody, head_at, tail_at}
 use Rattle.state_file.specs.State.{SavedState}
-use Rattle.state_brokers.specs.declared.counts.Counts.{Counts}
+use Rattle.state_nodes.specs.declared.counts.Counts.{Counts}
 
 pub head_stops : (version size : ℕ) (body : List ℕ) (e : ItemFault) → Fails e (head_at body) → TellsFault e (IsBody version size body)
 head_stops version size body item_fault.Memory h = tt

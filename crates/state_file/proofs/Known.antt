@@ -10,7 +10,7 @@ use Rattle.geo_base.specs.Setup.{Setup, declared_at}
 use Rattle.script_text.specs.Canonical.{declarations_text}
 use Rattle.script_text.specs.Rules.{script_of}
 use Rattle.script_text.specs.Script.{Fault, Script}
-use Rattle.state_clients.proofs.Known.{client_known}
+use Rattle.state_nodes.proofs.ClientKnown.{client_known}
 use Rattle.state_file.specs.Known.{IsClientBehind, IsKnownBehind, IsKnownState}
 use Rattle.state_file.specs.Loading.{IsLoaded, Loaded, Refusal, broken, no_size, no_version, unknown, whole}
 use Rattle.state_file.specs.Reading.{AreNodes, IsBody, IsNodeBehind, canonical, client_behind, declarations_at, head_at, scripted, so_many, tail_at}
@@ -21,11 +21,11 @@ use Rattle.state_items.specs.Reading.{Read, judge, many, number_at}
 use Rattle.state_items.specs.Reading.{broken as item_broken}
 use Rattle.state_items.specs.Telling.{Then}
 use Rattle.state_items.proofs.Known.{all_told, came, listed_all, listed_count, many_known, not_both, same_value, told}
-use Rattle.state_brokers.specs.declared.counts.Counts.{Counts}
-use Rattle.state_brokers.specs.Counts.{counts_at}
-use Rattle.state_brokers.specs.Fitting.{AreCounts}
-use Rattle.state_brokers.proofs.Known.{counts_known}
-use Rattle.state_brokers.proofs.NodeKnown.{node_known}
+use Rattle.state_nodes.specs.declared.counts.Counts.{Counts}
+use Rattle.state_nodes.specs.Counts.{counts_at}
+use Rattle.state_nodes.specs.Fitting.{AreCounts}
+use Rattle.state_nodes.proofs.Known.{counts_known}
+use Rattle.state_nodes.proofs.NodeKnown.{node_known}
 
 -- ---- the declarations
 

@@ -6,14 +6,14 @@ use Rattle.client.specs.State.{stopped}
 use Rattle.geo_base.specs.Broker.{Broker}
 use Rattle.geo_base.specs.Client.{Client}
 use Rattle.geo_base.specs.Setup.{Declared, Setup, nobody}
-use Rattle.state_clients.specs.Clients.{client_at}
+use Rattle.state_nodes.specs.Clients.{client_at}
 use Rattle.state_items.specs.declared.fault.ItemFault.{ItemFault}
 use Rattle.state_items.specs.Reading.{Fails, Read, many}
 use Rattle.state_items.specs.Telling.{Many, TellsFault}
 use Rattle.state_items.proofs.Loops as loops
 use Rattle.state_items.proofs.Many as told
-use Rattle.state_brokers.specs.declared.nodes.NodeParts.{NodeParts}
-use Rattle.state_brokers.specs.Nodes.{IsNode, broker_of}
+use Rattle.state_nodes.specs.declared.nodes.NodeParts.{NodeParts}
+use Rattle.state_nodes.specs.Nodes.{IsNode, broker_of}
 use Rattle.state_file.specs.Reading.{AreNodes, IsNodeBehind, client_behind}
 
 -- ---- brokers

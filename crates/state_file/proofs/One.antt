@@ -8,7 +8,7 @@ use Rattle.state_items.specs.Reading.{Answer, Read, number_at}
 use Rattle.state_items.specs.Telling.{Then}
 use Rattle.state_items.proofs.Many.{many_one}
 use Rattle.state_items.proofs.Telling.{then_one}
-use Rattle.state_brokers.proofs.One.{node_one}
+use Rattle.state_nodes.proofs.One.{node_one}
 use Rattle.state_file.specs.Loading.{IsLoaded, Loaded, bad, broken, is_known, no_size, no_version, unknown, version, whole}
 use Rattle.state_file.specs.Reading.{AreNodes, IsBody, IsNodeBehind, head_at, tail_at, version_at}
 use Rattle.state_file.specs.State.{SavedState}

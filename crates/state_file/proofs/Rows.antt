@@ -6,11 +6,11 @@ use Rattle.client.specs.declared.client.state.ClientState.{ClientState}
 use Rattle.client.specs.State.{stopped}
 use Rattle.geo_base.specs.Broker.{Broker}
 use Rattle.geo_base.specs.Client.{Client}
-use Rattle.state_clients.specs.Clients.{client_text}
+use Rattle.state_nodes.specs.Clients.{client_text}
 use Rattle.state_file.specs.Texts.{clients_text, nodes_from}
-use Rattle.state_brokers.specs.declared.nodes.NodeParts.{NodeParts}
-use Rattle.state_brokers.specs.Nodes.{broker_of, node_text}
-use Rattle.state_brokers.specs.Writing.{CanWrite}
+use Rattle.state_nodes.specs.declared.nodes.NodeParts.{NodeParts}
+use Rattle.state_nodes.specs.Nodes.{broker_of, node_text}
+use Rattle.state_nodes.specs.Writing.{CanWrite}
 
 -- ---- brokers
 

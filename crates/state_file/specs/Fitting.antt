@@ -5,10 +5,10 @@ use Rattle.geo_base.specs.Client.{Client}
 use Rattle.geo_base.specs.Setup.{Declared, Setup}
 use Rattle.script_text.specs.Canonical.{declarations_text}
 use Rattle.script_text.specs.Rules.{script_of}
-use Rattle.state_clients.specs.Fitting.{IsClientState}
+use Rattle.state_nodes.specs.ClientFitting.{IsClientState}
 use Rattle.state_file.specs.State.{SavedState}
 use Rattle.state_file.specs.Texts.{body_text}
-use Rattle.state_brokers.specs.Fitting.{AreCounts, IsDurable}
+use Rattle.state_nodes.specs.Fitting.{AreCounts, IsDurable}
 
 -- brokers from a number on, by topic and then by cluster
 abbrev pub AreDurable : Setup → ℕ → List Broker → Type 0

@@ -5,11 +5,11 @@ use Rattle.geo_base.specs.Client.{Client}
 use Rattle.geo_base.specs.Setup.{Setup, declared_at}
 use Rattle.script_text.specs.Canonical.{declarations_text}
 use Rattle.script_text.specs.Rules.{script_of}
-use Rattle.state_clients.specs.Known.{IsKnownClient}
+use Rattle.state_nodes.specs.ClientKnown.{IsKnownClient}
 use Rattle.state_file.specs.State.{SavedState}
 use Rattle.state_items.specs.Fitting.{AllFit}
-use Rattle.state_brokers.specs.Fitting.{AreCounts}
-use Rattle.state_brokers.specs.Known.{IsKnownNode}
+use Rattle.state_nodes.specs.Fitting.{AreCounts}
+use Rattle.state_nodes.specs.Known.{IsKnownNode}
 
 -- a broker behind others, by topic and then by cluster
 abbrev pub IsKnownBehind : Setup → List Broker → Broker → Type 0

@@ -7,15 +7,15 @@ use Rattle.geo_base.specs.Setup.{Setup, declared_at}
 use Rattle.script_text.specs.Canonical.{declarations_text}
 use Rattle.script_text.specs.Rules.{script_of}
 use Rattle.script_text.specs.Script.{Fault, Script}
-use Rattle.state_clients.specs.Clients.{client_at}
+use Rattle.state_nodes.specs.Clients.{client_at}
 use Rattle.state_items.specs.declared.rule.Rule.TheVariants as rule
 use Rattle.state_items.specs.Reading.{◌>>=◌, Answer, Read, broken, judge, many, number_at, word_at}
 use Rattle.state_items.specs.Telling.{Many, Then}
 use Rattle.state_file.specs.State.{SavedState}
 use Rattle.state_file.specs.Texts.{magic}
-use Rattle.state_brokers.specs.declared.counts.Counts.{Counts}
-use Rattle.state_brokers.specs.Counts.{counts_at}
-use Rattle.state_brokers.specs.Nodes.{IsNode}
+use Rattle.state_nodes.specs.declared.counts.Counts.{Counts}
+use Rattle.state_nodes.specs.Counts.{counts_at}
+use Rattle.state_nodes.specs.Nodes.{IsNode}
 
 -- the first eight bytes, and the version behind them
 unfoldable pub magic_at : List ℕ → Read (List ℕ)

@@ -9,8 +9,8 @@ use Rattle.durable_parts.specs.Durable.{durable_part}
 use Rattle.script_text.specs.Canonical.{declared_alone}
 use Rattle.script_text.specs.Script.{Script}
 use Rattle.state_file.specs.declared.saved.Saved.{Saved}
-use Rattle.state_brokers.specs.declared.counts.Counts.{Counts}
-use Rattle.state_brokers.specs.Nodes.{broker_of}
+use Rattle.state_nodes.specs.declared.counts.Counts.{Counts}
+use Rattle.state_nodes.specs.Nodes.{broker_of}
 
 -- what the script declares, what the run counted, the brokers by topic and then by cluster, each with nothing in memory, and the
 -- clients, which are not connected and hold nothing

@@ -5,11 +5,11 @@ use Rattle.geo_base.specs.Broker.{Broker}
 use Rattle.geo_base.specs.Client.{Client}
 use Rattle.script_text.specs.Canonical.{declarations_text}
 use Rattle.script_text.specs.Script.{Script}
-use Rattle.state_clients.specs.Clients.{client_text}
+use Rattle.state_nodes.specs.Clients.{client_text}
 use Rattle.state_items.specs.Texts.{number, word}
 use Rattle.state_file.specs.State.{SavedState}
-use Rattle.state_brokers.specs.Counts.{counts_text}
-use Rattle.state_brokers.specs.Nodes.{node_text}
+use Rattle.state_nodes.specs.Counts.{counts_text}
+use Rattle.state_nodes.specs.Nodes.{node_text}
 
 abbrev pub magic : List ℕ
 magic = codes "GEOSTATE"

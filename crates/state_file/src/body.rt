@@ -2,10 +2,10 @@
 ghost use Rattle.std.specs.Prelude.{◌≡◌, ◌≤◌, ◌<◌, ◌*◌, ◌^◌, List, [], length, map, OnOk};
 ghost use Rattle.client.specs.State.{stopped};
 ghost use Rattle.geo_base.specs.Broker.{Broker};
-ghost use Rattle.state_brokers.specs.declared.counts.Counts.{Counts};
+ghost use Rattle.state_nodes.specs.declared.counts.Counts.{Counts};
 ghost use Rattle.state_items.specs.Reading.{Gives, many};
 ghost use Rattle.state_items.specs.Telling.{Many, Tells};
-ghost use Rattle.state_brokers.specs.Nodes.{broker_of};
+ghost use Rattle.state_nodes.specs.Nodes.{broker_of};
 ghost use Rattle.state_file.specs.Reading.{AreNodes, IsBody, client_behind, tail_at};
 ghost use Rattle.state_file.specs.State.{state_of, with_clients};
 
@@ -13,9 +13,8 @@ use crate::front::head_at;
 use crate::saved::Saved;
 use client::ClientState;
 use script_text::Scenario;
-use state_brokers::{Counts, NodeParts, node_at};
-use state_clients::client_at;
 use state_items::{ItemFault, Rule, judge};
+use state_nodes::{Counts, NodeParts, client_at, node_at};
 use std::alloc::Global;
 
 /// The state in a body of `size` bytes, of which these are there.

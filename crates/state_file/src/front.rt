@@ -7,8 +7,8 @@ ghost use Rattle.state_file.specs.Reading.{declarations_at, head_at, magic_at, s
 
 use geo_base::Memory;
 use script_text::{Scenario, ScriptFault, read_script, write_declarations};
-use state_brokers::{Counts, counts_at};
 use state_items::{ItemFault, Rule, judge, number_at, word_at};
+use state_nodes::{Counts, counts_at};
 use std::alloc::Global;
 
 /// The first bytes of a file.

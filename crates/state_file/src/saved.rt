@@ -1,7 +1,7 @@
 //! A saved state.
 use client::ClientState;
 use script_text::Scenario;
-use state_brokers::{Counts, NodeParts};
+use state_nodes::{Counts, NodeParts};
 
 /// The state of a run's world after a stop: what its script declares, what it counted, the durable parts of its brokers by topic and
 /// then by cluster, and what the stop left of its clients.

@@ -2,11 +2,11 @@
 ghost use Rattle.std.specs.Prelude.{◌≡◌, ◌<◌, ◌^◌, ◌++◌, length, map, IfOk, OnOk};
 ghost use Rattle.std.specs.List.{All};
 ghost use Rattle.client.specs.State.{stopped};
-ghost use Rattle.state_brokers.specs.Nodes.{broker_of};
+ghost use Rattle.state_nodes.specs.Nodes.{broker_of};
 ghost use Rattle.state_file.specs.State.{state_of};
 ghost use Rattle.state_file.specs.Texts.{body_text, clients_text, declared_text, nodes_from, state_text};
 ghost use Rattle.state_file.specs.Writing.{CanSave};
-ghost use Rattle.state_brokers.specs.Writing.{CanWrite};
+ghost use Rattle.state_nodes.specs.Writing.{CanWrite};
 
 use crate::front::MAGIC;
 use crate::loading::NEWEST;
@@ -14,9 +14,8 @@ use crate::saved::Saved;
 use client::ClientState;
 use geo_base::{Blob, ClusterName, Memory};
 use script_text::{Scenario, write_declarations};
-use state_brokers::{NodeParts, put_counts, put_node};
-use state_clients::put_client;
 use state_items::{put_number, put_word};
+use state_nodes::{NodeParts, put_client, put_counts, put_node};
 use std::alloc::Global;
 
 /// The bytes of a state.

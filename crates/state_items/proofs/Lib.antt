@@ -6,3 +6,8 @@ pub mod Gaps
 pub mod Many
 pub mod Again
 pub mod Known
+pub mod Origins
+pub mod Written
+pub mod Stored
+pub mod Told
+pub mod One

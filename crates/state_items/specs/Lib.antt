@@ -6,3 +6,7 @@ pub mod Runs
 pub mod Texts
 pub mod Ranges
 pub mod Fitting
+pub mod Origins
+pub mod Stored
+pub mod EntryTexts
+pub mod Told

@@ -10,8 +10,8 @@ use Rattle.std.proofs.lemmas.Str.Ascii.{IsAscii-nil, IsAscii-cons}
 use Rattle.geo_base.specs.Builder.{second_id, snapshot_id}
 use Rattle.geo_base.specs.Entry.{marker_producer}
 use Rattle.geo_base.specs.Name.{is_name, most_name_bytes, name_byte}
-use Rattle.script_names.proofs.Digits.{decimal_digits}
-use Rattle.script_names.specs.Numbers.{is_digit}
+use Rattle.script_rows.proofs.Digits.{decimal_digits}
+use Rattle.script_rows.specs.Numbers.{is_digit}
 use Rattle.world_laws.proofs.Types.{Position}
 use Rattle.world_laws.proofs.Effects.{Each, each_both}
 use Rattle.world_laws.proofs.Ids.{IsSmall}

@@ -7,8 +7,8 @@ use Rattle.geo_base.specs.declared.client.Line.{Line}
 use Rattle.geo_base.specs.declared.entry.Ident.{Ident}
 use Rattle.geo_base.specs.Client.{Client}
 use Rattle.geo_base.specs.Setup.{Setup, declared_at}
-use Rattle.state_clients.specs.Clients.{is_done, is_flow, is_in_force, is_pub, is_sub}
-use Rattle.state_clients.specs.Fitting.{IsClientState, IsIdent, IsPublish}
+use Rattle.state_nodes.specs.Clients.{is_done, is_flow, is_in_force, is_pub, is_sub}
+use Rattle.state_nodes.specs.ClientFitting.{IsClientState, IsIdent, IsPublish}
 use Rattle.world_laws.specs.Starts.{IsStartClient}
 use Rattle.world_laws.proofs.Walk.{both}
 use Rattle.state_laws.proofs.Ascii.{low_readable}

@@ -21,7 +21,7 @@ use Rattle.world_laws.proofs.ClientRoams.{good_client}
 use Rattle.world_laws.proofs.Effects.{Each, each_both, each_map}
 use Rattle.world_laws.proofs.Walk.{left, on_if, on_test, right}
 use Rattle.state_laws.proofs.Clients.{IsClientSteady}
-use Rattle.state_clients.specs.Clients.{is_flow, is_pub, is_sub}
+use Rattle.state_nodes.specs.Clients.{is_flow, is_pub, is_sub}
 
 -- a line of a kind is done
 pub record WasDone (kind : Line → Bool) (lines : List Line) (done i : ℕ) : Type 0 where

@@ -34,9 +34,9 @@ use Rattle.frame_values.specs.Texts.{marker_number, metadata_of, payload_text}
 use Rattle.frame_values.proofs.Counting.{varint_most}
 use Rattle.frame_values.proofs.Sized.{field_size, fields_size, length-text}
 use Rattle.frame_laws.proofs.Plain.{entry_told, source_told}
-use Rattle.state_entries.specs.Origins.{number_of, origin_of}
-use Rattle.state_entries.specs.Texts.{HasTexts, metadata_text, source_of, with_rest}
-use Rattle.state_entries.specs.Told.{IsTold}
+use Rattle.state_items.specs.Origins.{number_of, origin_of}
+use Rattle.state_items.specs.EntryTexts.{HasTexts, metadata_text, source_of, with_rest}
+use Rattle.state_items.specs.Told.{IsTold}
 use Rattle.world_laws.specs.Plain.{IsPlainContent, IsPlainEntry}
 use Rattle.world_laws.proofs.Walk.{left, on_if, right}
 use Rattle.state_laws.proofs.Ascii.{IsNameText, low_utf8, name_text, named_text}

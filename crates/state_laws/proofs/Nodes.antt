@@ -15,8 +15,8 @@ use Rattle.geo_base.specs.Topic.{accepts, next_marker}
 use Rattle.durable_parts.specs.Durable.{durable_part}
 use Rattle.cursor_acks.proofs.Sets.{Rising}
 use Rattle.state_items.specs.Fitting.{AllFit}
-use Rattle.state_brokers.specs.Entries.{is_in_turn}
-use Rattle.state_brokers.specs.Fitting.{IsDurable, IsNextEntry, IsPlace, IsSender, IsSub}
+use Rattle.state_nodes.specs.Entries.{is_in_turn}
+use Rattle.state_nodes.specs.Fitting.{IsDurable, IsNextEntry, IsPlace, IsSender, IsSub}
 use Rattle.world_laws.specs.Indexes.{AreBelow, HasIndexes}
 use Rattle.world_laws.specs.Starts.{AreStored, IsNextStored, IsStartBroker, IsStartSub, most_at_start}
 use Rattle.world_laws.proofs.Effects.{Each}

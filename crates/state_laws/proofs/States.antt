@@ -17,10 +17,10 @@ use Rattle.durable_parts.specs.Durable.{durable_part}
 use Rattle.script_text.proofs.AllBack.{declarations_back}
 use Rattle.script_text.specs.Scenario.{IsScenario}
 use Rattle.script_text.specs.Script.{Script}
-use Rattle.state_clients.specs.Fitting.{IsClientState}
+use Rattle.state_nodes.specs.ClientFitting.{IsClientState}
 use Rattle.state_file.specs.Fitting.{AreClients, AreDurable, IsState}
 use Rattle.state_file.specs.State.{state_in}
-use Rattle.state_brokers.specs.Fitting.{IsDurable}
+use Rattle.state_nodes.specs.Fitting.{IsDurable}
 use Rattle.world_laws.specs.Plain.{IsPlainEntry}
 use Rattle.world_laws.specs.Starts.{IsStart, IsStartClient, resumed_world}
 use Rattle.world_laws.proofs.Effects.{Each}

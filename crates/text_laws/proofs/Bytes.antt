@@ -4,7 +4,7 @@ use Rattle.std.specs.List.{join_with_byte, list_all}
 use Rattle.std.proofs.lemmas.Bool.{and_from, and_parts, both_ways, eq-eqb, ne_eqb}
 use Rattle.std.proofs.lemmas.List.Elements.{All-from_get_or}
 use Rattle.std.proofs.lemmas.List.Splits.{slice_split_at, slice_split_none}
-use Rattle.script_names.specs.Words.{Word, cut_by}
+use Rattle.script_rows.specs.NameWords.{Word, cut_by}
 use Rattle.script_rows.proofs.Back.{passes}
 use Rattle.world_laws.proofs.Effects.{Each}
 

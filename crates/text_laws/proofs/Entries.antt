@@ -15,7 +15,7 @@ use Rattle.geo_base.specs.Name.{is_name}
 use Rattle.geo_base.specs.Report.{printed, shown_cluster_position, shown_key, shown_marker, shown_position}
 use Rattle.geo_base.specs.Scripted.{names_some}
 use Rattle.geo_base.specs.TraceText.{shown_by}
-use Rattle.script_names.specs.Words.{Word}
+use Rattle.script_rows.specs.NameWords.{Word}
 use Rattle.script_rows.specs.Words.{words_of}
 use Rattle.script_rows.specs.Written.{AreNames}
 use Rattle.trace_lines.specs.Entries.{cluster_positions_of, marked, told_positions_of, what_of}

@@ -15,7 +15,7 @@ use Rattle.geo_base.specs.Scripted.{IsScripted}
 use Rattle.geo_base.specs.Setup.{Setup}
 use Rattle.geo_base.specs.Traced.{cause_of, planned_items}
 use Rattle.geo_base.specs.World.{World, node, topic_at}
-use Rattle.script_names.specs.Words.{Word}
+use Rattle.script_rows.specs.NameWords.{Word}
 use Rattle.script_text.specs.Scenario.{IsClient}
 use Rattle.world_laws.specs.Plain.{AreClusters, HasClusters, IsPlainContent, IsPlainEntry}
 use Rattle.world_laws.proofs.Added.{after_is, appended}

@@ -24,7 +24,7 @@ use Rattle.geo_base.specs.Topic.{accepts, grown, next_position, or_first, positi
 use Rattle.geo_base.specs.Traced.{SnapshotAt, acts_of, cause_of, cursor_of, gained, least_snapshot, position_read, snapshot_position, snapshot_told, snapshots_from, told_at}
 use Rattle.geo_base.specs.World.{site}
 use Rattle.cursor_acks.proofs.Sets.{Rising, rising_higher, rising_with_indexes}
-use Rattle.script_names.specs.Words.{Word}
+use Rattle.script_rows.specs.NameWords.{Word}
 use Rattle.world_laws.proofs.Answering.{Numbered}
 use Rattle.world_laws.proofs.Counts.{HasRoom}
 use Rattle.world_laws.proofs.Effects.{Each}

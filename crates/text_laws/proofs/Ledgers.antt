@@ -14,7 +14,7 @@ use Rattle.geo_base.specs.Sizes.{entry_size, marker_type, most_entry_size}
 use Rattle.geo_base.specs.Laws.{IsShort}
 use Rattle.geo_base.specs.World.{World, topic_at}
 use Rattle.frame_values.specs.Texts.{marker_number}
-use Rattle.ledger_texts.specs.Readable.{AreReadable, AreTellable, IsReadable}
+use Rattle.tiered_ledger.specs.Readable.{AreReadable, AreTellable, IsReadable}
 use Rattle.message_meta.specs.Known.{IsRest}
 use Rattle.world_laws.specs.Plain.{IsPlainContent, IsPlainEntry}
 use Rattle.world_laws.proofs.Effects.{Each}

@@ -18,8 +18,8 @@ use Rattle.geo_base.specs.Report.{printed, shown_content, shown_key, shown_posit
 use Rattle.geo_base.specs.Setup.{Setup}
 use Rattle.geo_base.specs.TraceItems.{Act, Acks, Appends, Begins, Creates, Deletes, Item, Seeks, Writes}
 use Rattle.geo_base.specs.TraceText.{item_line, ranges_of, shown_by, shown_cause, shown_ranges, shown_start}
-use Rattle.script_names.specs.Names.{name_at}
-use Rattle.script_names.specs.Words.{Word}
+use Rattle.script_rows.specs.NameBytes.{name_at}
+use Rattle.script_rows.specs.NameWords.{Word}
 use Rattle.script_rows.specs.Words.{words_of}
 use Rattle.script_rows.specs.Written.{AreNames}
 use Rattle.script_rows.proofs.Back.{is_name_at}

@@ -15,9 +15,9 @@ use Rattle.geo_base.specs.Client.{target_names}
 use Rattle.geo_base.specs.Name.{is_name, name_byte}
 use Rattle.geo_base.specs.Report.{commas, shown_targets}
 use Rattle.geo_base.specs.Scripted.{AreDistinct, names_some}
-use Rattle.script_names.specs.Names.{AreApart, is_among, mask_of, names_in}
-use Rattle.script_names.specs.Words.{Word, listed}
-use Rattle.script_names.proofs.Masks.{mask_back}
+use Rattle.script_rows.specs.NameBytes.{AreApart, is_among, mask_of, names_in}
+use Rattle.script_rows.specs.NameWords.{Word, listed}
+use Rattle.script_rows.proofs.Masks.{mask_back}
 use Rattle.script_rows.specs.Written.{AreNames}
 use Rattle.trace_lines.specs.Words.{is_list, targets_of}
 use Rattle.world_laws.proofs.Effects.{Each}

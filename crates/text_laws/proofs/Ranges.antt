@@ -14,9 +14,9 @@ use Rattle.cursor_acks.specs.declared.range.IndexRange.{IndexRange as AckedRange
 use Rattle.cursor_acks.specs.Ranges.{indexes_of}
 use Rattle.cursor_acks.proofs.Sets.{Rising}
 use Rattle.geo_base.specs.TraceText.{IndexRange, joined, ranges_of, shown_range, shown_ranges}
-use Rattle.script_names.specs.Numbers.{is_digit}
-use Rattle.script_names.specs.Words.{Word, cut_by, listed}
-use Rattle.script_names.proofs.Digits.{decimal_digits}
+use Rattle.script_rows.specs.Numbers.{is_digit}
+use Rattle.script_rows.specs.NameWords.{Word, cut_by, listed}
+use Rattle.script_rows.proofs.Digits.{decimal_digits}
 use Rattle.trace_lines.specs.Ranges.{least_behind, range_in, ranges_from, ranges_of as ranges_read}
 use Rattle.world_laws.proofs.Effects.{Each}
 use Rattle.text_laws.proofs.Bytes.{Lacks, cut_joined, lacks, weaker}

@@ -14,7 +14,7 @@ use Rattle.geo_base.specs.Setup.{Setup}
 use Rattle.geo_base.specs.TraceItems.{Begins, Item, Writes}
 use Rattle.geo_base.specs.TraceText.{item_line, trace_lines}
 use Rattle.geo_base.specs.Traced.{traced}
-use Rattle.script_names.specs.Words.{cut_by}
+use Rattle.script_rows.specs.NameWords.{cut_by}
 use Rattle.trace_lines.specs.Lines.{item_read}
 use Rattle.trace_lines.specs.Words.{is_printable}
 use Rattle.trace_laws.specs.Seen.{world_seen}

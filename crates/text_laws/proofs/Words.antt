@@ -17,10 +17,10 @@ use Rattle.geo_base.specs.Builder.{second_id, snapshot_id}
 use Rattle.geo_base.specs.Name.{is_name, name_byte}
 use Rattle.geo_base.specs.Report.{printed, shown_cluster_position, shown_key, shown_position}
 use Rattle.geo_base.specs.Sizes.{place_name}
-use Rattle.script_names.specs.Names.{is_among, name_at}
-use Rattle.script_names.specs.Numbers.{is_digit}
-use Rattle.script_names.specs.Words.{Word, cut_by}
-use Rattle.script_names.proofs.Digits.{decimal_digits, number_back}
+use Rattle.script_rows.specs.NameBytes.{is_among, name_at}
+use Rattle.script_rows.specs.Numbers.{is_digit}
+use Rattle.script_rows.specs.NameWords.{Word, cut_by}
+use Rattle.script_rows.proofs.Digits.{decimal_digits, number_back}
 use Rattle.script_rows.specs.Written.{AreNames}
 use Rattle.script_rows.proofs.Back.{is_name_at, number_at}
 use Rattle.trace_lines.specs.Words.{cluster_position_of, declared, is_printable, is_text, key_of, number, place_of, position_of, sub_of, text_of}

@@ -8,7 +8,7 @@ use Rattle.geo_base.specs.Setup.{Setup}
 use Rattle.geo_base.specs.TraceItems.{Item}
 use Rattle.geo_base.specs.TraceText.{item_line, trace_lines}
 use Rattle.geo_base.specs.Traced.{traced}
-use Rattle.script_names.specs.Words.{cut_by}
+use Rattle.script_rows.specs.NameWords.{cut_by}
 use Rattle.script_text.specs.Scenario.{IsScenario}
 use Rattle.script_text.specs.Script.{Script}
 use Rattle.trace_lines.specs.Lines.{item_read}

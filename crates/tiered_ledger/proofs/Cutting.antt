@@ -8,9 +8,9 @@ use Rattle.std.proofs.lemmas.List.Sums.{sum_by-cons}
 use Rattle.geo_base.specs.declared.entry.Entry.{Entry}
 use Rattle.geo_base.specs.declared.position.Position.{Position}
 use Rattle.geo_base.specs.Topic.{last_length, next_position}
-use Rattle.ledger_texts.specs.Readable.{AreTellable}
-use Rattle.tier_store.specs.Kept.{Kept}
-use Rattle.topic_ledger.specs.Firsts.{lengths_of}
+use Rattle.tiered_ledger.specs.Readable.{AreTellable}
+use Rattle.topic_upkeep.specs.Kept.{Kept}
+use Rattle.topic_store.specs.Firsts.{lengths_of}
 use Rattle.tiered_ledger.specs.declared.part.Part.{Part}
 use Rattle.tiered_ledger.specs.declared.part.Part.TheVariants as part
 use Rattle.tiered_ledger.specs.Calls.{is_away}

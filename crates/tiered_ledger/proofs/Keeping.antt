@@ -4,11 +4,11 @@ use Rattle.std.specs.Prelude.{Option, Some, None, Result, Err, IfSome, not, ifâ—
 use Rattle.std.proofs.lemmas.Bool.Decides.{nat_tests}
 use Rattle.std.proofs.lemmas.Option.{slice_get_read}
 use Rattle.geo_base.specs.declared.entry.Entry.{Entry}
-use Rattle.ledger_texts.specs.Readable.{AreReadable}
-use Rattle.ledger_texts.specs.Texts.{ledger_text}
-use Rattle.tier_store.specs.declared.tier.Held.{Held}
-use Rattle.tier_store.specs.declared.tier.Held.TheVariants as held
-use Rattle.tier_store.specs.Kept.{IsRead, Kept, KeepsAll, KeepsOthers, MayPut, Puts}
+use Rattle.tiered_ledger.specs.Readable.{AreReadable}
+use Rattle.tiered_ledger.specs.Texts.{ledger_text}
+use Rattle.topic_upkeep.specs.declared.tier.Held.{Held}
+use Rattle.topic_upkeep.specs.declared.tier.Held.TheVariants as held
+use Rattle.topic_upkeep.specs.Kept.{IsRead, Kept, KeepsAll, KeepsOthers, MayPut, Puts}
 use Rattle.tiered_ledger.specs.declared.part.Part.{Part}
 use Rattle.tiered_ledger.specs.declared.part.Part.TheVariants as part
 use Rattle.tiered_ledger.specs.declared.part.Recalled.{Recalled}

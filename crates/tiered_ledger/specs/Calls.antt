@@ -5,8 +5,8 @@ use Rattle.geo_base.specs.declared.entry.Entry.{Entry}
 use Rattle.geo_base.specs.declared.position.Position.{Position}
 use Rattle.geo_base.specs.Topic.{position_of}
 use Rattle.geo_io.specs.Faults.{one_more}
-use Rattle.tier_store.specs.declared.tier.TierGet.{TierGet}
-use Rattle.tier_store.specs.declared.tier.TierGet.TheVariants as get
+use Rattle.topic_upkeep.specs.declared.tier.TierGet.{TierGet}
+use Rattle.topic_upkeep.specs.declared.tier.TierGet.TheVariants as get
 use Rattle.tiered_ledger.specs.declared.fault.TierFault.{TierFault}
 use Rattle.tiered_ledger.specs.declared.fault.TierFault.TheVariants as tier_fault
 use Rattle.tiered_ledger.specs.declared.fault.OffloadFault.{OffloadFault}

@@ -1,7 +1,7 @@
 -- The entries of a topic, ledger by ledger.
 use Rattle.std.specs.Prelude.{ℕ, ◌<◌, zero, suc, List, [], ◌∷◌, drop, length, take}
 use Rattle.geo_base.specs.declared.entry.Entry.{Entry}
-use Rattle.topic_ledger.specs.Firsts.{AreFirsts}
+use Rattle.topic_store.specs.Firsts.{AreFirsts}
 
 -- the entries of ledger k, where the ledgers have these lengths
 abbrev pub entries_in : List ℕ → List Entry → ℕ → List Entry

@@ -3,9 +3,9 @@ use Rattle.std.specs.Prelude.{◌≡◌, ℕ, ◌<◌, ◌≤◌, ◌^◌, List,
 use Rattle.std.specs.List.{sum}
 use Rattle.geo_base.specs.declared.entry.Entry.{Entry}
 use Rattle.geo_base.specs.Topic.{next_position}
-use Rattle.ledger_texts.specs.Readable.{AreReadable, AreTellable}
-use Rattle.ledger_texts.specs.Texts.{ledger_text}
-use Rattle.tier_store.specs.Kept.{Kept}
+use Rattle.tiered_ledger.specs.Readable.{AreReadable, AreTellable}
+use Rattle.tiered_ledger.specs.Texts.{ledger_text}
+use Rattle.topic_upkeep.specs.Kept.{Kept}
 use Rattle.tiered_ledger.specs.declared.part.Part.{Part}
 use Rattle.tiered_ledger.specs.declared.part.Part.TheVariants as part
 use Rattle.tiered_ledger.specs.declared.part.Recalled.{Recalled}

@@ -5,12 +5,12 @@ ghost use Rattle.std.specs.Option.{option_copied};
 ghost use Rattle.geo_base.specs.Topic.{position_of};
 ghost use Rattle.tiered_ledger.specs.Ledgers.{AreFirstsIfAny, entries_in};
 ghost use Rattle.tiered_ledger.specs.Tiered.{all_here, part_length};
-ghost use Rattle.topic_ledger.specs.Firsts.{lengths_of};
+ghost use Rattle.topic_store.specs.Firsts.{lengths_of};
 
 use crate::part::Part;
 use geo_base::{Entry, EntryStore, Memory, Position, Sequence};
 use std::alloc::Global;
-use topic_ledger::firsts;
+use topic_store::firsts;
 
 /// All ledgers of a store, each with copies of its entries. An `Err` is want of memory.
 pub fn parts_of<S: EntryStore>(alloc: Global, store: &S) -> Result<Vec<Part>, Memory>

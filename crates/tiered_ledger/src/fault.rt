@@ -5,7 +5,7 @@ ghost use Rattle.tiered_ledger.specs.declared.fault.TierFault.TheVariants as tie
 
 use geo_base::Memory;
 use thiserror::Error;
-use tier_store::{Failed, TierGet};
+use topic_upkeep::{Failed, TierGet};
 
 /// Why a ledger was not offloaded. It is not, and the list of entries is as it was. The first two come exactly where their rules say.
 #[derive(Clone, Copy, Debug, Drop, PartialEq, Eq, Error)]

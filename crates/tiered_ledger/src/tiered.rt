@@ -2,8 +2,8 @@
 ghost use Rattle.std.specs.Prelude.{◌≡◌, ◌≤◌, ◌<◌, not, true, is_ok, if◌then◌else◌, ℕ, List, Some, IfOk, IsErrOf, OnOk, length, slice_get, slice_set};
 ghost use Rattle.geo_base.specs.declared.entry.Entry.{Entry};
 ghost use Rattle.geo_io.specs.Faults.{Rose, one_more};
-ghost use Rattle.ledger_texts.specs.Readable.{AreReadable, AreTellable};
-ghost use Rattle.ledger_texts.specs.Texts.{ledger_text};
+ghost use Rattle.tiered_ledger.specs.Readable.{AreReadable, AreTellable};
+ghost use Rattle.tiered_ledger.specs.Texts.{ledger_text};
 ghost use Rattle.tiered_ledger.specs.Calls.{AtMostOne, Comes, asks, calls_if, fault_of, is_ledger, is_offloaded, offloaded, recalled_after, recalled_entry};
 ghost use Rattle.tiered_ledger.specs.Ledgers.{entries_in};
 ghost use Rattle.tiered_ledger.specs.Tiered.{Holds, fresh};
@@ -11,13 +11,13 @@ ghost use Rattle.tiered_ledger.specs.Tiered.{Holds, fresh};
 use crate::cut::{firsts_of, lengths_of, parts_of, position_of};
 use crate::fault::{OffloadFault, TierFault};
 use crate::part::{Part, Recalled};
+use crate::{put_ledger, read_ledger};
 use geo_base::limits::CLUSTERS;
 use geo_base::{Blob, ClusterName, Entry, EntryStore, Memory, Sequence};
-use ledger_texts::{put_ledger, read_ledger};
 use state_items::ItemFault;
 use std::alloc::Global;
 use std::marker::Model;
-use tier_store::{Held, Tier};
+use topic_upkeep::{Held, Tier};
 
 /// A topic's entries, of which closed ledgers may stand in a tier. It is the topic of the cluster `own`.
 #[derive(Drop)]
@@ -32,7 +32,7 @@ pub struct TieredLedger<T> {
 }
 
 impl<T> Model for TieredLedger<T> {
-    ghost use Rattle.topic_ledger.specs.Firsts.{lengths_of};
+    ghost use Rattle.topic_store.specs.Firsts.{lengths_of};
     ghost use Rattle.tiered_ledger.specs.Ledgers.{AreFirstsIfAny};
     ghost use Rattle.tiered_ledger.specs.Tiered.{Tiered};
 

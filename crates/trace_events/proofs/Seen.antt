@@ -9,8 +9,8 @@ use Rattle.geo_base.specs.declared.marker.Marker.TheVariants as marker
 use Rattle.geo_base.specs.Broker.{Broker, Site}
 use Rattle.geo_base.specs.Traced.{least_snapshot, snapshot_position, snapshot_told, snapshots_from}
 use Rattle.broker.specs.Node.{BrokerBook}
-use Rattle.trace_acts.specs.Snapshots.{Snapshots, TellsBeginning, table_at}
-use Rattle.trace_acts.specs.Told.{told_by}
+use Rattle.trace_events.specs.SnapshotTables.{Snapshots, TellsBeginning, table_at}
+use Rattle.trace_events.specs.Told.{told_by}
 use Rattle.trace_events.specs.Snapshots.{HaveSeen, Knows, number_of}
 
 pub told_is : (h : Site) (b : Broker) (e : Entry) (n : ℕ) → n ≡ length h.clusters → e.ident.origin ≡ h.own

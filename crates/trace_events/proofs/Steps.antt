@@ -18,9 +18,9 @@ use Rattle.broker_state.specs.declared.write.BookWrite.{BookWrite}
 use Rattle.broker_state.specs.declared.write.BookWrite.TheVariants as book_write
 use Rattle.broker_state.specs.Fits.{AllWritesFit, WriteFits}
 use Rattle.broker_state.specs.Writes.{machine_write}
-use Rattle.trace_acts.specs.Naming.{Naming, act_line}
+use Rattle.trace_events.specs.Naming.{Naming, act_line}
 use Rattle.report_lines.proofs.Added.{drop_here}
-use Rattle.trace_acts.specs.Acts.{acts_before}
+use Rattle.trace_events.specs.Acts.{acts_before}
 use Rattle.trace_events.specs.Writes.{IsWithin, SubIsWithin, lines_of, naming}
 
 -- ---- one write

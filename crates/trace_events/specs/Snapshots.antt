@@ -1,7 +1,7 @@
 -- What is known of the snapshots in a broker's topic.
 use Rattle.std.specs.Prelude.{◌≡◌, ℕ, ◌+◌, ◌*◌, List, length}
 use Rattle.broker.specs.Node.{BrokerBook}
-use Rattle.trace_acts.specs.Snapshots.{Snapshots, TellsBeginning, table_at}
+use Rattle.trace_events.specs.SnapshotTables.{Snapshots, TellsBeginning, table_at}
 
 -- a broker's number among all, as the machine numbers them
 abbrev pub number_of : BrokerBook → ℕ

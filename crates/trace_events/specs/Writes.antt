@@ -12,7 +12,7 @@ use Rattle.broker_subs.specs.declared.writing.SubWrite.{SubWrite}
 use Rattle.broker_subs.specs.declared.writing.SubWrite.TheVariants as sub_write
 use Rattle.broker_state.specs.declared.write.BookWrite.{BookWrite}
 use Rattle.broker_state.specs.declared.write.BookWrite.TheVariants as book_write
-use Rattle.trace_acts.specs.Naming.{Naming, act_line}
+use Rattle.trace_events.specs.Naming.{Naming, act_line}
 
 -- the topic and the cluster of a broker, by their names
 abbrev pub naming : Site → Naming

@@ -7,7 +7,7 @@ ghost use Rattle.trace_events.specs.Writes.{ReadsWithin};
 
 use broker::Broker;
 use geo_base::{Cause, EntryStore, Event, Position};
-use topic_ledger::or_first;
+use topic_store::or_first;
 
 /// The cause of what an event of a broker acknowledges: a marker that is offered, an update that is read, or else a client.
 pub(crate) fn cause_of(node: &Broker, event: &Event) -> Cause

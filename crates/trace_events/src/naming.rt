@@ -3,8 +3,8 @@ ghost use Rattle.std.specs.Prelude.{◌≡◌, ◌≤◌, length};
 ghost use Rattle.trace_events.specs.Snapshots.{number_of};
 ghost use Rattle.trace_events.specs.Writes.{naming};
 
+use crate::Naming;
 use broker::Broker;
-use trace_acts::Naming;
 
 /// The topic and the cluster of a broker, by their names.
 pub(crate) fn naming(node: &Broker) -> Naming<'_>

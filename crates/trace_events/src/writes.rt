@@ -8,25 +8,25 @@ ghost use Rattle.geo_base.specs.Broker.{sub_named};
 ghost use Rattle.geo_base.specs.TraceItems.{Acks, Appends};
 ghost use Rattle.geo_base.specs.Topic.{next_position};
 ghost use Rattle.geo_base.specs.Traced.{act_of, cause_of, cursor_of, gained, snapshot_told};
-ghost use Rattle.trace_acts.specs.Acts.{acts_before};
-ghost use Rattle.trace_acts.specs.Naming.{act_line};
+ghost use Rattle.trace_events.specs.Acts.{acts_before};
+ghost use Rattle.trace_events.specs.Naming.{act_line};
 ghost use Rattle.trace_events.specs.Snapshots.{HaveSeen, Knows};
 ghost use Rattle.trace_events.specs.Writes.{IsWithin, ReadsWithin, SubIsWithin, indexes_acked, lines_of, naming};
 
 use crate::cause::cause_of;
 use crate::naming::naming;
-use crate::snapshots::snapshot_told;
+use crate::snapshot_lines::snapshot_told;
 use crate::subs::{cursor_of, name_of};
+use crate::{
+    Telling, add_acks, add_append, add_create, add_delete, add_seek, gained_each, gained_passed,
+    gained_to,
+};
 use broker::Broker;
 use broker_state::{BookWrite, Plan};
 use broker_subs::SubWrite;
 use cursor_acks::Cursor;
 use geo_base::{Blob, Cause, Entry, EntryStore, Event, Memory};
 use std::alloc::Global;
-use trace_acts::{
-    Telling, add_acks, add_append, add_create, add_delete, add_seek, gained_each, gained_passed,
-    gained_to,
-};
 
 /// Appends the lines of the first `count` durable writes of an event that is prepared at a broker, in their order. An `Err` is want of
 /// memory, and then the lines before stand, with a part of what was to be appended or none.

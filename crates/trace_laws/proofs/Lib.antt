@@ -23,3 +23,23 @@ pub mod SettledEvents
 pub mod Strays
 pub mod SettledPlans
 pub mod SettledRuns
+pub mod Lasting
+pub mod Passed
+pub mod Given
+pub mod Proved
+pub mod Running
+pub mod SameIds
+pub mod AgainTraced
+pub mod TracedRuns
+pub mod Behind
+pub mod Passing
+pub mod AgainSettling
+pub mod Never
+pub mod Consumers
+pub mod CalmWalk
+pub mod ClientSends
+pub mod ClientLinks
+pub mod Meeting
+pub mod Getting
+pub mod GotLines
+mod Example

@@ -1,2 +1,8 @@
 pub mod Audited
 pub mod Seen
+pub mod Since
+pub mod PassedOver
+pub mod Again
+pub mod Behind
+pub mod Run
+pub mod Got

@@ -2,7 +2,7 @@
 use Rattle.std.proofs.Common.{◌≡◌, ◌∙◌, ℕ, Bool, false, if◌then◌else◌, List, [], ◌∷◌, Option, Some, None, ap, codes, sym}
 use Rattle.std.specs.Str.{bytes_eq}
 use Rattle.geo_base.specs.TraceItems.{Act, Begins, Item, Writes}
-use Rattle.script_names.specs.Words.{Word}
+use Rattle.script_rows.specs.NameWords.{Word}
 use Rattle.script_rows.specs.Words.{◌>>=◌, words_of}
 use Rattle.trace_lines.specs.Lines.{act_of, event_of, item_of, item_read, write_of}
 use Rattle.trace_lines.specs.Names.{DeclaredNames}

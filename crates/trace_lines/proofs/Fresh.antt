@@ -6,8 +6,8 @@ use Rattle.std.proofs.lemmas.List.Elements.{All-from_get_or}
 use Rattle.std.proofs.lemmas.List.Folds.{list_any_none}
 use Rattle.std.proofs.lemmas.Option.{slice_get-get_or}
 use Rattle.geo_base.specs.Scripted.{AreDistinct}
-use Rattle.script_names.specs.Names.{is_among}
-use Rattle.script_names.specs.Words.{Word}
+use Rattle.script_rows.specs.NameBytes.{is_among}
+use Rattle.script_rows.specs.NameWords.{Word}
 
 pub fresh : (xs : List Word) (i : ℕ) (x : Word) → AreDistinct xs → i < length xs → x ≡ get_or xs i x → is_among (take i xs) x ≡ false
 fresh xs i x apart within is =

@@ -1,6 +1,6 @@
 -- What has one part too many has no form.
 use Rattle.std.proofs.Common.{◌≡◌, ◌<◌, List, [], ◌∷◌, length, None, arith, refl}
-use Rattle.script_names.specs.Words.{Word}
+use Rattle.script_rows.specs.NameWords.{Word}
 use Rattle.trace_lines.specs.Ranges.{range_in}
 use Rattle.trace_lines.specs.Words.{pair_in}
 

@@ -6,8 +6,8 @@ use Rattle.std.proofs.Common.{false}
 use Rattle.std.specs.Prelude.{codes}
 use Rattle.cursor_acks.specs.declared.range.IndexRange.{IndexRange}
 use Rattle.geo_base.specs.declared.marker.ClusterPosition.{ClusterPosition}
-use Rattle.script_names.specs.Words.{Word, cut_by}
-use Rattle.script_rows.proofs.Parts.{one_more}
+use Rattle.script_rows.specs.NameWords.{Word, cut_by}
+use Rattle.script_rows.proofs.WordParts.{one_more}
 use Rattle.trace_lines.specs.declared.line.ToldPositions.{ToldPositions}
 use Rattle.trace_lines.specs.Entries.{cluster_positions_of, told_positions_of}
 use Rattle.trace_lines.specs.Ranges.{last_of, least_behind, range_in, ranges_from}

@@ -5,9 +5,9 @@ use Rattle.std.proofs.lemmas.List.{append_assoc}
 use Rattle.std.proofs.lemmas.List.Splits.{join_with_byte-slice_split}
 use Rattle.geo_base.specs.declared.entry.Content.TheVariants as content
 use Rattle.geo_base.specs.declared.marker.ClusterPosition.{ClusterPosition}
-use Rattle.script_names.specs.Words.{Word, given}
+use Rattle.script_rows.specs.NameWords.{Word, given}
 use Rattle.script_rows.specs.Words.{◌>>=◌, words_of}
-use Rattle.script_rows.proofs.Parts.{has_parts}
+use Rattle.script_rows.proofs.WordParts.{has_parts}
 use Rattle.trace_lines.specs.Words.{is_printable}
 use Rattle.trace_lines.specs.declared.line.ToldPositions.{ToldPositions}
 use Rattle.trace_lines.specs.declared.line.What.{What}

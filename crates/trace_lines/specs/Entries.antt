@@ -12,7 +12,7 @@ use Rattle.geo_base.specs.declared.marker.ClusterPosition.{ClusterPosition}
 use Rattle.geo_base.specs.declared.marker.Marker.TheVariants as marker
 use Rattle.geo_base.specs.declared.position.Position.{Position}
 use Rattle.geo_base.specs.Client.{target_names}
-use Rattle.script_names.specs.Words.{Word, given}
+use Rattle.script_rows.specs.NameWords.{Word, given}
 use Rattle.script_rows.specs.Words.{◌>>=◌}
 use Rattle.trace_lines.specs.Words.{is_printable}
 use Rattle.trace_lines.specs.declared.line.ToldPositions.{ToldPositions}

@@ -8,7 +8,7 @@ use Rattle.geo_base.specs.declared.planned.Cause.TheVariants as cause
 use Rattle.geo_base.specs.declared.position.Position.{Position}
 use Rattle.trace_lines.specs.Names.{DeclaredNames}
 use Rattle.geo_base.specs.TraceItems.{Act, Acks, Appends, Begins, Creates, Deletes, Item, Seeks, Writes}
-use Rattle.script_names.specs.Words.{Word}
+use Rattle.script_rows.specs.NameWords.{Word}
 use Rattle.script_rows.specs.Words.{◌>>=◌, words_of}
 use Rattle.trace_lines.specs.Entries.{entry_with, what_of}
 use Rattle.trace_lines.specs.Ranges.{ranges_of}

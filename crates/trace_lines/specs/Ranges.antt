@@ -2,7 +2,7 @@
 use Rattle.std.specs.Prelude.{ℕ, ◌+◌, nat_le, if◌then◌else◌, List, [], ◌∷◌, Option, Some, None, codes}
 use Rattle.std.specs.Str.{bytes_eq}
 use Rattle.cursor_acks.specs.declared.range.IndexRange.{IndexRange}
-use Rattle.script_names.specs.Words.{Word, cut_by, given, listed}
+use Rattle.script_rows.specs.NameWords.{Word, cut_by, given, listed}
 use Rattle.script_rows.specs.Words.{◌>>=◌}
 use Rattle.trace_lines.specs.Words.{number}
 

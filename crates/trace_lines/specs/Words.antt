@@ -9,9 +9,9 @@ use Rattle.geo_base.specs.declared.marker.Place.{Place}
 use Rattle.geo_base.specs.declared.marker.Place.TheVariants as place
 use Rattle.geo_base.specs.declared.position.Position.{Position}
 use Rattle.geo_base.specs.Name.{is_name}
-use Rattle.script_names.specs.Names.{is_among, mask_of, names_in, number_in}
-use Rattle.script_names.specs.Numbers.{number_of}
-use Rattle.script_names.specs.Words.{Word, cut_by, given, listed}
+use Rattle.script_rows.specs.NameBytes.{is_among, mask_of, names_in, number_in}
+use Rattle.script_rows.specs.Numbers.{number_of}
+use Rattle.script_rows.specs.NameWords.{Word, cut_by, given, listed}
 use Rattle.script_rows.specs.Columns.{pair_of}
 use Rattle.script_rows.specs.Words.{◌>>=◌}
 

@@ -9,7 +9,7 @@ use crate::names::{Names, target_names};
 use crate::texts::{are_printable, key_of};
 use crate::words::LineWords;
 use geo_base::{Blob, Content, Entry, Ident, Memory, Metadata, ProducerName, Targets, Text};
-use script_names::{NameTable, is_word};
+use script_rows::{NameTable, is_word};
 use std::alloc::Global;
 
 /// `data KEY TEXT`: the text is all that is left, spaces included.

@@ -15,7 +15,7 @@ use crate::ranges::AckedRanges;
 use crate::texts::{sub_of, text_in};
 use crate::words::LineWords;
 use geo_base::{Cause, Memory, Position, Text, name_text};
-use script_names::{Parts, is_word};
+use script_rows::{Parts, is_word};
 use std::alloc::Global;
 
 /// What a line says; None where it has no form.

@@ -9,7 +9,7 @@ use crate::numbers::position_of;
 use crate::texts::{sub_of, text_of};
 use crate::words::LineWords;
 use geo_base::{Blob, BoxedMarker, ClusterPosition, Content, Marker, Memory, Position, Sequence};
-use script_names::{NameTable, is_word};
+use script_rows::{NameTable, is_word};
 use std::alloc::Global;
 
 /// What is no message.

@@ -3,7 +3,7 @@ ghost use Rattle.std.specs.Prelude.{◌≡◌, ◌≤◌, [], ◌++◌, length, 
 ghost use Rattle.geo_base.specs.Client.{target_names};
 ghost use Rattle.geo_base.specs.Scripted.{AreDistinct};
 ghost use Rattle.trace_lines.specs.Words.{cluster_position_of, declared, pair_in, place_of, targets_of};
-ghost use Rattle.script_names.specs.Words.{cut_by};
+ghost use Rattle.script_rows.specs.NameWords.{cut_by};
 
 use crate::numbers::position_of;
 use crate::texts::{is_text, text_of};
@@ -11,7 +11,7 @@ use geo_base::limits::CLUSTERS;
 use geo_base::{
     ClusterName, ClusterPosition, Memory, Name, Place, Sequence, Targets, Text, TopicName,
 };
-use script_names::{NameList, NameTable, cut_at, is_word, list_word, mask_of};
+use script_rows::{NameList, NameTable, cut_at, is_word, list_word, mask_of};
 use std::alloc::Global;
 use std::marker::Model;
 
@@ -139,7 +139,7 @@ pub(crate) fn place_of(
 }
 
 /// `CLUSTER=L:E`
-#[tactic(auto, using(crate::proofs::Parts::no_place, script_rows::proofs::Parts::has_parts))]
+#[tactic(auto, using(crate::proofs::Parts::no_place, script_rows::proofs::WordParts::has_parts))]
 pub(crate) fn cluster_position_of(
     alloc: Global,
     clusters: &NameTable<'_>,

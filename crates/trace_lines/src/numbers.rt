@@ -2,11 +2,11 @@
 ghost use Rattle.std.specs.Prelude.{◌≡◌, ◌≤◌, nat_le, IfSome};
 ghost use Rattle.trace_lines.specs.Words.{number, position_of};
 ghost use Rattle.trace_lines.specs.Ranges.{least_behind, range_in};
-ghost use Rattle.script_names.specs.Words.{cut_by};
+ghost use Rattle.script_rows.specs.NameWords.{cut_by};
 
 use cursor_acks::IndexRange;
 use geo_base::Position;
-use script_names::{cut_at, number_of};
+use script_rows::{cut_at, number_of};
 
 /// A number of 64 bits.
 pub(crate) fn number(word: &[u8]) -> Option<u64>
@@ -16,7 +16,7 @@ pub(crate) fn number(word: &[u8]) -> Option<u64>
 }
 
 /// `L:E`
-#[tactic(auto, using(script_rows::proofs::Parts::no_pair, script_rows::proofs::Parts::has_parts))]
+#[tactic(auto, using(script_rows::proofs::WordParts::no_pair, script_rows::proofs::WordParts::has_parts))]
 pub(crate) fn position_of(word: &[u8]) -> Option<Position>
     ensures { result ≡ position_of word.now }
 {
@@ -31,7 +31,7 @@ pub(crate) fn position_of(word: &[u8]) -> Option<Position>
 }
 
 /// `F-L`
-#[tactic(auto, using(crate::proofs::Parts::no_range, script_rows::proofs::Parts::has_parts))]
+#[tactic(auto, using(crate::proofs::Parts::no_range, script_rows::proofs::WordParts::has_parts))]
 pub(crate) fn range_of(word: &[u8]) -> Option<IndexRange>
     ensures range { result ≡ range_in (cut_by 45 word.now) }
     ensures order { IfSome result (λ range. range.first ≤ range.last) }

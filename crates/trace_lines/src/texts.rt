@@ -4,7 +4,7 @@ ghost use Rattle.std.specs.List.{list_all};
 ghost use Rattle.trace_lines.specs.Words.{is_printable, is_text, key_of, sub_of, text_of};
 
 use geo_base::{Memory, Text, name_text};
-use script_names::is_word;
+use script_rows::is_word;
 use std::alloc::Global;
 
 /// Whether a terminal shows each byte as itself.

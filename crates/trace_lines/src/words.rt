@@ -2,7 +2,7 @@
 ghost use Rattle.std.specs.Prelude.{◌≡◌, ◌≢◌, ◌<◌, List, ℕ, [], ◌∷◌, length, MatchOption};
 ghost use Rattle.script_rows.specs.Words.{words_of};
 
-use script_names::cut_at;
+use script_rows::cut_at;
 use std::marker::Model;
 
 /// The words of a line that are left: they stand between spaces, and two spaces in a row have an empty word between them.

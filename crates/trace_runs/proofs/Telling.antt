@@ -18,8 +18,8 @@ use Rattle.geo_base.specs.TraceItems.{Acks, Act, Appends, Begins, Creates, Delet
 use Rattle.geo_base.specs.TraceText.{item_line}
 use Rattle.geo_base.specs.Traced.{acts_of, all_writes, cause_of, event_items, halt_items, planned_items, told_at}
 use Rattle.geo_base.specs.World.{World, node, site, topic_at}
-use Rattle.trace_acts.specs.Acts.{acts_before}
-use Rattle.trace_acts.specs.Naming.{act_line}
+use Rattle.trace_events.specs.Acts.{acts_before}
+use Rattle.trace_events.specs.Naming.{act_line}
 use Rattle.broker.proofs.Ready.{idle_is}
 use Rattle.broker.specs.Node.{BrokerBook}
 use Rattle.broker_state.specs.Fits.{PlanFits}

@@ -1,6 +1,6 @@
 //! An event with its lines, which are made before it is done.
 ghost use Rattle.std.specs.Prelude.{◌≡◌, ◌++◌, ◌+◌, ◌<◌, ◌^◌, ◌∷◌, [], take, OnErr, OnOk};
-ghost use Rattle.trace_acts.specs.Acts.{acts_before};
+ghost use Rattle.trace_events.specs.Acts.{acts_before};
 ghost use Rattle.broker_state.specs.Fits.{PlanFits};
 ghost use Rattle.broker_state.specs.Plan.{plan_in};
 ghost use Rattle.trace_events.specs.Snapshots.{HaveSeen, Knows};
@@ -27,8 +27,7 @@ use broker::Broker;
 use geo_base::{Event, Memory};
 use script_text::Scenario;
 use std::alloc::Global;
-use trace_acts::add_begin;
-use trace_events::add_writes;
+use trace_events::{add_begin, add_writes};
 use world::{RunFault, World};
 
 impl Trace {

@@ -15,7 +15,7 @@ use crate::trace::Trace;
 use geo_base::Step;
 use script_text::{Scenario, StepList};
 use std::alloc::Global;
-use trace_acts::{SnapshotTables, add_begin};
+use trace_events::{SnapshotTables, add_begin};
 use world::{RunFault, World};
 
 impl Trace {

@@ -6,7 +6,7 @@ use Rattle.std.specs.Str.{bytes_eq}
 use Rattle.std.proofs.lemmas.Bool.{eqb-true, false≢true}
 use Rattle.std.proofs.lemmas.Option.{none-some, same_Some}
 use Rattle.broker_plans.specs.Storable.{AreStorable, IsStorable, marker_slack, most_stored}
-use Rattle.state_entries.specs.Origins.{number_of, origin_of}
+use Rattle.state_items.specs.Origins.{number_of, origin_of}
 use Rattle.geo_base.specs.declared.entry.Entry.{Entry}
 use Rattle.geo_base.specs.declared.marker.Place.TheVariants as place
 use Rattle.geo_base.specs.Broker.{Site}
@@ -23,8 +23,8 @@ use Rattle.pb_fields.specs.Field.{IsField}
 use Rattle.pb_fields.specs.Message.{IsUnknown, row_of, unknown}
 use Rattle.pb_fields.proofs.Written.{text-fields}
 use Rattle.state_items.specs.Fitting.{AllFit}
-use Rattle.state_brokers.specs.Entries.{is_in_turn}
-use Rattle.state_brokers.specs.Known.{IsKnownEntry}
+use Rattle.state_nodes.specs.Entries.{is_in_turn}
+use Rattle.state_nodes.specs.Known.{IsKnownEntry}
 use Rattle.broker.proofs.ReadFrames.{content_has}
 use Rattle.frame_values.proofs.Known.{content_told}
 use Rattle.frame_values.specs.Told.{IsToldEntry}

@@ -20,8 +20,8 @@ use Rattle.state_file.specs.Known.{IsClientBehind, IsKnownBehind, IsKnownState}
 use Rattle.state_file.specs.State.{SavedState}
 use Rattle.state_items.specs.Fitting.{AllFit}
 use Rattle.state_items.proofs.Again.{cursor_below}
-use Rattle.state_brokers.specs.Fitting.{IsPlace, IsSender, IsSub}
-use Rattle.state_brokers.specs.Known.{IsKnownNode}
+use Rattle.state_nodes.specs.Fitting.{IsPlace, IsSender, IsSub}
+use Rattle.state_nodes.specs.Known.{IsKnownNode}
 use Rattle.frame_values.specs.Told.{IsToldEntry}
 use Rattle.world_kept.proofs.Reaching.{start_reached}
 use Rattle.world_kept.specs.Reached.{Reached}

@@ -10,7 +10,7 @@ use Rattle.broker_plans.specs.Storable.{AreStorable}
 use Rattle.durable_parts.specs.declared.durable.Durable.{Durable}
 use Rattle.durable_parts.specs.Durable.{broker_of}
 use Rattle.state_items.specs.Fitting.{AllFit}
-use Rattle.state_brokers.specs.Known.{IsKnownEntry, IsKnownNode}
+use Rattle.state_nodes.specs.Known.{IsKnownEntry, IsKnownNode}
 use Rattle.broker.specs.Node.{IsDurableOf, BrokerBook}
 use Rattle.world_laws.specs.Starts.{most_at_start}
 use Rattle.world.specs.Saving.{IsRevived}

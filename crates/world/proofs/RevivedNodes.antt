@@ -8,7 +8,7 @@ use Rattle.geo_base.specs.Broker.{Broker, no_broker}
 use Rattle.geo_base.specs.Setup.{Setup}
 use Rattle.state_file.specs.Known.{IsKnownBehind}
 use Rattle.state_items.specs.Fitting.{AllFit}
-use Rattle.state_brokers.specs.Known.{IsKnownNode}
+use Rattle.state_nodes.specs.Known.{IsKnownNode}
 use Rattle.broker.specs.Node.{BrokerBook}
 use Rattle.world.specs.Saving.{AreRevived, IsRevived}
 use Rattle.world.specs.World.{no_node, node_at}

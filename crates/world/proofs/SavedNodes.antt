@@ -12,9 +12,9 @@ use Rattle.geo_base.specs.declared.memory.Memory.{Memory}
 use Rattle.geo_base.specs.Broker.{Broker, Site}
 use Rattle.geo_base.specs.Sender.{Sender}
 use Rattle.geo_base.specs.Subscription.{Subscription}
-use Rattle.state_brokers.specs.declared.nodes.NodeParts.{NodeParts}
-use Rattle.state_brokers.specs.Nodes.{broker_of, broker_with}
-use Rattle.state_brokers.specs.Writing.{HaveRests}
+use Rattle.state_nodes.specs.declared.nodes.NodeParts.{NodeParts}
+use Rattle.state_nodes.specs.Nodes.{broker_of, broker_with}
+use Rattle.state_nodes.specs.Writing.{HaveRests}
 use Rattle.world.specs.Saving.{behind_stop}
 use Rattle.world.specs.World.{brokers_of}
 use Rattle.world.proofs.SavedWorlds.{have_rests}

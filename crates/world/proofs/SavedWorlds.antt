@@ -23,9 +23,9 @@ use Rattle.script_text.specs.Canonical.{declared_alone}
 use Rattle.script_text.specs.Script.{Script}
 use Rattle.state_file.specs.declared.saved.Saved.{Saved}
 use Rattle.state_file.specs.State.{SavedState}
-use Rattle.state_brokers.specs.declared.counts.Counts.{Counts}
-use Rattle.state_brokers.specs.Nodes.{broker_of}
-use Rattle.state_brokers.specs.Writing.{CanWrite, HaveRests}
+use Rattle.state_nodes.specs.declared.counts.Counts.{Counts}
+use Rattle.state_nodes.specs.Nodes.{broker_of}
+use Rattle.state_nodes.specs.Writing.{CanWrite, HaveRests}
 use Rattle.world_kept.proofs.Keeping.{counts, stop}
 use Rattle.world_kept.specs.Kept.{all_stopped}
 use Rattle.world_kept.specs.Standing.{Stands, limit_of}

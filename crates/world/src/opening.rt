@@ -15,7 +15,7 @@ use geo_base::Memory;
 use links::Links;
 use node_starts::{new_node, site_of};
 use script_text::Scenario;
-use state_brokers::Counts;
+use state_nodes::Counts;
 use std::alloc::Global;
 
 impl World {

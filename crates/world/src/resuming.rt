@@ -7,8 +7,8 @@ ghost use Rattle.geo_base.specs.World.{site};
 ghost use Rattle.state_file.specs.Known.{IsKnownBehind, IsKnownState};
 ghost use Rattle.state_file.specs.State.{state_of};
 ghost use Rattle.state_items.specs.Fitting.{AllFit};
-ghost use Rattle.state_brokers.specs.Known.{IsKnownNode};
-ghost use Rattle.state_brokers.specs.Nodes.{broker_of};
+ghost use Rattle.state_nodes.specs.Known.{IsKnownNode};
+ghost use Rattle.state_nodes.specs.Nodes.{broker_of};
 ghost use Rattle.world.specs.Saving.{AreRevived, IsResumed, IsRevived};
 ghost use Rattle.state_laws.specs.Saved.{world_from};
 ghost use Rattle.world.specs.World.{IsAt, kept_of};
@@ -24,8 +24,8 @@ use client::{Client, ClientState};
 use geo_base::{Entry, Memory, SubName};
 use node_starts::{new_site, sub_names};
 use script_text::Scenario;
-use state_brokers::{Counts, NodeParts};
 use state_file::Saved;
+use state_nodes::{Counts, NodeParts};
 use std::alloc::Global;
 
 impl World {

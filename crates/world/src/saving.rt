@@ -6,8 +6,8 @@ ghost use Rattle.geo_base.specs.Client.{unconnected};
 ghost use Rattle.geo_base.specs.World.{World as Machine};
 ghost use Rattle.state_file.specs.State.{state_of};
 ghost use Rattle.state_file.specs.Writing.{CanSave};
-ghost use Rattle.state_brokers.specs.Nodes.{broker_of};
-ghost use Rattle.state_brokers.specs.Writing.{HaveRests};
+ghost use Rattle.state_nodes.specs.Nodes.{broker_of};
+ghost use Rattle.state_nodes.specs.Writing.{HaveRests};
 ghost use Rattle.world.specs.declared.fault.RunFault.TheVariants as fault;
 ghost use Rattle.world.specs.Saving.{Saves, behind_stop};
 ghost use Rattle.world.specs.World.{IsAt, IsWithin, brokers_of, kept_of};
@@ -19,8 +19,8 @@ use broker::Broker;
 use client::{Client, ClientState};
 use geo_base::{EntryStore, Ident, Memory};
 use script_text::Scenario;
-use state_brokers::{Counts, NodeParts};
 use state_file::Saved;
+use state_nodes::{Counts, NodeParts};
 use std::alloc::Global;
 
 /// What a stop of everything leaves of a world: the counts with the stop counted, what is durable of each broker, each client.

@@ -12,7 +12,7 @@ use client::Client;
 use geo_base::Memory;
 use links::Links;
 use script_text::Scenario;
-use state_brokers::Counts;
+use state_nodes::Counts;
 use std::alloc::Global;
 use std::boxed::Box;
 use std::marker::Model;

@@ -10,9 +10,9 @@ use crate::top::status::Status;
 use audit::{AuditFault, audit};
 use geo_base::limits::INPUT_BYTES;
 use geo_base::{Blob, Memory};
+use script_inputs::trace_start;
 use script_text::{Scenario, ScriptFault, read_script};
 use std::alloc::Global;
-use trace_inputs::trace_start;
 
 /// The answer to declarations and a trace.
 pub fn answer_to_audit(alloc: Global, bytes: &[u8]) -> Result<Answer, Memory>

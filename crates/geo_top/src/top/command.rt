@@ -1,10 +1,10 @@
 //! The commands of the program.
 ghost use Rattle.std.specs.Prelude.{◌≡◌};
 ghost use Rattle.geo_top.specs.Commands.{alone_of, big_of, command_of, compact_of, has_input, most_horizon, most_keep, most_number, numbered_of, tier_of};
-ghost use Rattle.script_names.specs.Numbers.{number_of};
+ghost use Rattle.script_rows.specs.Numbers.{number_of};
 
 use geo_base::Text;
-use script_names::number_of;
+use script_rows::number_of;
 
 /// A word of the command line.
 pub type Word = Text;

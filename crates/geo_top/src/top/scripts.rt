@@ -3,7 +3,7 @@ ghost use Rattle.std.specs.Prelude.{◌≡◌, ◌≤◌, ℕ, Err, IfOk, None, 
 ghost use Rattle.geo_top.specs.Finished.{IsFinished};
 ghost use Rattle.geo_top.specs.Founded.{IsAccepted};
 ghost use Rattle.geo_top.specs.Outputs.{answer_to, answer_to_big, answer_to_run, compacted_of, output_of, passed_limit, report_of, summary_of, tiered_of};
-ghost use Rattle.schedule_gen.specs.Generated.{generated_run};
+ghost use Rattle.script_inputs.specs.Generated.{generated_run};
 ghost use Rattle.script_text.specs.Rules.{script_of};
 ghost use Rattle.script_text.specs.Scenario.{IsScenario};
 
@@ -19,7 +19,7 @@ use crate::traced::trace_script;
 use crate::world_report::report;
 use geo_base::limits::INPUT_BYTES;
 use geo_base::{Blob, Memory};
-use schedule_gen::generate;
+use script_inputs::generate;
 use script_text::{Scenario, ScriptFault, read_script};
 use std::alloc::Global;
 use world::{RunFault, World};

@@ -4,7 +4,7 @@ use Rattle.std.specs.Str.{bytes_eq}
 use Rattle.std.proofs.lemmas.Result.{IfOk-weaker}
 use Rattle.geo_base.specs.Mirror.{opening_mirrors}
 use Rattle.geo_base.specs.Setup.{Setup}
-use Rattle.script_names.specs.Words.{cut_by}
+use Rattle.script_rows.specs.NameWords.{cut_by}
 use Rattle.audit.specs.AuditOf.{IsAccepted, audit_of, lines_audited}
 use Rattle.audit.proofs.Accepting.{accepted_says, audit_reads}
 use Rattle.audit.proofs.audit_of.audit.Goals as goal

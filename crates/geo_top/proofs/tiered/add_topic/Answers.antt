@@ -2,7 +2,7 @@ use Rattle.std.proofs.Common.{◌++◌, List, [], refl, subst, sym, ◌∙◌}
 use Rattle.std.specs.Prelude.{slice_index_or}
 use Rattle.geo_base.specs.declared.entry.Entry.{Entry}
 use Rattle.geo_base.specs.Report.{with_line_feeds}
-use Rattle.ledger_texts.specs.Readable.{AreTellable}
+use Rattle.tiered_ledger.specs.Readable.{AreTellable}
 use Rattle.tiered_ledger.specs.Calls.{offloaded}
 use Rattle.geo_top.specs.Shown.{shown_world}
 use Rattle.geo_top.specs.Tiered.{tiers_at}

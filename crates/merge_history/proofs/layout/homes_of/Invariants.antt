@@ -1,5 +1,5 @@
 use Rattle.std.proofs.Common.{◌≡◌, ◌++◌, drop, map}
-use Rattle.history_packets.specs.Ends.{home_declared}
+use Rattle.merge_history.specs.Ends.{home_declared}
 use Rattle.merge_history.proofs.layout.homes_of.Given as goal
 
 -- the clients so far and those that are left

@@ -1,8 +1,8 @@
 use Rattle.std.proofs.Common.{◌≡◌, ◌<◌, Bool, true, List, length, refl, subst, sym, ◌∙◌}
 use Rattle.std.specs.Prelude.{IfOk, slice_index_or}
 use Rattle.std.specs.Arc.{arc_value}
-use Rattle.history_packets.specs.Firsts.{AreRising}
-use Rattle.history_packets.specs.Kept.{Kept}
+use Rattle.merge_history.specs.Firsts.{AreRising}
+use Rattle.merge_history.specs.Kept.{Kept}
 use Rattle.merge_history.specs.Books.{AreOwn, IsFirstFalse}
 use Rattle.merge_history.specs.Merges.{DiffersAs}
 use Rattle.merge_history.proofs.Fits.{none_strange, strange_differs}

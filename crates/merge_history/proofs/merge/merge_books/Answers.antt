@@ -4,8 +4,8 @@ use Rattle.geo_base.specs.History.{RecordedEvent}
 use Rattle.geo_base.specs.Merge.{history_of, merge_of, steps_of}
 use Rattle.geo_base.specs.Scripted.{IsScripted}
 use Rattle.script_text.specs.Script.{Script}
-use Rattle.history_packets.specs.Firsts.{AreRising}
-use Rattle.history_packets.specs.Kept.{Kept}
+use Rattle.merge_history.specs.Firsts.{AreRising}
+use Rattle.merge_history.specs.Kept.{Kept}
 use Rattle.merge_history.specs.Books.{AreTold, kept_of}
 use Rattle.merge_history.specs.Merges.{DiffersAs}
 use Rattle.merge_history.specs.Turns.{AlikeAll, Rise}

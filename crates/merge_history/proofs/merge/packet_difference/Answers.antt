@@ -1,7 +1,7 @@
 use Rattle.std.proofs.Common.{ap, length, subst}
 use Rattle.std.specs.Prelude.{IfSome, Ok, Option}
-use Rattle.history_packets.specs.Firsts.{IsFirst}
-use Rattle.history_packets.specs.declared.differences.PacketDifference.{PacketDifference}
+use Rattle.merge_history.specs.Firsts.{IsFirst}
+use Rattle.merge_history.specs.declared.differences.PacketDifference.{PacketDifference}
 use Rattle.merge_history.proofs.Fits.{first_packet}
 use Rattle.merge_history.proofs.merge.packet_difference.Goals as goal
 

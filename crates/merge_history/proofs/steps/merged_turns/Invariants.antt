@@ -1,5 +1,5 @@
 use Rattle.std.proofs.Common.{◌≡◌, ◌++◌, drop}
-use Rattle.history_packets.specs.Kept.{kept_stamp}
+use Rattle.merge_history.specs.Kept.{kept_stamp}
 use Rattle.merge_history.specs.Turns.{all_turns}
 use Rattle.merge_history.proofs.steps.merged_turns.Given as goal
 

@@ -1,6 +1,6 @@
 use Rattle.std.proofs.Common.{[], refl, sym, subst, arith}
 use Rattle.std.specs.Prelude.{IfNone, IfOk, Option, None, true, false}
-use Rattle.book_ends.proofs.Tables.{row_gone, row_of, row_within, set_looked, set_more, set_own, set_same}
+use Rattle.book_parts.proofs.Tables.{row_gone, row_of, row_within, set_looked, set_more, set_own, set_same}
 use Rattle.node_book.specs.Looking.{IsNotGot}
 use Rattle.node_book.proofs.Gets.{got_at, if_ok, own_err, own_stays}
 use Rattle.node_book.proofs.getting.get_from.Goals as goal

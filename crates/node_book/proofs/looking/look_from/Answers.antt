@@ -1,6 +1,6 @@
 use Rattle.std.proofs.Common.{[], refl, sym, subst, arith}
 use Rattle.std.specs.Prelude.{IfOk, Option, None, true, false}
-use Rattle.book_ends.proofs.Tables.{row_gone, row_none, row_of, row_within, set_looked, set_more, set_own, set_same}
+use Rattle.book_parts.proofs.Tables.{row_gone, row_none, row_of, row_within, set_looked, set_more, set_own, set_same}
 use Rattle.node_book.specs.Looking.{IsLooked}
 use Rattle.node_book.proofs.Looks.{any_ok, on_ok}
 use Rattle.node_book.proofs.looking.look_from.Goals as goal

@@ -1,6 +1,6 @@
 use Rattle.std.proofs.Common.{◌≡◌, ◌++◌, drop, take, length}
 use Rattle.geo_base.specs.Report.{entry_lines, with_line_feeds}
-use Rattle.tier_store.specs.Kept.{kept_in}
+use Rattle.topic_upkeep.specs.Kept.{kept_in}
 use Rattle.tiered_ledger.specs.Tiered.{Holds}
 use Rattle.report_sections.proofs.tier_lines.add_read_entries.Given as goal
 

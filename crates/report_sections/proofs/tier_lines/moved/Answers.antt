@@ -1,8 +1,8 @@
 use Rattle.std.proofs.Common.{◌<◌, List, length, subst, sym, ap, ◌∙◌, arith}
 use Rattle.geo_base.specs.declared.entry.Entry.{Entry}
 use Rattle.geo_base.specs.declared.position.Position.{Position}
-use Rattle.ledger_texts.specs.Readable.{AreTellable}
-use Rattle.tier_store.specs.Kept.{TierState, kept_in}
+use Rattle.tiered_ledger.specs.Readable.{AreTellable}
+use Rattle.topic_upkeep.specs.Kept.{TierState, kept_in}
 use Rattle.tiered_ledger.specs.Tiered.{Holds, Tiered, all_here}
 use Rattle.report_sections.proofs.Moving.{all_counted, one_more, one_of}
 use Rattle.report_sections.proofs.tier_lines.moved.Goals as goal

@@ -1,6 +1,6 @@
 use Rattle.std.proofs.Common.{◌≡◌, ◌≤◌, length}
 use Rattle.geo_base.specs.Topic.{next_position}
-use Rattle.tier_store.specs.Kept.{kept_in}
+use Rattle.topic_upkeep.specs.Kept.{kept_in}
 use Rattle.tiered_ledger.specs.Tiered.{Holds, all_here}
 use Rattle.report_sections.proofs.Moving.{first_away}
 use Rattle.report_sections.proofs.tier_lines.moved.Given as goal

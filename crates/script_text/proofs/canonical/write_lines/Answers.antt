@@ -1,7 +1,7 @@
 use Rattle.std.proofs.Common.{◌≡◌, ℕ, ◌+◌, List, [], ◌∷◌, ◌++◌, codes, drop, arith, sym, ap, ◌∙◌}
 use Rattle.std.proofs.lemmas.List.{drop_more}
 use Rattle.geo_base.specs.declared.client.Line.{Line}
-use Rattle.script_names.specs.Words.{Word}
+use Rattle.script_rows.specs.NameWords.{Word}
 use Rattle.script_text.specs.Canonical.{line_words, lines_text, pushed}
 use Rattle.script_text.proofs.Written.{line_then}
 use Rattle.script_text.proofs.canonical.write_lines.Goals as goal

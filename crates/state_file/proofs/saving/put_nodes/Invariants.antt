@@ -1,6 +1,6 @@
 use Rattle.std.proofs.Common.{◌≡◌, ◌++◌, drop, map}
 use Rattle.state_file.specs.Texts.{nodes_from}
-use Rattle.state_brokers.specs.Nodes.{broker_of}
+use Rattle.state_nodes.specs.Nodes.{broker_of}
 use Rattle.state_file.proofs.saving.put_nodes.Given as goal
 
 abbrev pub invariant-loop-number : goal.invariant-loop-number

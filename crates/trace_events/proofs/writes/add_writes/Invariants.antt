@@ -2,7 +2,7 @@ use Rattle.std.proofs.Common.{◌≡◌, ◌++◌, drop, length}
 use Rattle.std.specs.Prelude.{take}
 use Rattle.broker_state.specs.Plan.{plan_in}
 use Rattle.geo_base.specs.Traced.{cause_of}
-use Rattle.trace_acts.specs.Acts.{acts_before}
+use Rattle.trace_events.specs.Acts.{acts_before}
 use Rattle.trace_events.specs.Snapshots.{HaveSeen}
 use Rattle.trace_events.specs.Writes.{lines_of}
 use Rattle.trace_events.proofs.Steps.{with_left}

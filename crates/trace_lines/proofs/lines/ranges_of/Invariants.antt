@@ -1,6 +1,6 @@
 use Rattle.std.proofs.Common.{◌≡◌, ◌++◌, length, option_map}
 use Rattle.cursor_acks.specs.declared.range.IndexRange.{IndexRange}
-use Rattle.script_names.specs.Words.{listed}
+use Rattle.script_rows.specs.NameWords.{listed}
 use Rattle.trace_lines.specs.Ranges.{last_of, ranges_from}
 use Rattle.std.specs.Prelude.{None, List}
 use Rattle.trace_lines.proofs.lines.ranges_of.Given as goal

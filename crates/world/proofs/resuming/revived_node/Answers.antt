@@ -3,7 +3,7 @@ use Rattle.std.proofs.Math.Nat.{mod-lt}
 use Rattle.geo_base.specs.declared.entry.Entry.{Entry}
 use Rattle.geo_base.specs.Broker.{Site}
 use Rattle.geo_base.specs.World.{site}
-use Rattle.state_brokers.specs.Nodes.{broker_of}
+use Rattle.state_nodes.specs.Nodes.{broker_of}
 use Rattle.world_laws.specs.Starts.{most_at_start}
 use Rattle.world.proofs.Revived.{durable_of, revived_by, row_within}
 use Rattle.world.proofs.resuming.revived_node.Goals as goal

@@ -1,8 +1,8 @@
 use Rattle.std.proofs.Common.{◌≡◌, ◌*◌, ◌%◌, ◌<◌, ◌∙◌, ℕ, List, length, map, ap, subst, sym, arith}
 use Rattle.std.proofs.lemmas.List.{length-map}
-use Rattle.state_brokers.specs.declared.nodes.NodeParts.{NodeParts}
-use Rattle.state_brokers.specs.Known.{IsKnownNode}
-use Rattle.state_brokers.specs.Nodes.{broker_of}
+use Rattle.state_nodes.specs.declared.nodes.NodeParts.{NodeParts}
+use Rattle.state_nodes.specs.Known.{IsKnownNode}
+use Rattle.state_nodes.specs.Nodes.{broker_of}
 use Rattle.broker.specs.Node.{BrokerBook}
 use Rattle.world.specs.Saving.{IsRevived}
 use Rattle.world.proofs.RevivedNodes.{IsOnTheWay, next_known, next_number, on_the_way, one_more}

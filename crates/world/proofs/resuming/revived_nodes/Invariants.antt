@@ -1,5 +1,5 @@
 use Rattle.std.proofs.Common.{map}
-use Rattle.state_brokers.specs.Nodes.{broker_of}
+use Rattle.state_nodes.specs.Nodes.{broker_of}
 use Rattle.world.proofs.RevivedNodes.{IsOnTheWay}
 use Rattle.world.proofs.resuming.revived_nodes.Given as goal
 

@@ -1,8 +1,8 @@
 use Rattle.std.proofs.Common.{◌≡◌, map, take}
 use Rattle.std.specs.List.{All}
 use Rattle.geo_base.specs.Broker.{Broker}
-use Rattle.state_brokers.specs.Nodes.{broker_of}
-use Rattle.state_brokers.specs.Writing.{HaveRests}
+use Rattle.state_nodes.specs.Nodes.{broker_of}
+use Rattle.state_nodes.specs.Writing.{HaveRests}
 use Rattle.world.specs.Saving.{behind_stop}
 use Rattle.world.specs.World.{brokers_of}
 use Rattle.world.proofs.saving.saved_nodes.Given as goal

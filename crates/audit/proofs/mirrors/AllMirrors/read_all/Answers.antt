@@ -4,7 +4,7 @@ use Rattle.std.proofs.lemmas.Grind.{common_steps}
 use Rattle.std.proofs.lemmas.Result.{err_from_is_err_and}
 use Rattle.geo_base.specs.Mirror.{Mirrors}
 use Rattle.geo_base.specs.Setup.{Setup}
-use Rattle.script_names.specs.Words.{cut_by}
+use Rattle.script_rows.specs.NameWords.{cut_by}
 use Rattle.trace_lines.specs.Lines.{item_read}
 use Rattle.trace_lines.specs.Names.{DeclaredNames}
 use Rattle.audit.specs.AuditOf.{item_refused, names_of, told_if}

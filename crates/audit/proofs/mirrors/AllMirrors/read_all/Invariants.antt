@@ -1,5 +1,5 @@
 use Rattle.std.proofs.Common.{◌≡◌, length}
-use Rattle.script_names.specs.Words.{cut_by}
+use Rattle.script_rows.specs.NameWords.{cut_by}
 use Rattle.audit.specs.AuditOf.{lines_audited}
 use Rattle.audit.specs.Numbers.{AreSized}
 use Rattle.audit.proofs.mirrors.AllMirrors.read_all.Given as goal

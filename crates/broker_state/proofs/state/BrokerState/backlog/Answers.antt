@@ -1,7 +1,7 @@
 use Rattle.std.proofs.Common.{◌≡◌, ◌∙◌, ℕ, ap}
 use Rattle.cursor_acks.specs.Acks.{AckSet}
 use Rattle.cursor_acks.specs.Ranges.{AreRangesOf}
-use Rattle.topic_ledger.specs.Messages.{messages_before}
+use Rattle.topic_store.specs.Messages.{messages_before}
 use Rattle.broker_state.specs.State.{StateBook}
 use Rattle.broker_state.proofs.Backlogs.{backlog_beside}
 use Rattle.broker_state.proofs.state.BrokerState.backlog.Goals as goal

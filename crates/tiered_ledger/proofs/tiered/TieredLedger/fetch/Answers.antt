@@ -3,8 +3,8 @@ use Rattle.std.specs.Prelude.{Some, slice_get}
 use Rattle.geo_base.specs.declared.entry.Entry.{Entry}
 use Rattle.state_items.specs.declared.fault.Broken.{Broken}
 use Rattle.state_items.specs.Reading.{Answer}
-use Rattle.topic_ledger.specs.Firsts.{lengths_of}
-use Rattle.tier_store.specs.declared.tier.Held.TheVariants as held
+use Rattle.topic_store.specs.Firsts.{lengths_of}
+use Rattle.topic_upkeep.specs.declared.tier.Held.TheVariants as held
 use Rattle.tiered_ledger.specs.declared.part.Part.TheVariants as part
 use Rattle.geo_io.specs.Faults.{one_more}
 use Rattle.tiered_ledger.specs.Calls.{AtMostOne}

@@ -2,10 +2,10 @@ use Rattle.std.proofs.Common.{◌≡◌, ◌<◌, ◌∙◌, ℕ, List, Ok, Err,
 use Rattle.std.proofs.lemmas.Result.{err_from_is_err_and}
 use Rattle.std.specs.Prelude.{Some, not, slice_get, slice_set}
 use Rattle.geo_base.specs.declared.entry.Entry.{Entry}
-use Rattle.ledger_texts.specs.Readable.{AreReadable, AreTellable}
-use Rattle.ledger_texts.specs.Texts.{ledger_text}
-use Rattle.tier_store.specs.Kept.{Puts}
-use Rattle.topic_ledger.specs.Firsts.{lengths_of}
+use Rattle.tiered_ledger.specs.Readable.{AreReadable, AreTellable}
+use Rattle.tiered_ledger.specs.Texts.{ledger_text}
+use Rattle.topic_upkeep.specs.Kept.{Puts}
+use Rattle.topic_store.specs.Firsts.{lengths_of}
 use Rattle.tiered_ledger.specs.declared.fault.OffloadFault.TheVariants as fault
 use Rattle.tiered_ledger.specs.declared.part.Part.{Part}
 use Rattle.tiered_ledger.specs.declared.part.Part.TheVariants as part

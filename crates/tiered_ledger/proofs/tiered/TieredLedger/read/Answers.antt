@@ -2,7 +2,7 @@ use Rattle.std.proofs.Common.{◌≡◌, ◌<◌, ◌∙◌, ℕ, List, length, 
 use Rattle.std.specs.Prelude.{Option, Some, None, slice_get}
 use Rattle.geo_base.specs.declared.entry.Entry.{Entry}
 use Rattle.geo_base.specs.Topic.{position_of}
-use Rattle.topic_ledger.specs.Firsts.{lengths_of}
+use Rattle.topic_store.specs.Firsts.{lengths_of}
 use Rattle.tiered_ledger.specs.declared.part.Part.TheVariants as part
 use Rattle.tiered_ledger.specs.declared.part.Recalled.{Recalled}
 use Rattle.tiered_ledger.specs.Calls.{asks, calls_if, recalled_after, recalled_entry}

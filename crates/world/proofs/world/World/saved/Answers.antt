@@ -1,5 +1,5 @@
 use Rattle.std.proofs.Common.{map}
-use Rattle.state_brokers.specs.Nodes.{broker_of}
+use Rattle.state_nodes.specs.Nodes.{broker_of}
 use Rattle.world.specs.World.{brokers_of}
 use Rattle.world.proofs.SavedWorlds.{can_hold, have_indexes, saves_past, saves_state}
 use Rattle.world.proofs.world.World.saved.Goals as goal

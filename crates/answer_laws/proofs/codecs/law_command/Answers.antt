@@ -1,5 +1,0 @@
-use Rattle.answer_laws.proofs.Commands.{command_answer}
-use Rattle.answer_laws.proofs.codecs.law_command.Goals as goal
-
-pub returns : goal.returns
-returns c = command_answer

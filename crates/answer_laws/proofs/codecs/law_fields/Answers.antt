@@ -1,5 +1,0 @@
-use Rattle.answer_laws.proofs.Fields.{fields_answer}
-use Rattle.answer_laws.proofs.codecs.law_fields.Goals as goal
-
-pub returns : goal.returns
-returns c = fields_answer

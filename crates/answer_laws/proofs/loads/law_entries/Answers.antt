@@ -1,5 +1,0 @@
-use Rattle.answer_laws.proofs.Entries.{entries_some, entry_some, says_some, stored_some}
-use Rattle.answer_laws.proofs.loads.law_entries.Goals as goal
-
-pub returns : goal.returns
-returns c = record { metadata = says_some; stored = stored_some; entry = entry_some; entries = entries_some }

@@ -1,4 +1,0 @@
-pub mod Answers
-pub mod Streams
-pub mod Contents
-pub mod Offers

@@ -1,8 +1,0 @@
-mod Following
-mod Gains
-mod HeldSubs
-mod LastPlace
-pub mod Needing
-mod Passing
-mod SlotRows
-mod Tables

@@ -1,6 +1,0 @@
-pub mod Stored
-pub mod Sub
-pub mod Subs
-pub mod Covers
-pub mod Topic
-pub mod Acks

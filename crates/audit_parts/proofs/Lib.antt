@@ -1,0 +1,10 @@
+pub mod EntryPassing
+mod Steps
+mod Following
+mod Gains
+mod HeldSubs
+mod LastPlace
+pub mod Needing
+mod Passing
+mod SlotRows
+mod Tables

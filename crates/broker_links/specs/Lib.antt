@@ -1,4 +1,0 @@
-pub mod Acts
-pub mod Answers
-pub mod Ready
-pub mod Usual

@@ -1,4 +1,0 @@
-pub mod Shapes
-pub mod Offers
-pub mod Seeks
-pub mod Cuts

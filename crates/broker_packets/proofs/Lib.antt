@@ -1,0 +1,17 @@
+pub mod Shapes
+pub mod Sessions
+pub mod Producers
+pub mod Joins
+pub mod Acks
+pub mod Commands
+pub mod UsualPublishes
+pub mod UsualSends
+pub mod Again
+pub mod Answered
+pub mod Plans
+pub mod ReceivedTwice
+pub mod Resets
+pub mod Small
+pub mod Storable
+pub mod Takes
+pub mod Twice

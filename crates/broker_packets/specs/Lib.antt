@@ -1,0 +1,9 @@
+pub mod Serving
+pub mod Producing
+pub mod Subscribing
+pub mod Acknowledging
+pub mod UsualPublishes
+pub mod Acts
+pub mod Answers
+pub mod Ready
+pub mod UsualSends

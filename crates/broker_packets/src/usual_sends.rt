@@ -1,0 +1,86 @@
+//! The receiving end of a forward link, where what comes is a SEND of the usual form: most packets are.
+ghost use Rattle.std.specs.Prelude.{◌≡◌, ℕ, ◌<◌, ◌≤◌, true, Some, length, OnOk};
+ghost use Rattle.std.specs.Option.{option_copied, option_map};
+ghost use Rattle.geo_base.specs.declared.event.Fate.TheVariants as fate;
+ghost use Rattle.geo_base.specs.Forwarding.{take_packet};
+ghost use Rattle.geo_base.specs.Receiver.{is_from};
+ghost use Rattle.broker_state.specs.Plan.{IsEmptyPlan};
+ghost use Rattle.broker_state.specs.Room.{HasRoom};
+ghost use Rattle.broker_state.specs.State.{SameState};
+ghost use Rattle.broker_plans.specs.Prepared.{IsPrepared};
+ghost use Rattle.broker_plans.specs.Usual.{send_viewed};
+ghost use Rattle.frame_values.specs.Values.{place_of};
+ghost use Rattle.broker_packets.specs.UsualSends.{IsBrought, Receives};
+
+use crate::act::is_open;
+use broker_plans::{Answered, Came, also_receipt, is_small, storing_message};
+use broker_state::{BrokerState, Plan};
+use frame_values::number_of;
+use geo_base::{ClusterName, Memory, Peer};
+use pulsar_frames::MessageView;
+use std::alloc::Global;
+
+/// Whether a SEND of the usual form is acted on as it stands: it is of the session that is open on the link from a cluster, and
+/// its entry is of that cluster and small. `false` says nothing of it.
+pub fn receives(book: &BrokerState, source: u32, came: Came<'_>) -> bool
+    requires { source < length book.now.broker.receivers }
+    ensures { result ≡ true → Receives book.now.site book.now.broker source came.entry }
+{
+    if is_open(book, source, came.session) {
+        is_brought(book, source, came.message)
+    } else {
+        false
+    }
+}
+
+/// Whether a message says that a cluster stored it first, and is small.
+fn is_brought(book: &BrokerState, source: u32, message: MessageView<'_>) -> bool
+    ensures { result ≡ true → IsBrought book.now.site source message.entry }
+{
+    if is_from(book.site().clusters(), source, message.meta.replicated_from) {
+        is_small(message)
+    } else {
+        false
+    }
+}
+
+/// Whether a name, which may be absent, names a cluster.
+fn is_from(names: &[ClusterName], cluster: u32, name: Option<&str>) -> bool
+    requires { length names.now ≤ 8 }
+    ensures { result ≡ is_from cluster (option_map (place_of names.now) (option_copied name.entry)) }
+{
+    let Some(name) = name else {
+        return false;
+    };
+    match number_of(names, 0, name.as_bytes()) {
+        Some(number) => cluster == number,
+        None => false,
+    }
+}
+
+/// What such a SEND will do: its entry is stored unless it is a duplicate, and answered either way. Only room is made; an `Err` is
+/// want of memory.
+pub fn prepare_receive(
+    alloc: Global,
+    book: &mut BrokerState,
+    source: u32,
+    came: Came<'_>,
+    plan: &mut Plan,
+) -> Result<(), Memory>
+    requires source { source < length book.old.broker.receivers }
+    requires receives { Receives book.old.site book.old.broker source came }
+    requires empty { IsEmptyPlan plan.old }
+    ensures prepared { (stamp : ℕ) → OnOk result (IsPrepared book.old.site book.old.broker (take_packet book.old.site book.old.broker source fate.Good (Some (record { session = came.entry.session; stamp = stamp; frame = send_viewed book.old.site.clusters came.entry }))) plan.new) }
+    ensures room { OnOk result (HasRoom book.new.room plan.new) }
+    ensures kept { SameState book.old book.new }
+{
+    let position = storing_message(alloc, book, source, came.message, plan)?;
+    let answered = Answered {
+        to: Peer::Back(source),
+        session: came.session,
+        id: came.session,
+        seq: came.seq,
+    };
+    also_receipt(alloc, book, plan, answered, position)?;
+    Ok(())
+}

@@ -1,8 +1,0 @@
-use Rattle.std.proofs.Common.{◌≡◌, ◌++◌, drop}
-use Rattle.geo_base.specs.Updating.{positions_for}
-use Rattle.broker_reading.specs.Updating.{listed}
-use Rattle.broker_reading.proofs.updating.only_index.Given as goal
-
--- what was found, and what those that are left name
-abbrev pub invariant-loop-named : goal.invariant-loop-named
-invariant-loop-named l = positions_for l.book.site.own l.remote ≡ listed l.only ++ positions_for l.book.site.own (drop l.named-index l.remote)

@@ -1,7 +1,0 @@
-use Rattle.broker_serving.proofs.acknowledging.serve_ack.Goals as goal
-
-pub returns-in_default-clause-room : goal.returns-in_default-clause-room
-returns-in_default-clause-room c = c.ignore.ensures.room c.args.book.now.room
-
-pub returns-in-None-clause-room : goal.returns-in-None-clause-room
-returns-in-None-clause-room c = c.ignore-in-None.ensures.room c.args.book.now.room

@@ -1,6 +1,0 @@
-use Rattle.broker_subs.specs.Table.{sub_at}
-use Rattle.broker_serving.proofs.Acks.{to_some}
-use Rattle.broker_serving.proofs.acknowledging.up_to.Goals as goal
-
-pub returns-in-Some : goal.returns-in-Some
-returns-in-Some c = to_some c.args.book.now.broker.entries (sub_at c.args.book.now.broker.subs c.args.place) c.args.index c.in-Some.index c.in-Some.is c.requires

@@ -1,0 +1,9 @@
+pub mod Plans
+pub mod Entries
+pub mod Heard
+pub mod Sizes
+pub mod Acknowledged
+pub mod Shapes
+pub mod Offers
+pub mod Seeks
+pub mod Cuts

@@ -1,0 +1,4 @@
+pub mod Reading
+pub mod Updating
+pub mod Offering
+pub mod Seeking

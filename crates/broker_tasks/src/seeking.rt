@@ -1,0 +1,95 @@
+//! seek: an operator sets a subscription's cursor to a position or to the end (Pulsar admin: reset-cursor). Other clusters learn of
+//! what the mark has passed by an update alone. restart: a broker starts again, with a new ledger and nothing in memory.
+ghost use Rattle.std.specs.Prelude.{◌≡◌, ◌+◌, ◌<◌, ◌≤◌, ◌^◌, ◌∷◌, [], length, IfSome, OnOk};
+ghost use Rattle.geo_base.specs.declared.change.Change.TheVariants as change;
+ghost use Rattle.geo_base.specs.declared.write.Write.TheVariants as write;
+ghost use Rattle.geo_base.specs.Plan.{plan_of};
+ghost use Rattle.geo_base.specs.Seeking.{restart, seek, seek_index};
+ghost use Rattle.geo_base.specs.Storing.{cursor_write};
+ghost use Rattle.broker_subs.specs.Table.{sub_at};
+ghost use Rattle.broker_state.specs.Plan.{IsEmptyPlan};
+ghost use Rattle.broker_state.specs.Room.{HasRoom};
+ghost use Rattle.broker_state.specs.State.{SameState};
+ghost use Rattle.broker_plans.specs.Prepared.{CanWrite, IsPrepared};
+ghost use Rattle.broker_tasks.specs.Seeking.{SeekFits};
+
+use broker_plans::{begin_write, place_named, sub_at, update_after};
+use broker_state::{BookChange, BookWrite, BrokerState, Plan};
+use broker_subs::{SubChange, SubWrite};
+use geo_base::{EntryStore, Memory, Position};
+use std::alloc::Global;
+
+/// What a seek of the subscription of a name will do, to a position or to the end; idle where there is no such subscription, and
+/// where the position is not stored. Only room is made; an `Err` is want of memory.
+pub fn prepare_seek(
+    alloc: Global,
+    book: &mut BrokerState,
+    name: &[u8],
+    to: Option<Position>,
+    plan: &mut Plan,
+) -> Result<(), Memory>
+    requires can { CanWrite book.old.site book.old.broker }
+    requires counted { SeekFits book.old.broker name.now }
+    requires empty { IsEmptyPlan plan.old }
+    ensures prepared { OnOk result (IsPrepared book.old.site book.old.broker (seek book.old.site book.old.broker name.now to) plan.new) }
+    ensures room { OnOk result (HasRoom book.new.room plan.new) }
+    ensures kept { SameState book.old book.new }
+{
+    let Some(place) = place_named(book, name) else {
+        return Ok(());
+    };
+    let Some(index) = seek_index(book, to) else {
+        return Ok(());
+    };
+    seek_to(alloc, book, place, index, plan)
+}
+
+/// The index that a seek leads to: that of a position, or as many as there are entries.
+fn seek_index(book: &BrokerState, to: Option<Position>) -> Option<u64>
+    ensures index { result ≡ seek_index book.now.broker to }
+    ensures within { IfSome result (λ i. i ≤ length book.now.broker.entries) }
+{
+    match to {
+        None => Some(book.store().len() as u64),
+        Some(position) => book.index_of(position),
+    }
+}
+
+/// The cursor of the subscription at a place becomes all below an index, and what is in its memory is lost.
+fn seek_to(
+    alloc: Global,
+    book: &mut BrokerState,
+    place: usize,
+    index: u64,
+    plan: &mut Plan,
+) -> Result<(), Memory>
+    requires can { CanWrite book.old.site book.old.broker }
+    requires place { place < length book.old.broker.subs }
+    requires within { index ≤ length book.old.broker.entries }
+    requires counted { (sub_at book.old.broker.subs place).seeks + 1 < 2 ^ 64 }
+    requires empty { IsEmptyPlan plan.old }
+    ensures prepared { OnOk result (IsPrepared book.old.site book.old.broker (plan_of (cursor_write book.old.site book.old.broker (sub_at book.old.broker.subs place) (write.Seek (sub_at book.old.broker.subs place).name index)) (change.Cleared (sub_at book.old.broker.subs place).name ∷ []) []) plan.new) }
+    ensures room { OnOk result (HasRoom book.new.room plan.new) }
+    ensures kept { SameState book.old book.new }
+{
+    let _site = book.site();
+    let write = SubWrite::Seek(index);
+    let update = update_after(alloc, book, place, &write, sub_at(book, place).cache())?;
+    begin_write(book, place, 0, write, update, plan)?;
+    plan.change(BookChange::Sub(SubChange::Cleared))
+}
+
+/// What a restart will do: a ledger opens, and what is in memory is lost. Only room is made; an `Err` is want of memory.
+#[tactic(auto, using(crate::proofs::Seeks::restarts, crate::proofs::Seeks::restart_room))]
+pub fn prepare_restart(book: &mut BrokerState, plan: &mut Plan) -> Result<(), Memory>
+    requires empty { IsEmptyPlan plan.old }
+    ensures prepared { OnOk result (IsPrepared book.old.site book.old.broker restart plan.new) }
+    ensures room { OnOk result (HasRoom book.new.room plan.new) }
+    ensures kept { SameState book.old book.new }
+{
+    book.reserve_entries(1)?;
+    plan.begin(0);
+    plan.write(BookWrite::Ledger)?;
+    plan.change(BookChange::Forget)?;
+    Ok(())
+}

@@ -1,2 +1,0 @@
-pub mod Rebuilt
-pub mod Tells

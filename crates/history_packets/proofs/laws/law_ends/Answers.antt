@@ -1,6 +1,0 @@
-use Rattle.history_packets.proofs.Ends.{one_link, sent_same, taken_same}
-use Rattle.history_packets.proofs.Numbers.{end_is, link_ends}
-use Rattle.history_packets.proofs.laws.law_ends.Goals as goal
-
-pub returns : goal.returns
-returns c = record { sent = sent_same; taken = taken_same; one = one_link; number = end_is; each = link_ends }

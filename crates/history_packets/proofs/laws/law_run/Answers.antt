@@ -1,5 +1,0 @@
-use Rattle.history_packets.proofs.Runs.{layout_is, runs_begun, runs_whole}
-use Rattle.history_packets.proofs.laws.law_run.Goals as goal
-
-pub returns : goal.returns
-returns c = record { run = runs_whole; moment = runs_begun; layout = layout_is }

@@ -1,6 +1,0 @@
-use Rattle.std.proofs.Common.{◌≡◌, ◌++◌}
-use Rattle.schedule_gen.specs.Schedule.{connects}
-use Rattle.schedule_gen.proofs.schedule.add_connects.Given as goal
-
-abbrev pub invariant-loop-client : goal.invariant-loop-client
-invariant-loop-client l = l.steps ≡ l.initial.steps ++ connects l.client

@@ -1,6 +1,0 @@
-use Rattle.std.proofs.Common.{◌≡◌, ◌++◌}
-use Rattle.schedule_gen.specs.Schedule.{finishes}
-use Rattle.schedule_gen.proofs.schedule.add_finishes.Given as goal
-
-abbrev pub invariant-loop-client : goal.invariant-loop-client
-invariant-loop-client l = l.steps ≡ l.initial.steps ++ finishes l.client

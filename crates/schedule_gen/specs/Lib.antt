@@ -1,4 +1,0 @@
-pub mod Scenario
-pub mod Drawing
-pub mod Schedule
-pub mod Generated

@@ -1,0 +1,9 @@
+use Rattle.std.proofs.Common.{◌≡◌, length}
+use Rattle.script_rows.specs.NameBytes.{has_stranger}
+use Rattle.script_rows.proofs.name_list.NameList.has_stranger.Given as goal
+
+abbrev pub invariant-loop-name : goal.invariant-loop-name
+invariant-loop-name l = has_stranger l.names l.left ≡ has_stranger l.names l.self
+
+abbrev pub decreases-loop-name : goal.decreases-loop-name
+decreases-loop-name l = length l.left

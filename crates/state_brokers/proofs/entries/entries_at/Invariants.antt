@@ -1,5 +1,0 @@
-use Rattle.state_brokers.proofs.EntryExits.{EntriesGo}
-use Rattle.state_brokers.proofs.entries.entries_at.Given as goal
-
-abbrev pub invariant-loop : goal.invariant-loop
-invariant-loop l = EntriesGo l.names l.own l.count l.counter l.book l.rest l.bytes

@@ -1,5 +1,0 @@
-use Rattle.state_brokers.specs.Entries.{something}
-use Rattle.state_brokers.proofs.heading.said.Goals as goal
-
-pub returns-in-Ok : goal.returns-in-Ok
-returns-in-Ok c = something c.in-Ok.meta c.in-Ok.ensures.found

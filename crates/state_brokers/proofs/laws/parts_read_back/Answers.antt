@@ -1,5 +1,0 @@
-use Rattle.state_brokers.proofs.NodeBack.{node_again}
-use Rattle.state_brokers.proofs.laws.parts_read_back.Goals as goal
-
-pub returns-clause-node : goal.returns-clause-node
-returns-clause-node c = λ per names own b rest h. node_again per names own b rest h

@@ -1,6 +1,0 @@
-use Rattle.std.proofs.Common.{◌≡◌, ◌+◌, take}
-use Rattle.std.specs.List.{sum}
-use Rattle.state_brokers.proofs.ledgers.have_together.Given as goal
-
-abbrev pub invariant-loop-length : goal.invariant-loop-length
-invariant-loop-length l = sum (take l.length-index l.lengths) + l.left ≡ l.count

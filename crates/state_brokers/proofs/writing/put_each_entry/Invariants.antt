@@ -1,7 +1,0 @@
-use Rattle.std.proofs.Common.{◌≡◌, ◌++◌, take}
-use Rattle.std.specs.List.{flat_map}
-use Rattle.state_entries.specs.Texts.{entry_text}
-use Rattle.state_brokers.proofs.writing.put_each_entry.Given as goal
-
-abbrev pub invariant-loop-entry : goal.invariant-loop-entry
-invariant-loop-entry l = l.out ≡ l.initial.out ++ flat_map (entry_text l.names l.own) (take l.entry-index l.entries)

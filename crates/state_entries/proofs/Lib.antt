@@ -1,5 +1,0 @@
-pub mod Origins
-pub mod Written
-pub mod Stored
-pub mod Told
-pub mod One

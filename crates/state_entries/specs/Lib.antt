@@ -1,4 +1,0 @@
-pub mod Origins
-pub mod Stored
-pub mod Texts
-pub mod Told

@@ -1,0 +1,22 @@
+use Rattle.std.proofs.Common.{[], arith}
+use Rattle.std.proofs.lemmas.Result.{err_from_is_err_and}
+use Rattle.state_nodes.specs.Clients.{ident_at}
+use Rattle.state_items.specs.Reading.{many}
+use Rattle.state_items.proofs.Loops.{ends, goes_on, is_done}
+use Rattle.state_nodes.proofs.clients.counted_idents.Goals as goal
+
+pub returns-in_err-ident : goal.returns-in_err-ident
+returns-in_err-ident c =
+    let one = ident_at c.args.clusters in
+    let p = err_from_is_err_and c.from_residual.result c.from_residual.ensures.1 in
+    rw (p.1, p.2) (ends one c.in_err-ident.field-0.0 c.args.count c.loop.counter c.loop.idents.items c.loop.rest.now (many one c.args.count [] c.args.bytes.now) c.loop-test.true (c.in_err-ident.ensures c.loop.idents.items) c.loop.invariant)
+
+pub loop-preserved : goal.loop-preserved
+loop-preserved c =
+    let one = ident_at c.args.clusters in
+    goes_on one c.args.count c.loop.counter c.loop.idents.items c.push.new.self.items c.loop.rest.now c.in_ok-ident.ident c.in_ok-ident.after.now (many one c.args.count [] c.args.bytes.now) c.loop-test.true c.in_ok-push.ensures.items (c.in_ok-ident.ensures c.loop.idents.items) c.loop.invariant
+
+pub returns : goal.returns
+returns c =
+    let one = ident_at c.args.clusters in
+    is_done one c.args.count c.loop.counter c.loop.idents.items c.loop.rest.now (many one c.args.count [] c.args.bytes.now) (omega (arith, c.loop-test.false)) c.loop.invariant

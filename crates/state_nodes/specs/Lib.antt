@@ -1,0 +1,13 @@
+pub mod Counts
+pub mod Subs
+pub mod Senders
+pub mod Ledgers
+pub mod Entries
+pub mod Book
+pub mod Nodes
+pub mod Writing
+pub mod Fitting
+pub mod Known
+pub mod Clients
+pub mod ClientFitting
+pub mod ClientKnown

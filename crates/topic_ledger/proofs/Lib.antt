@@ -1,6 +1,0 @@
-pub mod Counts
-pub mod FirstIndexes
-pub mod Found
-pub mod Ledgers
-pub mod Parts
-pub mod Searched

@@ -1,4 +1,0 @@
-pub mod Firsts
-pub mod Ledger
-pub mod Messages
-pub mod Store

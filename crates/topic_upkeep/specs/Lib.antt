@@ -1,0 +1,4 @@
+pub mod View
+pub mod Last
+pub mod Faults
+pub mod Kept

@@ -1,5 +1,0 @@
-pub mod Lines
-pub mod RangeTexts
-pub mod Gains
-pub mod Keys
-pub mod Tables

@@ -1,5 +1,0 @@
-pub mod Naming
-pub mod Told
-pub mod Snapshots
-pub mod Ranges
-pub mod Acts
