@@ -24,6 +24,8 @@ mod ledgers;
 #[cfg(test)]
 mod offers;
 #[cfg(test)]
+mod plain_sender;
+#[cfg(test)]
 mod replicating;
 #[cfg(test)]
 mod restarting;
