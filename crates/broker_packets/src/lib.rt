@@ -1,4 +1,10 @@
-//! What a packet does at a broker, prepared: a command of a client, a frame of another cluster's link, and what that one answers.
+//! What a broker does with the packets of its clients, with a client's connection that ends, and at the ends of a replication link.
+//!
+//! There it takes the next packet of the forward link and answers it, it receives what the back link answers, and it begins a new
+//! session. A packet of a link is lost, acted on once, or acted on two times in a row.
+//!
+//! The calls fill a plan: they take all the memory of an event and change nothing but room; the broker's state is told in `broker_state`,
+//! what a prepared event is in `broker_plans`.
 #![tactic(auto)]
 
 mod acknowledging;

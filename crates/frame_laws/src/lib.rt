@@ -1,5 +1,12 @@
-//! Laws of frames as bytes and of books of them, over the definitions: a run over bytes is a run of the machine, and books that grow event
-//! by event send what the machine sends.
+//! What the laws over values say of bytes: what runs send is told whole by its bytes and can be written, a node that keeps the bytes of
+//! its packets keeps a history of the law of the merge, and a packet that was cut off on its way is one that was lost.
+//!
+//! And the laws of a node's book: when an event joins it, and where its packets go. What a node sends is told by its bytes, whatever
+//! came: an entry that it stores was read from bytes, or was made by itself. So the canonical text that it sends stands for the packet,
+//! and no world is asked.
+//!
+//! As in `world_laws`, a law is a public function without parameters and without an answer; its contract is the statement, and its proof
+//! stands in `proofs/`.
 #![tactic(auto)]
 
 mod books;

@@ -1,4 +1,7 @@
-//! What a stop leaves of brokers and of clients, as items of a state file: written, and read again, each judged by its script.
+//! The parts of a state file: what a run counted, the durable parts of its brokers, and what a stop leaves of each client.
+//!
+//! Each has one text, and a reader that answers what bytes say or the first item that breaks a rule. No reader takes more memory than its
+//! bytes call for: a list grows item by item, and each item has a byte at least.
 #![tactic(auto)]
 
 mod book;

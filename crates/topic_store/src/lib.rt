@@ -1,4 +1,12 @@
-//! What a topic keeps: its entries in ledgers, and of each producer the last sequence id, which tells what comes twice.
+//! What a topic keeps: its entries, in ledgers, and which messages it has had.
+//!
+//! A topic's store is one list of entries ([`TopicLedger`]). What the ledgers are for, positions, is read from the first index of each
+//! ledger: the position of an index is found by binary search among them, the index of a position by one look, and an entry more is a
+//! push. `ListStore` is the same by walking the ledgers' lengths, for tests.
+//!
+//! A [`DedupTable`] has for each origin and producer the highest sequence id that was stored (Pulsar manual, message deduplication; that
+//! the origin counts is own). It answers what a search of the whole topic would, and a check takes the same time however long the topic
+//! is.
 #![tactic(auto)]
 
 mod entry_of;
