@@ -181,6 +181,19 @@ fn read_as(alloc: Global, stream: &[u8], in_bytes: bool) -> (Result<(), FrameFau
     (answer, came)
 }
 
+/// Whether this comes of a stream, in one piece and byte by byte.
+fn is_read(
+    alloc: Global,
+    stream: &[u8],
+    wanted: (u64, usize),
+    fault: &str,
+) -> Result<bool, AllocError> {
+    Ok(
+        is_read_as(alloc, stream, false, wanted, fault)?
+            && is_read_as(alloc, stream, true, wanted, fault)?,
+    )
+}
+
 /// Whether this comes of a stream, in one piece or byte by byte.
 fn is_read_as(
     alloc: Global,
@@ -197,14 +210,7 @@ fn is_read_as(
 fn streams_are_judged_in_order_however_they_are_cut(rt: HostRuntime) -> Result<(), Fail> {
     let alloc = rt.alloc();
     for (stream, came, fault) in TABLE.iter() {
-        assert!(rt;
-            is_read_as(alloc, stream, false, *came, fault)?,
-            "at {stream:?}"
-        );
-        assert!(rt;
-            is_read_as(alloc, stream, true, *came, fault)?,
-            "at {stream:?}"
-        );
+        assert!(rt; is_read(alloc, stream, *came, fault)?, "at {stream:?}");
     }
     Ok(())
 }

@@ -111,9 +111,17 @@ fn table(alloc: Global) -> Result<SubTable, Memory> {
     let name = sub_name(alloc, "s")?;
     let sub = Sub::new(alloc, name, SubKind::Failover, true, 1, 1)?;
     let mut table = SubTable::new(alloc);
-    table.reserve(1)?;
-    table.create(sub, true, 3);
-    Ok(table)
+    match table.reserve(1) {
+        Ok(()) => {
+            table.create(sub, true, 3);
+            Ok(table)
+        }
+        Err(fault) => {
+            drop(sub);
+            drop(table);
+            Err(fault)
+        }
+    }
 }
 
 /// Whether the one subscription is found by its name, and no other and no consumer is, and whether it is replicated, and begins at

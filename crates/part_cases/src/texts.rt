@@ -59,17 +59,43 @@ fn add(entries: &mut Vec<Entry>, entry: Entry) -> Result<(), Memory>
     Ok(())
 }
 
+/// One message more.
+fn add_message(
+    alloc: Global,
+    entries: &mut Vec<Entry>,
+    seq: u64,
+    key: Option<&str>,
+    payload: &[u8],
+) -> Result<(), Memory>
+    requires before { (names : List (List ℕ)) → AreTellable names 0 entries.old.items }
+    ensures told { OnOk result ((names : List (List ℕ)) → AreTellable names 0 entries.new.items) }
+    ensures len { OnOk result (length entries.new.items ≡ length entries.old.items + 1) }
+{
+    let message = message(alloc, seq, key, payload)?;
+    add(entries, message)
+}
+
+/// One marker more.
+fn add_update(alloc: Global, entries: &mut Vec<Entry>) -> Result<(), Memory>
+    requires before { (names : List (List ℕ)) → AreTellable names 0 entries.old.items }
+    ensures told { OnOk result ((names : List (List ℕ)) → AreTellable names 0 entries.new.items) }
+    ensures len { OnOk result (length entries.new.items ≡ length entries.old.items + 1) }
+{
+    let update = update(alloc, 0)?;
+    add(entries, update)
+}
+
 /// Two messages, a marker and two messages more.
 fn add_five(alloc: Global, entries: &mut Vec<Entry>) -> Result<(), Memory>
     requires before { (names : List (List ℕ)) → AreTellable names 0 entries.old.items }
     ensures told { OnOk result ((names : List (List ℕ)) → AreTellable names 0 entries.new.items) }
     ensures len { OnOk result (length entries.new.items ≡ length entries.old.items + 5) }
 {
-    add(entries, message(alloc, 0, None, b"hi")?)?;
-    add(entries, message(alloc, 1, Some("k"), b"")?)?;
-    add(entries, update(alloc, 0)?)?;
-    add(entries, message(alloc, 2, None, b"")?)?;
-    add(entries, message(alloc, 3, Some("k"), b"x")?)
+    add_message(alloc, entries, 0, None, b"hi")?;
+    add_message(alloc, entries, 1, Some("k"), b"")?;
+    add_update(alloc, entries)?;
+    add_message(alloc, entries, 2, None, b"")?;
+    add_message(alloc, entries, 3, Some("k"), b"x")
 }
 
 /// Two messages, a marker and two messages.

@@ -57,7 +57,11 @@ fn read_once<S: EntryStore, T: Tier + Drop>(
     ensures { Holds names.now T.kept entries tiered.new }
 {
     match tiered.read(alloc, names, i) {
-        Ok(entry) => Some(has(store, i, &entry)),
+        Ok(entry) => {
+            let is_same = has(store, i, &entry);
+            drop(entry);
+            Some(is_same)
+        }
         Err(_) => None,
     }
 }
