@@ -1,3 +1,5 @@
+pub mod Subs
+pub mod Counting
 pub mod Walking
 pub mod SeenNodes
 pub mod Waiting

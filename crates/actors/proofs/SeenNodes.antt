@@ -4,7 +4,7 @@ use Rattle.std.proofs.lemmas.Bool.{lt-ltb}
 use Rattle.std.proofs.lemmas.Bool.Decides.{nat_tests}
 use Rattle.std.specs.Prelude.{if◌then◌else◌, ◌&&◌, Some, None, nat_lt}
 use Rattle.actors.specs.Tries.{cluster_of, has_sender, is_broker, is_client, is_connected, sender_to}
-use Rattle.node_roles.specs.declared.role.Link.{Link}
+use Rattle.actors.specs.declared.role.Link.{Link}
 use Rattle.broker.specs.Node.{BrokerBook}
 use Rattle.geo_base.specs.Broker.{sender_at}
 use Rattle.geo_base.specs.Setup.{Setup}

@@ -2,8 +2,8 @@
 use Rattle.std.proofs.Common.{◌≡◌, ◌∙◌, ℕ, Bool, true, false, List, [], ◌∷◌, ◌++◌, refl, sym, ap}
 use Rattle.std.specs.Prelude.{IfOk, IsErr, IsFalse, IsTrue, OnErr, Option, Result, Ok, Err, is_err}
 use Rattle.std.proofs.lemmas.Bool.{false≢true}
-use Rattle.node_roles.specs.declared.role.Link.{Link}
-use Rattle.node_roles.specs.Drawing.{Drawing, after_draw, fate_drawn, restart_drawn}
+use Rattle.actors.specs.declared.role.Link.{Link}
+use Rattle.actors.specs.Drawing.{Drawing, after_draw, fate_drawn, restart_drawn}
 use Rattle.actors.specs.Tries.{Try, controller_tries, receipt_try, receiver_tries, tried, try_if}
 use Rattle.actors.specs.Turns.{Walks}
 use Rattle.geo_base.specs.declared.event.Event.{Event}

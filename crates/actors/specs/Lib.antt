@@ -1,2 +1,4 @@
+pub mod Order
+pub mod Drawing
 pub mod Tries
 pub mod Turns

@@ -1,10 +1,10 @@
 -- What an actor tries in a turn (own): the events of its role at the book that it is given, in order. A role none of whose events is
 -- at the book's node tries nothing.
 use Rattle.std.specs.Prelude.{ℕ, nat_lt, nat_le, ◌==◌, Bool, true, false, not, ◌&&◌, ◌||◌, if◌then◌else◌, List, [], ◌∷◌, ◌++◌, length, Option, Some, None}
-use Rattle.node_roles.specs.declared.role.Link.{Link}
-use Rattle.node_roles.specs.declared.role.Role.{Role}
-use Rattle.node_roles.specs.declared.role.Role.TheVariants as role
-use Rattle.node_roles.specs.Drawing.{Drawing, after_draw, drawing_of, fate_drawn, restart_drawn}
+use Rattle.actors.specs.declared.role.Link.{Link}
+use Rattle.actors.specs.declared.role.Role.{Role}
+use Rattle.actors.specs.declared.role.Role.TheVariants as role
+use Rattle.actors.specs.Drawing.{Drawing, after_draw, drawing_of, fate_drawn, restart_drawn}
 use Rattle.geo_base.specs.declared.event.Event.{Event}
 use Rattle.geo_base.specs.declared.event.Event.TheVariants as event
 use Rattle.geo_base.specs.declared.sender.Pending.{Pending}

@@ -1,6 +1,6 @@
 -- A turn of an actor at a book.
 use Rattle.std.specs.Prelude.{◌≡◌, ℕ, ◌+◌, min, Bool, true, false, if◌then◌else◌, List, [], ◌∷◌, Option, Result, Ok, Err}
-use Rattle.node_roles.specs.Drawing.{Drawing}
+use Rattle.actors.specs.Drawing.{Drawing}
 use Rattle.actors.specs.Tries.{Actor, Try, has_waited, most_waited, tries_of}
 use Rattle.geo_base.specs.declared.memory.Memory.{Memory}
 use Rattle.node_book.specs.Acts.{IsActed, IsHeld, SameBook}

@@ -2,7 +2,7 @@
 ghost use Rattle.std.specs.Prelude.{◌≡◌};
 ghost use Rattle.actors.specs.Tries.{new_actor};
 
-use node_roles::{Draws, Role};
+use crate::{Draws, Role};
 use script_text::Scenario;
 use std::marker::Model;
 
@@ -24,7 +24,7 @@ impl Model for Actor {
 }
 
 impl Actor {
-    /// The actor of a number, which has had no turn. A scenario's actors are numbered in the order of `node_roles::roles`.
+    /// The actor of a number, which has had no turn. A scenario's actors are numbered in the order of `crate::roles`.
     pub fn new(scenario: &Scenario, number: u32, role: Role) -> Actor
         ensures { result ≡ new_actor scenario.now number role }
     {

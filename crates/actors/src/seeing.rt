@@ -3,9 +3,9 @@ ghost use Rattle.std.specs.Prelude.{◌≡◌, true, false, MatchOption};
 ghost use Rattle.actors.specs.Tries.{cluster_of, has_sender, is_broker, is_client, is_closed, is_connected, sender_to, waits};
 ghost use Rattle.replicator.specs.Sending.{sending_of};
 
+use crate::Link;
 use geo_base::SenderState;
 use node_book::{NodeBook, NodeState};
-use node_roles::Link;
 use replicator::Sender;
 use wire_ends::End;
 

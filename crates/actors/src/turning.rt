@@ -1,14 +1,14 @@
 //! A turn of an actor.
 ghost use Rattle.std.specs.Prelude.{◌≡◌, ◌+◌, ◌∷◌, [], if◌then◌else◌, min};
-ghost use Rattle.node_roles.specs.Drawing.{Drawing};
+ghost use Rattle.actors.specs.Drawing.{Drawing};
 ghost use Rattle.actors.specs.Tries.{client_tries, connection_due, controller_tries, has_waited, most_waited, receiver_tries, sender_tries, server_tries, session_due, tried, tries_of, try_if};
 ghost use Rattle.actors.specs.Turns.{IsTurn, Walks};
 
 use crate::actor::Actor;
 use crate::seeing::{cluster_of, is_broker, is_client, is_closed, is_connected, sender_of, waits};
+use crate::{Draws, Link, Role};
 use geo_base::{Event, Memory};
 use node_book::NodeBook;
-use node_roles::{Draws, Link, Role};
 use std::alloc::Global;
 use wire_ends::End;
 

@@ -15,8 +15,8 @@ use Rattle.geo_base.specs.Topic.{accepts}
 use Rattle.geo_base.specs.TraceItems.{Act, Acks, Appends, Begins, Creates, Deletes, Item, Seeks, Writes}
 use Rattle.audit.specs.AuditOf.{item_refused, lines_audited, may_come, names_of, told_if}
 use Rattle.audit.specs.Numbers.{AreSized}
-use Rattle.audit_parts.specs.Topic.{MayAct}
-use Rattle.audit_parts.proofs.Needing.{Grown, none_grown}
+use Rattle.audit.specs.Topic.{MayAct}
+use Rattle.audit.proofs.Needing.{Grown, none_grown}
 use Rattle.script_rows.specs.NameWords.{cut_by}
 use Rattle.trace_lines.specs.Lines.{item_read}
 use Rattle.trace_lines.specs.Said.{act_said, item_said}

@@ -1,5 +1,15 @@
+pub mod EntryPassing
+mod Steps
+mod Following
+mod Gains
+mod HeldSubs
+mod LastPlace
+pub mod Needing
+mod Passing
+mod SlotRows
+mod Tables
 pub mod Accepting
 mod Judging
 mod LineNumbers
-mod Steps
+mod LineSteps
 mod Within

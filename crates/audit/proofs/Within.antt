@@ -5,9 +5,9 @@ use Rattle.std.proofs.lemmas.Option.{none-some, same_Some}
 use Rattle.geo_base.specs.declared.position.Position.{Position}
 use Rattle.geo_base.specs.Mirror.{Mirror, index_at, index_from, no_mirror}
 use Rattle.geo_base.specs.Position.{same_position}
-use Rattle.audit_parts.specs.Covers.{AreCovers, NeededHere}
-use Rattle.audit_parts.specs.Stored.{TopicEntries}
-use Rattle.audit_parts.proofs.Needing.{opening_covers}
+use Rattle.audit.specs.Covers.{AreCovers, NeededHere}
+use Rattle.audit.specs.Stored.{TopicEntries}
+use Rattle.audit.proofs.Needing.{opening_covers}
 
 index_below : (ps : List Position) (p : Position) (k i : ℕ) → index_from k ps p ≡ Some i → i < k + length ps
 index_below [] p k i h = absurd (none-some i h)

@@ -6,7 +6,7 @@ use Rattle.geo_base.specs.Audit.{covers, index_named, is_above, may_snapshot, ma
 use Rattle.geo_base.specs.Mirror.{Mirrors, mirror_at, no_mirror}
 use Rattle.geo_base.specs.Setup.{Setup}
 use Rattle.geo_base.specs.Topic.{accepts}
-use Rattle.audit_parts.specs.declared.covers.Pair.{Pair}
+use Rattle.audit.specs.declared.covers.Pair.{Pair}
 
 -- what a position of another cluster covers stands in the own topic at or below index l
 abbrev pub covers_other : Mirrors → Pair → ℕ → Option Position → Bool

@@ -4,11 +4,11 @@ ghost use Rattle.geo_base.specs.Audit.{act_refused, is_cut, may_snapshot, may_st
 ghost use Rattle.geo_base.specs.Mirror.{index_at, mirror_at, mirror_sub};
 ghost use Rattle.geo_base.specs.TraceItems.{Appends};
 ghost use Rattle.audit.specs.Appends.{covers_other, marker_refused, place_refused};
-ghost use Rattle.audit_parts.specs.Covers.{entries_of};
+ghost use Rattle.audit.specs.Covers.{entries_of};
 ghost use Rattle.audit.specs.Numbers.{AreSized};
 
 use crate::mirrors::{AllMirrors, At, cluster_count, number_of};
-use audit_parts::{
+use crate::{
     Pair, TopicMirror, first_position, is_meant_for, name_same, names_each, unless_broken,
 };
 use geo_base::{ClusterPosition, Content, Entry, Marker, Memory, Position, Text};

@@ -4,13 +4,38 @@
 //! lines make of these and refuses the first line that breaks a rule. It knows no session, no packet, no snapshot in the making, no
 //! cache and no dispatcher, and runs no machine. Tables answer what a walk over a topic would, so that its time grows nearly as the
 //! bytes of the trace, whatever these say: no line costs the length of a range that it names, and no snapshot that of a topic.
+//!
+//! Of entries it asks whether two are the same, what the positions that a marker names are, and over which entries an acknowledgement may
+//! pass. Of a topic at one cluster, which identities stand there, what an acknowledgement may pass over, and what the other clusters'
+//! topics need of it.
 #![tactic(auto)]
 
+mod acks;
 mod appends;
 mod audit_of;
+mod covers;
+mod entries;
 mod fault;
+mod identity;
 mod lines;
 mod mirrors;
+mod named;
+mod runs;
+mod same;
+mod slots;
+mod stored;
+mod sub;
+mod subs;
+mod topic;
 
+use acks::{Acked, unless_broken};
 pub use audit_of::audit;
+use covers::{CoverList, Pair};
+use entries::{is_data, is_meant_for, must_stand, passes};
 pub use fault::AuditFault;
+use named::{first_position, name_same, names_each, only_position};
+use runs::{Passed, Runs, end_by};
+use same::{is_same_entry, is_same_position};
+use stored::Stored;
+use sub::SubMirror;
+use topic::TopicMirror;

@@ -13,7 +13,7 @@ ghost use Rattle.audit.specs.declared.fault.AuditFault.TheVariants as fault;
 
 use crate::fault::AuditFault;
 use crate::mirrors::{AllMirrors, At, number_of};
-use audit_parts::{Acked, unless_broken};
+use crate::{Acked, unless_broken};
 use geo_base::Memory;
 use script_rows::cut_at;
 use script_text::Scenario;

@@ -5,12 +5,12 @@ ghost use Rattle.cursor_acks.specs.Ranges.{indexes_of};
 ghost use Rattle.geo_base.specs.Mirror.{acted, index_at, mirror_number, no_mirror, opening_mirrors, told};
 ghost use Rattle.geo_base.specs.Audit.{refused};
 ghost use Rattle.trace_lines.specs.Said.{act_said, item_said};
-ghost use Rattle.audit_parts.specs.Acks.{acks_refused};
-ghost use Rattle.audit_parts.specs.Covers.{AreCovers, entries_of, is_covered_in};
+ghost use Rattle.audit.specs.Acks.{acks_refused};
+ghost use Rattle.audit.specs.Covers.{AreCovers, entries_of, is_covered_in};
 ghost use Rattle.audit.specs.Numbers.{AreSized, IsItemOf};
-ghost use Rattle.audit_parts.specs.Topic.{MayAct};
+ghost use Rattle.audit.specs.Topic.{MayAct};
 
-use audit_parts::{Acked, CoverList, Pair, TopicMirror};
+use crate::{Acked, CoverList, Pair, TopicMirror};
 use geo_base::{Memory, Position};
 use script_text::Scenario;
 use std::alloc::Global;
@@ -28,7 +28,7 @@ pub(crate) struct AllMirrors {
 
 impl Model for AllMirrors {
     ghost use Rattle.geo_base.specs.Mirror.{Mirrors};
-    ghost use Rattle.audit_parts.specs.Covers.{AreCovers};
+    ghost use Rattle.audit.specs.Covers.{AreCovers};
 
     ghost Value = { Mirrors };
 

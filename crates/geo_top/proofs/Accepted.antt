@@ -5,8 +5,8 @@ use Rattle.geo_base.specs.Report.{with_line_feeds}
 use Rattle.geo_base.specs.Run.{all_limits, run_under}
 use Rattle.geo_base.specs.TraceText.{item_line}
 use Rattle.geo_base.specs.Traced.{traced}
-use Rattle.text_laws.specs.Readable.{IsReadBack}
-use Rattle.text_laws.proofs.ReadBack.{trace_read}
+use Rattle.trace_laws.specs.Readable.{IsReadBack}
+use Rattle.trace_laws.proofs.ReadBack.{trace_read}
 use Rattle.script_text.specs.Rules.{script_of}
 use Rattle.script_text.specs.Scenario.{IsScenario}
 use Rattle.script_text.specs.Script.{Script}

@@ -7,7 +7,7 @@ use Rattle.geo_base.specs.World.{World, opening_world}
 use Rattle.script_inputs.proofs.InRange.{is_scenario}
 use Rattle.script_inputs.specs.Generated.{generated_run}
 use Rattle.script_text.specs.Script.{Script}
-use Rattle.state_laws.specs.Saved.{world_from}
+use Rattle.world_kept.specs.Saved.{world_from}
 use Rattle.world_laws.proofs.SavedRuns.{reached_law}
 use Rattle.geo_top.specs.Headline.{NothingComesAgain}
 use Rattle.geo_top.specs.OneRun.{IsKept, NothingStillComesAgain}

@@ -9,7 +9,7 @@ use Rattle.geo_base.specs.Scripted.{IsScripted}
 use Rattle.geo_base.specs.Setup.{Declared, Setup, declared_at}
 use Rattle.geo_base.specs.World.{World, broker_at, client_at, node, topic_at}
 use Rattle.world.specs.World.{IsAt, WorldBook, no_node, node_at}
-use Rattle.report_sections.proofs.Parts.{lines_added, with_line_feeds-append}
+use Rattle.report_lines.proofs.Parts.{lines_added, with_line_feeds-append}
 use Rattle.report_lines.proofs.Added.{line_added}
 use Rattle.broker.specs.Node.{BrokerBook}
 use Rattle.world_laws.specs.Reached.{IsGround}

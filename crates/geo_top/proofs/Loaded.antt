@@ -8,8 +8,8 @@ use Rattle.state_file.specs.Loading.{IsLoaded}
 use Rattle.state_file.specs.State.{state_in}
 use Rattle.state_file.specs.Texts.{body_text, magic, newest}
 use Rattle.state_items.specs.Texts.{number, word}
-use Rattle.state_laws.specs.Saved.{IsLeft, IsShortState}
-use Rattle.state_laws.proofs.Left.{saved_law}
+use Rattle.world_kept.specs.Saved.{IsLeft, IsShortState}
+use Rattle.world_kept.proofs.Left.{saved_law}
 use Rattle.geo_top.specs.OneRun.{IsKept}
 use Rattle.geo_top.specs.Outputs.{passed_limit}
 use Rattle.geo_top.specs.States.{file_of, state_of_run, stopped}

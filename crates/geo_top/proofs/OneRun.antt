@@ -12,7 +12,7 @@ use Rattle.geo_base.specs.declared.session.Session.{Session}
 use Rattle.geo_base.specs.Setup.{Setup}
 use Rattle.geo_base.specs.World.{World, opening_world}
 use Rattle.geo_base.specs.Worlds.{BrokerPlaces}
-use Rattle.state_laws.specs.Saved.{revived, world_from}
+use Rattle.world_kept.specs.Saved.{revived, world_from}
 use Rattle.durable_parts.specs.Durable.{durable_part}
 use Rattle.script_text.specs.Lines.{lines_of}
 use Rattle.script_text.specs.Rules.{script_of}

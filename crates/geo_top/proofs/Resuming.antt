@@ -7,7 +7,7 @@ use Rattle.geo_base.specs.World.{World}
 use Rattle.world.specs.declared.fault.RunFault.{RunFault}
 use Rattle.world.specs.declared.fault.RunFault.TheVariants as fault
 use Rattle.world.specs.Runs.{Comes, at_world}
-use Rattle.state_laws.specs.Saved.{world_from}
+use Rattle.world_kept.specs.Saved.{world_from}
 use Rattle.world.specs.World.{IsAt, WorldBook, kept_of}
 use Rattle.script_text.specs.Script.{Script}
 use Rattle.state_file.specs.State.{SavedState}

@@ -13,7 +13,7 @@ use Rattle.geo_base.specs.Safe.{OnlySettled}
 use Rattle.geo_base.specs.Settled.{settled, settled_at}
 use Rattle.geo_base.specs.Setup.{Setup}
 use Rattle.geo_base.specs.World.{World, node, topic_at}
-use Rattle.state_laws.specs.Saved.{world_from}
+use Rattle.world_kept.specs.Saved.{world_from}
 use Rattle.script_text.specs.Script.{Script}
 use Rattle.world_laws.specs.AlikeWorlds.{AlwaysOn, AreAlike, LawResumed, RunsAlike, kept_behind, world_on}
 use Rattle.world_laws.proofs.ResumedRuns.{resumed_law}

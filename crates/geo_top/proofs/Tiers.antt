@@ -9,11 +9,11 @@ use Rattle.geo_base.specs.Run.{all_limits, run}
 use Rattle.geo_base.specs.Setup.{Setup}
 use Rattle.geo_base.specs.World.{World, node, topic_at}
 use Rattle.broker.specs.Node.{BrokerBook}
-use Rattle.text_laws.proofs.Ledgers.{readable_law, readable_tellable}
-use Rattle.tiered_ledger.specs.Readable.{AreTellable}
+use Rattle.trace_laws.proofs.Ledgers.{readable_law, readable_tellable}
+use Rattle.topic_upkeep.specs.Readable.{AreTellable}
 use Rattle.report_lines.proofs.Added.{line_added}
-use Rattle.report_sections.proofs.Parts.{lines_added}
-use Rattle.report_sections.specs.Tiers.{moved_ledgers, moved_line, tier_lines}
+use Rattle.report_lines.proofs.Parts.{lines_added}
+use Rattle.report_lines.specs.Tiers.{moved_ledgers, moved_line, tier_lines}
 use Rattle.script_text.specs.Scenario.{IsScenario}
 use Rattle.script_text.specs.Script.{Script}
 use Rattle.world.specs.World.{IsAt, WorldBook, node_at}

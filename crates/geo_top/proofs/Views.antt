@@ -10,8 +10,8 @@ use Rattle.geo_base.specs.Setup.{Setup}
 use Rattle.geo_base.specs.World.{World, node, topic_at}
 use Rattle.broker.specs.Node.{BrokerBook}
 use Rattle.report_lines.proofs.Added.{line_added}
-use Rattle.report_sections.proofs.Parts.{lines_added}
-use Rattle.report_sections.specs.Views.{horizon_line, view_lines, view_messages}
+use Rattle.report_lines.proofs.Parts.{lines_added}
+use Rattle.report_lines.specs.Views.{horizon_line, view_lines, view_messages}
 use Rattle.script_text.specs.Script.{Script}
 use Rattle.world.specs.World.{IsAt, WorldBook, node_at}
 use Rattle.geo_top.specs.Compacted.{compacted, views_at, views_of}

@@ -3,7 +3,7 @@ use Rattle.std.specs.Prelude.{ℕ, ◌+◌, List, [], ◌∷◌, ◌++◌}
 use Rattle.geo_base.specs.Report.{with_line_feeds}
 use Rattle.geo_base.specs.Setup.{Setup}
 use Rattle.geo_base.specs.World.{World, topic_at}
-use Rattle.report_sections.specs.Views.{view_lines}
+use Rattle.report_lines.specs.Views.{view_lines}
 
 -- of topic t, whose name is topic, at each cluster from x on
 abbrev pub views_at : Setup → World → ℕ → ℕ → List ℕ → ℕ → List (List ℕ) → List (List ℕ)

@@ -2,7 +2,7 @@
 use Rattle.std.specs.Prelude.{◌≡◌, List, None}
 use Rattle.geo_base.specs.declared.event.Step.{Step}
 use Rattle.geo_base.specs.Run.{all_limits, run}
-use Rattle.state_laws.specs.Saved.{world_from}
+use Rattle.world_kept.specs.Saved.{world_from}
 use Rattle.world.specs.World.{IsAt, WorldBook, kept_of}
 use Rattle.script_text.specs.Script.{Script}
 use Rattle.state_file.specs.State.{SavedState}

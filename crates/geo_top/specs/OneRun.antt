@@ -6,7 +6,7 @@ use Rattle.geo_base.specs.Moments.{Settling}
 use Rattle.geo_base.specs.Safe.{AllOnce, NothingForgotten}
 use Rattle.geo_base.specs.Settled.{SettledSoFar}
 use Rattle.geo_base.specs.World.{World}
-use Rattle.state_laws.specs.Saved.{world_from}
+use Rattle.world_kept.specs.Saved.{world_from}
 use Rattle.script_text.specs.Lines.{lines_of}
 use Rattle.script_text.specs.Rules.{script_of}
 use Rattle.script_text.specs.Scenario.{IsScenario}

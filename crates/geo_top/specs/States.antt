@@ -6,7 +6,7 @@ use Rattle.geo_base.specs.Run.{Limits, Ran, no_limits, run, run_from}
 use Rattle.geo_base.specs.World.{World}
 use Rattle.world.specs.Runs.{at_world}
 use Rattle.state_file.specs.State.{SavedState, state_in}
-use Rattle.state_laws.specs.Saved.{world_from}
+use Rattle.world_kept.specs.Saved.{world_from}
 use Rattle.script_text.specs.Script.{Script}
 use Rattle.state_file.specs.Texts.{state_text}
 

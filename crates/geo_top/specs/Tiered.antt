@@ -4,8 +4,8 @@ use Rattle.std.specs.Prelude.{ℕ, ◌+◌, ◌<◌, List, [], ◌∷◌, ◌++�
 use Rattle.geo_base.specs.Report.{with_line_feeds}
 use Rattle.geo_base.specs.Setup.{Setup}
 use Rattle.geo_base.specs.World.{World, topic_at}
-use Rattle.tiered_ledger.specs.Readable.{AreTellable}
-use Rattle.report_sections.specs.Tiers.{tier_lines}
+use Rattle.topic_upkeep.specs.Readable.{AreTellable}
+use Rattle.report_lines.specs.Tiers.{tier_lines}
 
 -- of topic t, whose name is topic, at each cluster from x on; the last closed ledgers, keep of them, stay
 abbrev pub tiers_at : Setup → World → ℕ → ℕ → List ℕ → ℕ → List (List ℕ) → List (List ℕ)

@@ -9,8 +9,7 @@ ghost use Rattle.geo_top.specs.Shown.{shown_world};
 ghost use Rattle.world.specs.World.{IsAt};
 
 use geo_base::{Blob, EntryStore, Memory};
-use report_lines::add;
-use report_sections::{add_messages, horizon_line};
+use report_lines::{add, add_messages, horizon_line};
 use script_text::Scenario;
 use std::alloc::Global;
 use world::World;

@@ -6,16 +6,15 @@ ghost use Rattle.std.specs.Prelude.{◌≡◌, ◌<◌, ◌≤◌, ◌++◌, ◌
 ghost use Rattle.geo_base.specs.Report.{entry_lines, with_line_feeds};
 ghost use Rattle.geo_top.specs.Shown.{shown_world};
 ghost use Rattle.geo_top.specs.Tiered.{AreTopicsTellable, tiered, tiers_at, tiers_of};
-ghost use Rattle.report_sections.specs.Tiers.{moved_line};
+ghost use Rattle.report_lines.specs.Tiers.{moved_line};
 ghost use Rattle.topic_upkeep.specs.Kept.{kept_in};
-ghost use Rattle.tiered_ledger.specs.Calls.{offloaded};
-ghost use Rattle.tiered_ledger.specs.Tiered.{Holds};
+ghost use Rattle.topic_upkeep.specs.Calls.{offloaded};
+ghost use Rattle.topic_upkeep.specs.Tiered.{Holds};
 ghost use Rattle.world.specs.World.{IsAt};
 
 use geo_base::limits::CLUSTERS;
 use geo_base::{Blob, ClusterName, Memory};
-use report_lines::add;
-use report_sections::{TieredTopic, add_read_entries, moved_line, moved_to_tier};
+use report_lines::{TieredTopic, add, add_read_entries, moved_line, moved_to_tier};
 use script_text::Scenario;
 use std::alloc::Global;
 use topic_store::TopicLedger;

@@ -8,8 +8,7 @@ ghost use Rattle.geo_top.specs.Shown.{shown_world};
 ghost use Rattle.world.specs.World.{IsAt};
 
 use geo_base::{Blob, Memory};
-use report_lines::{add, head_line, place_line};
-use report_sections::{add_broker, add_client};
+use report_lines::{add, add_broker, add_client, head_line, place_line};
 use script_text::Scenario;
 use std::alloc::Global;
 use world::World;

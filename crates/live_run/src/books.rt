@@ -3,11 +3,11 @@ ghost use Rattle.std.specs.Prelude.{◌≡◌, ◌<◌, ◌+◌, length, IfOk, O
 ghost use Rattle.std.specs.Arc.{arc_value};
 ghost use Rattle.geo_base.specs.Nodes.{broker_count, node_count};
 
+use crate::NodeRings;
+use actors::{client_count, cluster_count, topic_count};
 use geo_base::Memory;
 use link_rings::RingEnd;
 use node_book::{BookList, NodeBook};
-use node_rings::NodeRings;
-use node_roles::{client_count, cluster_count, topic_count};
 use script_text::Scenario;
 use std::alloc::Global;
 use std::sync::{Arc, Mutex};

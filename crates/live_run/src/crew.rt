@@ -2,10 +2,9 @@
 ghost use Rattle.std.specs.Prelude.{◌<◌};
 
 use crate::books::LockedBook;
-use actors::Actor;
+use actors::{Actor, Role, broker_number, client_number, cluster_count};
 use geo_base::Memory;
 use geo_io::Gate;
-use node_roles::{Role, broker_number, client_number, cluster_count};
 use script_text::Scenario;
 use std::alloc::Global;
 use std::sync::Wait;

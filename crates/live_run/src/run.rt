@@ -5,11 +5,11 @@ ghost use Rattle.geo_base.specs.Nodes.{node_count};
 
 use crate::books::{LockedBook, close, open};
 use crate::crew::Crew;
+use actors::roles;
 use geo_base::Memory;
 use geo_io::Gate;
 use link_rings::RingEnd;
 use node_book::BookList;
-use node_roles::roles;
 use script_text::Scenario;
 use std::alloc::Global;
 use std::sync::{Arc, Mutex, Wait};

@@ -3,12 +3,12 @@ ghost use Rattle.std.specs.Prelude.{◌≡◌};
 ghost use Rattle.std.specs.Arc.{arc_value};
 ghost use Rattle.geo_base.specs.Nodes.{node_count};
 
+use actors::{client_count, cluster_count, node_count, topic_count};
 use geo_base::{Blob, Event, Memory};
 use link_rings::RingEnd;
 use live_output::live_output;
+use live_run::NodeRings;
 use node_book::{BookList, NodeBook};
-use node_rings::NodeRings;
-use node_roles::{client_count, cluster_count, node_count, topic_count};
 use script_text::{Scenario, read_script};
 use std::alloc::Global;
 use std::sync::Arc;

@@ -1,5 +1,5 @@
 //! The order of actors.
-use node_roles::{Link, Role, roles};
+use actors::{Link, Role, roles};
 use script_text::read_script;
 use std::alloc::Global;
 use std::test::Fail;

@@ -1,13 +1,13 @@
 //! Runs on threads.
 ghost use Rattle.std.specs.Prelude.{◌<◌};
 
+use actors::node_count;
 use geo_base::{EntryStore, Memory};
 use geo_io::{Gate, OpenGate};
 use link_rings::RingEnd;
 use live_run::live;
 use merge_history::{Book, merge_books};
 use node_book::{BookList, NodeBook, NodeState};
-use node_roles::node_count;
 use script_text::{Scenario, read_script};
 use std::alloc::Global;
 use std::sync::atomic::{AtomicBool, Ordering};

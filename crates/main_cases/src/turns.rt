@@ -2,12 +2,11 @@
 ghost use Rattle.std.specs.Prelude.{◌≡◌, IfOk};
 ghost use Rattle.std.specs.Arc.{arc_value};
 
-use actors::Actor;
+use actors::{Actor, Link, Role};
 use geo_base::{Event, Memory};
 use link_rings::RingEnd;
+use live_run::NodeRings;
 use node_book::NodeBook;
-use node_rings::NodeRings;
-use node_roles::{Link, Role};
 use script_text::{Scenario, read_script};
 use std::alloc::Global;
 use std::sync::Arc;

@@ -2,3 +2,9 @@ pub mod View
 pub mod Last
 pub mod Faults
 pub mod Kept
+pub mod Texts
+pub mod Reading
+pub mod Readable
+pub mod Ledgers
+pub mod Tiered
+pub mod Calls

@@ -51,7 +51,7 @@ use Rattle.trace_laws.proofs.Shaped.{written_last}
 use Rattle.trace_laws.proofs.Stems.{Stemming, stemming_kept}
 use Rattle.trace_laws.proofs.Writes.{PlanHolds, opened_seen}
 
--- ---- names are apart and cursors ascend (the second is `state_laws`' fact, too)
+-- ---- names are apart and cursors ascend (the second is a fact of `world_kept`, too)
 
 abbrev Ascends : Subscription → Type 0
 Ascends v = Rising 0 v.cursor

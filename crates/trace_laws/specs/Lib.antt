@@ -6,3 +6,9 @@ pub mod Again
 pub mod Behind
 pub mod Run
 pub mod Got
+pub mod Readable
+pub mod Ledgers
+pub mod Answers
+pub mod Streams
+pub mod Contents
+pub mod Offers

@@ -37,7 +37,7 @@ use Rattle.world_laws.proofs.ServeWalk.{frame_served}
 use Rattle.world_laws.proofs.Shapes.{Answered, Fated, Offers, Reads, Seeks, Served, Snaps, Taken, Updates}
 use Rattle.world_laws.proofs.Walk.{on_if}
 use Rattle.world_kept.specs.Events.{cluster_of, topic_of}
-use Rattle.trace_events.specs.Acts.{acts_before}
+use Rattle.trace_runs.specs.Acts.{acts_before}
 
 -- ---- writes behind others
 

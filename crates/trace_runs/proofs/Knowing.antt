@@ -12,8 +12,8 @@ use Rattle.geo_base.specs.Setup.{Setup}
 use Rattle.geo_base.specs.World.{World}
 use Rattle.broker.specs.Node.{BrokerBook}
 use Rattle.broker_state.specs.Plan.{PlanBook}
-use Rattle.trace_events.specs.SnapshotTables.{Snapshots, Tells, TellsBeginning, table_at}
-use Rattle.trace_events.specs.Snapshots.{HaveSeen, Knows, number_of}
+use Rattle.trace_runs.specs.SnapshotTables.{Snapshots, Tells, TellsBeginning, table_at}
+use Rattle.trace_runs.specs.Snapshots.{HaveSeen, Knows, number_of}
 use Rattle.world.specs.declared.fault.RunFault.{RunFault}
 use Rattle.world.specs.Foreseen.{IsForeseen}
 use Rattle.world.specs.Settling.{settled_by}

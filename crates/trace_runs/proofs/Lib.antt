@@ -1,7 +1,14 @@
+pub mod Lines
+pub mod RangeTexts
+pub mod Gains
+pub mod Keys
+pub mod Tables
+pub mod Steps
+pub mod Seen
 pub mod Apart
-pub mod Telling
+pub mod ItemsTold
 pub mod Growing
 pub mod Knowing
 pub mod Rounds
-pub mod Steps
+pub mod RunSteps
 mod Trace_one_snapshot

@@ -23,7 +23,7 @@ use Rattle.world.specs.Steps.{IsLater, Leads}
 use Rattle.world.specs.World.{SameWorld, WorldBook, kept_of}
 use Rattle.world.proofs.SettlingRuns.{counted, differ, ended_at, ends_here, ends_in_time, ends_later, ends_next, goes_on, resets_done, resets_ended, round_ended, round_last, round_more}
 use Rattle.trace_runs.specs.Tracing.{Ends, IsTelling, IsTellingRounds, IsTold, Tells, TellsRound, item_lines}
-use Rattle.trace_runs.proofs.Telling.{both_told}
+use Rattle.trace_runs.proofs.ItemsTold.{both_told}
 
 abbrev Answer : Type 0
 Answer = Result (Unit {0}) RunFault

@@ -1,166 +1,137 @@
--- Steps with their lines.
-use Rattle.std.proofs.Common.{◌≡◌, ℕ, ◌+◌, List, [], ◌∷◌, ◌++◌, refl, sym, ◌∙◌, ap, subst}
+-- The lines of an event, write by write.
+use Rattle.std.proofs.Common.{◌≡◌, ℕ, zero, suc, ◌+◌, ◌<◌, ◌≤◌, Bool, true, false, List, [], ◌∷◌, ◌++◌, drop, length, map, refl, sym, ap, subst, append_assoc, ◌∙◌, arith}
 use Rattle.std.proofs.lemmas.List.{append-nil}
-use Rattle.std.specs.Prelude.{Option, Some, None, Result, Ok, Err, OnErr, OnOk}
-use Rattle.geo_base.specs.declared.event.Event.{Event}
-use Rattle.geo_base.specs.declared.event.Step.{Step}
-use Rattle.geo_base.specs.declared.event.Step.TheVariants as step
-use Rattle.geo_base.specs.Happening.{halts_planned, happens, stops}
-use Rattle.geo_base.specs.Planned.{planned}
-use Rattle.geo_base.specs.Run.{Ran, all_limits, run_from, steps}
-use Rattle.geo_base.specs.Setup.{Setup}
-use Rattle.geo_base.specs.TraceItems.{Begins, Item}
-use Rattle.geo_base.specs.TraceText.{item_line}
-use Rattle.geo_base.specs.Traced.{event_items, halt_items, items_from, step_items, unless_ended}
-use Rattle.geo_base.specs.World.{World}
-use Rattle.world_kept.specs.Kept.{Kept}
-use Rattle.world_kept.specs.Reached.{Reached}
-use Rattle.world_kept.specs.Standing.{Stands}
-use Rattle.world.specs.declared.fault.RunFault.{RunFault}
-use Rattle.world.specs.declared.fault.RunFault.TheVariants as fault
-use Rattle.world.specs.Runs.{Comes, at_world}
-use Rattle.world.specs.Settling.{settled_by}
-use Rattle.world.specs.Steps.{Leads}
-use Rattle.world.specs.World.{IsAt, SameWorld, WorldBook, kept_of}
-use Rattle.world.proofs.ManySteps.{reaches, stays}
-use Rattle.world.proofs.RunSteps.{halt_comes, plain_comes, stop_comes}
-use Rattle.trace_runs.specs.Tracing.{item_lines}
-use Rattle.trace_runs.proofs.Telling.{both_told}
+use Rattle.std.specs.Prelude.{Some, Result, Ok, Err, OnOk, min, slice_get, take, find, if◌then◌else◌}
+use Rattle.std.specs.Str.{bytes_eq}
+use Rattle.geo_base.specs.declared.entry.Entry.{Entry}
+use Rattle.geo_base.specs.declared.planned.Cause.{Cause}
+use Rattle.geo_base.specs.declared.write.Write.{Write}
+use Rattle.geo_base.specs.Broker.{Broker, Site, written}
+use Rattle.geo_base.specs.Subscription.{Subscription}
+use Rattle.geo_base.specs.TraceItems.{Act}
+use Rattle.geo_base.specs.Traced.{act_of, cursor_of}
+use Rattle.broker_subs.specs.Steps.{SubWriteFits}
+use Rattle.broker_subs.specs.declared.writing.SubWrite.{SubWrite}
+use Rattle.broker_subs.specs.declared.writing.SubWrite.TheVariants as sub_write
+use Rattle.broker_subs.specs.Table.{sub_at}
+use Rattle.broker_state.specs.declared.write.BookWrite.{BookWrite}
+use Rattle.broker_state.specs.declared.write.BookWrite.TheVariants as book_write
+use Rattle.broker_state.specs.Fits.{AllWritesFit, WriteFits}
+use Rattle.broker_state.specs.Writes.{machine_write}
+use Rattle.trace_runs.specs.Naming.{Naming, act_line}
+use Rattle.report_lines.proofs.Added.{drop_here}
+use Rattle.trace_runs.specs.Acts.{acts_before}
+use Rattle.trace_runs.specs.Writes.{IsWithin, SubIsWithin, lines_of, naming}
 
-abbrev Answer : Type 0
-Answer = Result (Unit {0}) RunFault
+-- ---- one write
 
--- ---- an event behind one that was foreseen, which changed nothing
+pub one_line : (h : Site) (a : Act) (old new : List ℕ) → new ≡ old ++ act_line (naming h) a → new ≡ old ++ lines_of h (a ∷ [])
+one_line h a old new is = is ∙ ap (λ (t : List ℕ). old ++ t) (sym (append-nil (act_line (naming h) a)))
 
-stands_same : (s : Setup) (old mid : WorldBook) (w : World) → SameWorld old mid → Stands s (kept_of old) w → Stands s (kept_of mid) w
-stands_same s old mid w same stands = subst (λ (k : Kept). Stands s k w) (sym same.kept) stands
+-- the same, of a result and of a line that says the same
+pub on_said : {T E : Type 0} (r : Result T E) (n m : Naming) (a b : Act) (old new : List ℕ) → n ≡ m → a ≡ b → OnOk r (new ≡ old ++ act_line n a) → OnOk r (new ≡ old ++ act_line m b)
+on_said (Ok x) n m a b old new at same is = is ∙ (ap (λ (k : Naming). old ++ act_line k a) at ∙ ap (λ (c : Act). old ++ act_line m c) same)
+on_said (Err e) n m a b old new at same is = tt
 
-pub event_comes : (s : Setup) (old mid new : WorldBook) (w : World) (e : Event) (r : Answer) → SameWorld old mid → Stands s (kept_of old) w
-    → (Stands s (kept_of mid) w → Leads s mid new (happens s w e) r) → OnErr r (SameWorld mid new) → Comes s new (steps all_limits s (at_world w) (step.Plain e)) r
-event_comes s old mid new w e r same stands leads err =
-    let there = stands_same s old mid w same stands in plain_comes s mid new w (step.Plain e) e r refl there (leads there) err
+pub on_line : {T E : Type 0} (r : Result T E) (h : Site) (a : Act) (old new : List ℕ) → OnOk r (new ≡ old ++ act_line (naming h) a) → OnOk r (new ≡ old ++ lines_of h (a ∷ []))
+on_line (Ok x) h a old new is = one_line h a old new is
+on_line (Err e) h a old new is = tt
 
-pub halting_comes : (s : Setup) (old mid new : WorldBook) (w : World) (n : ℕ) (e : Event) (r : Answer) → SameWorld old mid → Stands s (kept_of old) w
-    → (Stands s (kept_of mid) w → Leads s mid new (halts_planned s w n (planned s w e)) r) → OnErr r (SameWorld mid new)
-    → Comes s new (steps all_limits s (at_world w) (step.Halt n e)) r
-halting_comes s old mid new w n e r same stands leads err =
-    let there = stands_same s old mid w same stands in halt_comes s mid new w (step.Halt n e) n e r refl there (leads there) err
+pub no_line : (old : List ℕ) → old ≡ old ++ []
+no_line old = sym (append-nil old)
 
-pub stopping_comes : (s : Setup) (old new : WorldBook) (w : World) (r : Answer) → Stands s (kept_of old) w → Leads s old new (stops s w) r → OnErr r (SameWorld old new)
-    → Comes s new (steps all_limits s (at_world w) step.Stop) r
-stopping_comes s old new w r stands leads err = stop_comes s old new w step.Stop r refl stands leads err
+-- ---- what a write gains is stored
 
-pub same_both : (old mid new : WorldBook) → SameWorld old mid → SameWorld mid new → SameWorld old new
-same_both old mid new h k = record { kept = k.kept ∙ h.kept; nodes = λ s there. k.nodes s (h.nodes s there) }
+fits_within : (es : List Entry) (k : ℕ) (b : Broker) (w : BookWrite) → WriteFits es k b w → IsWithin es w
+fits_within es k b (book_write.Append e stream) h = tt
+fits_within es k b (book_write.Create s latest) h = tt
+fits_within es k b book_write.Delete h = tt
+fits_within es k b (book_write.Sub w) h = by w (subst (λ (fs : List Entry). SubWriteFits fs (sub_at b.subs k) w) (sym h.0) h.1)
+  where
+    by : (w : SubWrite) → SubWriteFits es (sub_at b.subs k) w → SubIsWithin es w
+    by (sub_write.Acks is) f = f
+    by (sub_write.AckTo i) f = f
+    by (sub_write.Passed i from runs) f = f.0
+    by (sub_write.Seek i) f = tt
+    by (sub_write.Alter kind replicated) f = tt
+fits_within es k b (book_write.SenderAck y i) h = tt
+fits_within es k b (book_write.SessionNumber y session) h = tt
+fits_within es k b book_write.Ledger h = tt
 
-pub err_both : (old mid new : WorldBook) (r : Answer) → SameWorld old mid → OnErr r (SameWorld mid new) → OnErr r (SameWorld old new)
-err_both old mid new (Ok u) h k = tt
-err_both old mid new (Err f) h k = same_both old mid new h k
+pub within_at : (per : ℕ) (n : List ℕ) (es : List Entry) (k : ℕ) (b : Broker) (ws : List BookWrite) (j : ℕ) (w : BookWrite) → AllWritesFit per n es k b ws → slice_get ws j ≡ Some w
+    → IsWithin es w
+within_at per n es k b [] j w fits at = cc
+within_at per n es k b (v ∷ ws) zero w fits at = subst (λ (u : BookWrite). IsWithin es u) (same at) (fits_within es k b v fits.0)
+  where
+    same : Some v ≡ Some w → v ≡ w
+    same is = cc
+within_at per n es k b (v ∷ ws) (suc j) w fits at = within_at per n es k (written per b (machine_write n es v)) ws j w fits.1 at
 
-pub settles_past : (s : Setup) (old mid new : WorldBook) (w : World) (e : Event) (r : Answer) → SameWorld old mid → Stands s (kept_of old) w
-    → (Stands s (kept_of mid) w → Leads s mid new (settled_by s w e) r) → Leads s old new (settled_by s w e) r
-settles_past s old mid new w e r same stands leads = let on = leads (stands_same s old mid w same stands) in record { done = on.done; large = on.large }
+-- ---- write after write
 
--- ---- the lines of a step, where it comes to its end
+here_left : (f : BookWrite → Write) (k j : ℕ) (ws : List BookWrite) (w : BookWrite) → slice_get ws j ≡ Some w → j < k
+    → drop j (take k (map f ws)) ≡ f w ∷ drop (j + 1) (take k (map f ws))
+here_left f zero j ws w at lt = absurd (omega (arith, lt))
+here_left f (suc k) j [] w at lt = cc
+here_left f (suc k) zero (v ∷ ws) w at lt = first at
+  where
+    first : Some v ≡ Some w → f v ∷ take k (map f ws) ≡ f w ∷ take k (map f ws)
+    first is = cc
+here_left f (suc k) (suc j) (v ∷ ws) w at lt =
+    let one : suc j + 1 ≡ suc (j + 1) = omega arith in
+    rw one (here_left f k j ws w at (omega (arith, lt)))
 
--- what is not ended keeps its lines
-kept_items : (r : Ran) (is : List Item) → r.ended ≡ None → unless_ended r is ≡ is
-kept_items r is h = ap (λ (o : Option ℕ). unless_ended (record { world = r.world; ended = o }) is) h
+none_left : (f : BookWrite → Write) (k j : ℕ) (ws : List BookWrite) → min k (length ws) ≤ j → drop j (take k (map f ws)) ≡ []
+none_left f zero zero ws le = refl
+none_left f zero (suc j) ws le = refl
+none_left f (suc k) zero [] le = refl
+none_left f (suc k) (suc j) [] le = refl
+none_left f (suc k) zero (v ∷ ws) le = absurd (omega (arith, le))
+none_left f (suc k) (suc j) (v ∷ ws) le = none_left f k j ws (omega (arith, le))
 
-pub plain_told : (s : Setup) (new : WorldBook) (w : World) (e : Event) (old text : List ℕ) (r : Answer) → Comes s new (steps all_limits s (at_world w) (step.Plain e)) r
-    → OnOk r (text ≡ old ++ item_lines s (event_items s w e)) → OnOk r (text ≡ old ++ item_lines s (step_items all_limits s (at_world w) (step.Plain e)))
-unfolding step_items
-plain_told s new w e old text (Err f) comes told = tt
-plain_told s new w e old text (Ok u) comes told =
-    told ∙ ap (λ (is : List Item). old ++ item_lines s is) (sym (kept_items (steps all_limits s (at_world w) (step.Plain e)) (event_items s w e) comes.done.1))
+lines_append : (h : Site) (ds cs : List Act) → lines_of h (ds ++ cs) ≡ lines_of h ds ++ lines_of h cs
+lines_append h [] cs = refl
+lines_append h (a ∷ ds) cs = ap (λ (t : List ℕ). act_line (naming h) a ++ t) (lines_append h ds cs) ∙ sym (append_assoc (act_line (naming h) a) (lines_of h ds) (lines_of h cs))
 
-pub halting_told : (s : Setup) (new : WorldBook) (w : World) (n : ℕ) (e : Event) (old text : List ℕ) (r : Answer) → Comes s new (steps all_limits s (at_world w) (step.Halt n e)) r
-    → OnOk r (text ≡ old ++ item_lines s (halt_items s w n e)) → OnOk r (text ≡ old ++ item_lines s (step_items all_limits s (at_world w) (step.Halt n e)))
-unfolding step_items
-halting_told s new w n e old text (Err f) comes told = tt
-halting_told s new w n e old text (Ok u) comes told =
-    told ∙ ap (λ (is : List Item). old ++ item_lines s is) (sym (kept_items (steps all_limits s (at_world w) (step.Halt n e)) (halt_items s w n e) comes.done.1))
+-- the lines so far and those that are left
+abbrev pub with_left : Site → Cause → Broker → List ℕ → List Write → List ℕ
+with_left h c b lines ws = lines ++ lines_of h (acts_before h c b ws)
 
-pub stop_told : (s : Setup) (old new : WorldBook) (w : World) (text more : List ℕ) (r : Answer) → Stands s (kept_of old) w → Comes s new (steps all_limits s (at_world w) step.Stop) r
-    → more ≡ text ++ (item_line s (Begins (old.events + 1)) ++ 10 ∷ []) → OnOk r (more ≡ text ++ item_lines s (step_items all_limits s (at_world w) step.Stop))
-unfolding step_items
-stop_told s old new w text more (Err f) stands comes told = tt
-stop_told s old new w text more (Ok u) stands comes told =
-    told
-    ∙ (ap (λ (n : ℕ). text ++ (item_line s (Begins (n + 1)) ++ 10 ∷ [])) stands.events
-    ∙ ap (λ (is : List Item). text ++ item_lines s is) (sym (kept_items (steps all_limits s (at_world w) step.Stop) (Begins (w.events + 1) ∷ []) comes.done.1)))
+pub write_added : (h : Site) (c d : Cause) (b : Broker) (m n : List ℕ) (k j : ℕ) (ws : List BookWrite) (w : BookWrite) (old new whole : List ℕ)
+    → slice_get ws j ≡ Some w → j < k → d ≡ c → m ≡ n → new ≡ old ++ lines_of h (act_of h d b (machine_write m b.entries w))
+    → with_left h c b old (drop j (take k (map (machine_write n b.entries) ws))) ≡ whole → with_left h c b new (drop (j + 1) (take k (map (machine_write n b.entries) ws))) ≡ whole
+write_added h c d b m n k j ws w old new whole at lt cause name is before =
+    let f = machine_write n b.entries in
+    let rest = drop (j + 1) (take k (map f ws)) in
+    let here : with_left h c b old (f w ∷ rest) ≡ whole = ap (λ (vs : List Write). with_left h c b old vs) (sym (here_left f k j ws w at lt)) ∙ before in
+    let parts = lines_append h (act_of h c b (f w)) (acts_before h c b rest) in
+    let told : new ≡ old ++ lines_of h (act_of h c b (f w)) =
+    is
+    ∙ (ap (λ (z : Cause). old ++ lines_of h (act_of h z b (machine_write m b.entries w))) cause
+    ∙ ap (λ (z : List ℕ). old ++ lines_of h (act_of h c b (machine_write z b.entries w))) name) in
+    ap (λ (t : List ℕ). t ++ lines_of h (acts_before h c b rest)) told
+    ∙ (append_assoc old (lines_of h (act_of h c b (f w))) (lines_of h (acts_before h c b rest))
+    ∙ (ap (λ (t : List ℕ). old ++ t) (sym parts) ∙ here))
 
--- ---- steps
+pub all_added : (h : Site) (c : Cause) (b : Broker) (f : BookWrite → Write) (k j : ℕ) (ws : List BookWrite) (new whole : List ℕ) → min k (length ws) ≤ j
+    → with_left h c b new (drop j (take k (map f ws))) ≡ whole → new ≡ whole
+all_added h c b f k j ws new whole past before =
+    sym (append-nil new) ∙ (ap (λ (vs : List Write). with_left h c b new vs) (sym (none_left f k j ws past)) ∙ before)
 
--- what is left from here comes to what all comes to, and its lines behind the text so far make all
-pub record GoesOn (s : Setup) (old now : WorldBook) (text more : List ℕ) (all left : List Step) : Type 0 where
-  pub at : IsAt s now
-  pub comes : (w : World) → Reached s w → Stands s (kept_of old) w
-      → (v : World) × Reached s v × Stands s (kept_of now) v × (run_from all_limits s (at_world w) all ≡ run_from all_limits s (at_world v) left)
-      × (more ++ item_lines s (items_from all_limits s (at_world v) left) ≡ text ++ item_lines s (items_from all_limits s (at_world w) all))
+-- ---- the subscription of a name
 
-pub begins : (s : Setup) (b : WorldBook) (text : List ℕ) (all : List Step) → IsAt s b → GoesOn s b b text text all all
-begins s b text all h = record { at = h; comes = λ w reached stands. (w, reached, stands, refl, refl) }
+abbrev pub found_from : List ℕ → ℕ → List Subscription → List ℕ
+found_from n i vs = cursor_of (find (λ (v : Subscription). bytes_eq v.name n) (drop i vs))
 
-ran_is : (r : Ran) → r.ended ≡ None → r ≡ at_world r.world
-ran_is r is = ap (λ (o : Option ℕ). record { world = r.world; ended = o }) is
+at_place : (n : List ℕ) (vs : List Subscription) (i : ℕ) (v : Subscription) → slice_get vs i ≡ Some v
+    → found_from n i vs ≡ cursor_of (if bytes_eq v.name n then Some v else find (λ (v : Subscription). bytes_eq v.name n) (drop (i + 1) vs))
+at_place n vs i v at = ap (λ (us : List Subscription). cursor_of (find (λ (v : Subscription). bytes_eq v.name n) us)) (drop_here vs i v at)
 
-abbrev pub ComesBy : Setup → (now new : WorldBook) → Step → Answer → Type 0
-ComesBy s now new k a = (w : World) → Reached s w → Stands s (kept_of now) w → Comes s new (steps all_limits s (at_world w) k) a
+pub found_here : (n : List ℕ) (vs : List Subscription) (i : ℕ) (v : Subscription) (total : List ℕ) → slice_get vs i ≡ Some v → bytes_eq v.name n ≡ true → found_from n i vs ≡ total → v.cursor ≡ total
+found_here n vs i v total at same before =
+    sym (ap (λ (b : Bool). cursor_of (if b then Some v else find (λ (v : Subscription). bytes_eq v.name n) (drop (i + 1) vs))) same) ∙ (sym (at_place n vs i v at) ∙ before)
 
-abbrev pub ToldBy : Setup → WorldBook → (old new : List ℕ) → Step → Answer → Type 0
-ToldBy s now old new k a = (w : World) → Reached s w → Stands s (kept_of now) w → OnOk a (new ≡ old ++ item_lines s (step_items all_limits s (at_world w) k))
-
-pub goes_on_by : (s : Setup) (old now new : WorldBook) (text mid more : List ℕ) (all left : List Step) (k : Step) (unit : Unit {0}) → GoesOn s old now text mid all (k ∷ left)
-    → ComesBy s now new k (Ok unit) → ToldBy s now mid more k (Ok unit) → IsAt s new → GoesOn s old new text more all left
-goes_on_by s old now new text mid more all left k unit goes step told at = record {
-  at = at;
-  comes = λ w reached stands.
-      let from = goes.comes w reached stands in let v : World = from.0 in let r : Ran = steps all_limits s (at_world v) k in
-      let came = (step v from.1 from.2).done in let is = ran_is r came.1 in
-      let items = step_items all_limits s (at_world v) k in (
-        r.world,
-        reaches s (at_world v) k from.1,
-        came.0,
-        from.3 ∙ ap (λ (q : Ran). run_from all_limits s q left) is,
-        both_told s items (items_from all_limits s (at_world r.world) left) mid more (more ++ item_lines s (items_from all_limits s (at_world r.world) left)) (told v from.1 from.2) refl
-            ∙ (ap (λ (q : Ran). mid ++ item_lines s (items ++ items_from all_limits s q left)) (sym is) ∙ from.4),
-      );
-}
-
-abbrev IsOk : Answer → Type 0
-IsOk (Ok u) = Unit {0}
-IsOk (Err f) = ⊥
-
-never : (unit : Unit {0}) (n : ℕ) → Ok unit ≡ Err (fault.TooLarge n) → ⊥
-never unit n is = subst (λ (a : Answer). IsOk a) is tt
-
-pub all_come : (s : Setup) (old now : WorldBook) (text more : List ℕ) (all : List Step) (unit : Unit {0}) (w : World) → GoesOn s old now text more all [] → Reached s w → Stands s (kept_of old) w
-    → Comes s now (run_from all_limits s (at_world w) all) (Ok unit)
-all_come s old now text more all unit w goes reached stands =
-    let from = goes.comes w reached stands in
-    subst (λ (r : Ran). Comes s now r (Ok unit)) (sym from.3) (record { done = (from.2, refl); large = λ n past. absurd (never unit n past) })
-
-pub all_told : (s : Setup) (old now : WorldBook) (text more : List ℕ) (all : List Step) (w : World) → GoesOn s old now text more all [] → Reached s w → Stands s (kept_of old) w
-    → more ≡ text ++ item_lines s (items_from all_limits s (at_world w) all)
-all_told s old now text more all w goes reached stands = sym (append-nil more) ∙ (goes.comes w reached stands).4
-
-pub ends_there : (s : Setup) (old now new : WorldBook) (text more : List ℕ) (all left : List Step) (k : Step) (f : RunFault) (w : World) → GoesOn s old now text more all (k ∷ left)
-    → ComesBy s now new k (Err f) → Reached s w → Stands s (kept_of old) w → Comes {T = Unit {0}} s new (run_from all_limits s (at_world w) all) (Err f)
-ends_there s old now new text more all left k f w goes step reached stands =
-    let from = goes.comes w reached stands in let v : World = from.0 in let r : Ran = steps all_limits s (at_world v) k in
-    subst (λ (q : Ran). Comes {T = Unit {0}} s new q (Err f)) (sym from.3) (record {
-      done = tt;
-      large = λ n past.
-          let came = (step v from.1 from.2).large n past in
-          subst (λ (q : Ran). Stands s (kept_of new) q.world × (q.ended ≡ Some n)) (sym (stays s r left n came.1)) came;
-    })
-
--- ---- a step by what it is
-
-pub step_comes : (s : Setup) (new : WorldBook) (w : World) (k j : Step) (r : Answer) → k ≡ j → Comes s new (steps all_limits s (at_world w) j) r → Comes s new (steps all_limits s (at_world w) k) r
-step_comes s new w k j r is comes = subst (λ (i : Step). Comes s new (steps all_limits s (at_world w) i) r) (sym is) comes
-
-pub step_told : (s : Setup) (w : World) (k j : Step) (old text : List ℕ) (r : Answer) → k ≡ j → OnOk r (text ≡ old ++ item_lines s (step_items all_limits s (at_world w) j))
-    → OnOk r (text ≡ old ++ item_lines s (step_items all_limits s (at_world w) k))
-step_told s w k j old text r is told = subst (λ (i : Step). OnOk r (text ≡ old ++ item_lines s (step_items all_limits s (at_world w) i))) (sym is) told
+pub found_next : (n : List ℕ) (vs : List Subscription) (i : ℕ) (v : Subscription) (total : List ℕ) → slice_get vs i ≡ Some v → bytes_eq v.name n ≡ false → found_from n i vs ≡ total
+    → found_from n (i + 1) vs ≡ total
+found_next n vs i v total at other before =
+    sym (ap (λ (b : Bool). cursor_of (if b then Some v else find (λ (v : Subscription). bytes_eq v.name n) (drop (i + 1) vs))) other) ∙ (sym (at_place n vs i v at) ∙ before)

@@ -10,7 +10,7 @@ use Rattle.geo_base.specs.TraceItems.{Item}
 use Rattle.geo_base.specs.TraceText.{item_line}
 use Rattle.geo_base.specs.Traced.{rounds_items, settling_items}
 use Rattle.geo_base.specs.World.{World}
-use Rattle.trace_events.specs.SnapshotTables.{Snapshots, TellsBeginning, table_at}
+use Rattle.trace_runs.specs.SnapshotTables.{Snapshots, TellsBeginning, table_at}
 use Rattle.world_kept.specs.Reached.{Reached}
 use Rattle.world_kept.specs.Standing.{Stands}
 use Rattle.world.specs.declared.fault.RunFault.{RunFault}

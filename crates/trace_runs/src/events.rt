@@ -1,10 +1,10 @@
 //! An event with its lines, which are made before it is done.
 ghost use Rattle.std.specs.Prelude.{◌≡◌, ◌++◌, ◌+◌, ◌<◌, ◌^◌, ◌∷◌, [], take, OnErr, OnOk};
-ghost use Rattle.trace_events.specs.Acts.{acts_before};
+ghost use Rattle.trace_runs.specs.Acts.{acts_before};
 ghost use Rattle.broker_state.specs.Fits.{PlanFits};
 ghost use Rattle.broker_state.specs.Plan.{plan_in};
-ghost use Rattle.trace_events.specs.Snapshots.{HaveSeen, Knows};
-ghost use Rattle.trace_events.specs.Writes.{ReadsWithin, lines_of};
+ghost use Rattle.trace_runs.specs.Snapshots.{HaveSeen, Knows};
+ghost use Rattle.trace_runs.specs.Writes.{ReadsWithin, lines_of};
 ghost use Rattle.geo_base.specs.declared.event.Step.TheVariants as step;
 ghost use Rattle.geo_base.specs.Run.{all_limits, steps};
 ghost use Rattle.geo_base.specs.Setup.{Setup};
@@ -23,11 +23,11 @@ ghost use Rattle.world_kept.specs.Standing.{Stands};
 ghost use Rattle.trace_runs.specs.Tracing.{AreTables, IsClients, item_lines};
 
 use crate::trace::Trace;
+use crate::{add_begin, add_writes};
 use broker::Broker;
 use geo_base::{Event, Memory};
 use script_text::Scenario;
 use std::alloc::Global;
-use trace_events::{add_begin, add_writes};
 use world::{RunFault, World};
 
 impl Trace {
@@ -58,7 +58,7 @@ impl Trace {
     }
 
     /// An event of a client, of which a trace tells only that it happened.
-    #[tactic(auto, using(crate::proofs::Telling::next_fits))]
+    #[tactic(auto, using(crate::proofs::ItemsTold::next_fits))]
     fn client_event(
         &mut self,
         alloc: Global,

@@ -1,13 +1,39 @@
 //! The trace of a run: each event that was not idle, by its number, and behind it what it wrote durably, line by line.
 //!
+//! A line ends with its line feed, and is exactly the one that `geo_base`'s definition of a trace has. Each call that makes one appends it
+//! to those before it. Where memory ends in the midst, an `Err`, what stood before stands, with a part of the line or none: the lines of
+//! an event are made apart from where they go.
+//!
+//! Each line of a write looks at the broker as it is before the event. That is the broker that the line is about, too, since of the
+//! writes of an event none looks at what another one before it changed: an entry is stored once at most, and a cursor written once.
+//!
 //! An event of a broker is prepared twice. First it is foreseen, which changes nothing of the world, and its lines are made at the
 //! broker as it is then; and then it is done by the world's own call. So a trace costs at most twice its run, and the run is the very
 //! one that a report shows.
 #![tactic(auto)]
 
+mod acts;
+mod cause;
 mod events;
+mod gained;
+mod name_words;
+mod naming;
+mod ranges;
 mod running;
 mod settling;
+mod snapshot_key;
+mod snapshot_lines;
+mod snapshot_table;
+mod snapshot_tables;
+mod subs;
+mod telling;
 mod trace;
+mod writes;
 
+use acts::{add_acks, add_append, add_begin, add_create, add_delete, add_seek};
+use gained::{gained_each, gained_passed, gained_to};
+use name_words::Naming;
+use snapshot_tables::SnapshotTables;
+use telling::Telling;
 pub use trace::Trace;
+use writes::add_writes;

@@ -12,10 +12,10 @@ ghost use Rattle.world_kept.specs.Standing.{Stands};
 ghost use Rattle.trace_runs.specs.Tracing.{AreTables, item_lines};
 
 use crate::trace::Trace;
+use crate::{SnapshotTables, add_begin};
 use geo_base::Step;
 use script_text::{Scenario, StepList};
 use std::alloc::Global;
-use trace_events::{SnapshotTables, add_begin};
 use world::{RunFault, World};
 
 impl Trace {

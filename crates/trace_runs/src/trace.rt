@@ -1,10 +1,10 @@
 //! A trace in the making.
 ghost use Rattle.std.specs.Prelude.{◌≡◌};
 
+use crate::{SnapshotTables, Telling};
 use broker_state::Plan;
 use geo_base::Blob;
 use std::alloc::Global;
-use trace_events::{SnapshotTables, Telling};
 
 /// The lines so far with what is known of snapshots, and a plan, in which events are foreseen one after another: its queues keep their
 /// memory.

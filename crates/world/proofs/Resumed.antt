@@ -28,7 +28,7 @@ use Rattle.world_kept.specs.Reached.{Reached}
 use Rattle.world_laws.specs.Frames.{AllEntries}
 use Rattle.world_laws.specs.Indexes.{AreBelow, HasIndexes, KeepsIndexes}
 use Rattle.world_laws.specs.Starts.{IsStart, IsStartBroker, IsStartClient, IsStartSub, most_at_start}
-use Rattle.state_laws.specs.Saved.{revived, world_from}
+use Rattle.world_kept.specs.Saved.{revived, world_from}
 use Rattle.world.proofs.ReadEntries.{all_stored, all_told, fit_each}
 
 -- ---- lists

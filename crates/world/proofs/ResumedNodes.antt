@@ -18,7 +18,7 @@ use Rattle.world_kept.specs.Standing.{Stands}
 use Rattle.world_laws.proofs.Sizes.{node_lt}
 use Rattle.world_laws.specs.Starts.{most_at_start}
 use Rattle.world.specs.Saving.{AreRevived, IsResumed}
-use Rattle.state_laws.specs.Saved.{revived, world_from}
+use Rattle.world_kept.specs.Saved.{revived, world_from}
 use Rattle.world.specs.World.{AreNodes, IsAt, WorldBook, brokers_of, kept_of, node_at}
 use Rattle.world.proofs.Resumed.{AreFew, state_reached, state_starts}
 

@@ -9,7 +9,7 @@ use Rattle.durable_parts.specs.Durable.{durable_part}
 use Rattle.script_text.specs.Script.{Script}
 use Rattle.state_file.specs.declared.saved.Saved.{Saved}
 use Rattle.state_file.specs.State.{SavedState, state_in, state_of}
-use Rattle.state_laws.specs.Saved.{revived, world_from}
+use Rattle.world_kept.specs.Saved.{revived, world_from}
 use Rattle.broker.specs.Events.{IsNodeOf}
 use Rattle.broker.specs.Node.{BrokerBook}
 use Rattle.world_kept.specs.Reached.{started_kept}

@@ -10,7 +10,7 @@ ghost use Rattle.state_items.specs.Fitting.{AllFit};
 ghost use Rattle.state_nodes.specs.Known.{IsKnownNode};
 ghost use Rattle.state_nodes.specs.Nodes.{broker_of};
 ghost use Rattle.world.specs.Saving.{AreRevived, IsResumed, IsRevived};
-ghost use Rattle.state_laws.specs.Saved.{world_from};
+ghost use Rattle.world_kept.specs.Saved.{world_from};
 ghost use Rattle.world.specs.World.{IsAt, kept_of};
 ghost use Rattle.world_laws.specs.Starts.{most_at_start};
 ghost use Rattle.world_kept.specs.Reached.{Reached};

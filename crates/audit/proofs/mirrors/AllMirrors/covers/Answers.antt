@@ -1,7 +1,7 @@
 use Rattle.std.proofs.Common.{◌≡◌, ◌<◌, ◌∙◌, List, [], ap, arith, get_or, length, subst, sym}
 use Rattle.std.proofs.lemmas.List.{get_or_default}
 use Rattle.geo_base.specs.Mirror.{Mirror, Mirrors}
-use Rattle.audit_parts.specs.Covers.{AreCoversOf, NeededHere}
+use Rattle.audit.specs.Covers.{AreCoversOf, NeededHere}
 use Rattle.audit.proofs.mirrors.AllMirrors.covers.Goals as goal
 
 pub covers-requires-clause-covers : goal.covers-requires-clause-covers

@@ -2,7 +2,7 @@ use Rattle.std.proofs.Common.{◌≡◌, ◌<◌, ◌∙◌, ◌==◌, true, fal
 use Rattle.std.proofs.lemmas.Bool.Decides.{nat_tests}
 use Rattle.geo_base.specs.Mirror.{Mirrors}
 use Rattle.geo_base.specs.Setup.{Setup}
-use Rattle.audit.proofs.Steps.{cut_ends, cut_goes_on, is_cut_at, other_cut, own_cut}
+use Rattle.audit.proofs.LineSteps.{cut_ends, cut_goes_on, is_cut_at, other_cut, own_cut}
 use Rattle.audit.proofs.mirrors.AllMirrors.is_cut.Goals as goal
 use Rattle.audit.proofs.mirrors.AllMirrors.is_cut.Goals.{else-other-at-via-then-other-at+in_ok-covers_other+else-not-branch, else-other-at-via-else-other-at}
 

@@ -1,6 +1,6 @@
 use Rattle.std.proofs.Common.{◌≡◌, ◌-◌, length}
 use Rattle.std.specs.List.{list_all, range_with_len}
-use Rattle.audit.proofs.Steps.{is_cut_at}
+use Rattle.audit.proofs.LineSteps.{is_cut_at}
 use Rattle.audit.proofs.mirrors.AllMirrors.is_cut.Given as goal
 
 abbrev pub invariant-loop-other : goal.invariant-loop-other

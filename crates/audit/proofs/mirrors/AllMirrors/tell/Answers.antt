@@ -5,7 +5,7 @@ use Rattle.geo_base.specs.Mirror.{Mirrors, no_mirror}
 use Rattle.geo_base.specs.Setup.{Setup}
 use Rattle.trace_lines.specs.Said.{act_said, item_said}
 use Rattle.trace_lines.specs.declared.line.Line.{Line}
-use Rattle.audit_parts.specs.Topic.{MayAct}
+use Rattle.audit.specs.Topic.{MayAct}
 use Rattle.audit.proofs.Judging.{write_may}
 use Rattle.audit.proofs.mirrors.AllMirrors.tell.Goals as goal
 

@@ -2,7 +2,7 @@ use Rattle.std.proofs.Common.{◌≡◌, ◌<◌, ◌∙◌, List, ap, arith, ge
 use Rattle.std.proofs.lemmas.List.{get_or_default}
 use Rattle.geo_base.specs.Mirror.{Mirror, Mirrors, no_mirror}
 use Rattle.trace_lines.specs.Said.{act_said}
-use Rattle.audit_parts.proofs.Needing.{Grown, one_grows}
+use Rattle.audit.proofs.Needing.{Grown, one_grows}
 use Rattle.audit.proofs.Judging.{grown_after}
 use Rattle.audit.proofs.mirrors.AllMirrors.write.Goals as goal
 

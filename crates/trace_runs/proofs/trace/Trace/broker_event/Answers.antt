@@ -1,5 +1,5 @@
 use Rattle.trace_runs.proofs.Knowing.{event_known}
-use Rattle.trace_runs.proofs.Steps.{event_comes}
+use Rattle.trace_runs.proofs.RunSteps.{event_comes}
 use Rattle.trace_runs.proofs.trace.Trace.broker_event.Goals as goal
 
 pub returns-clause-comes : goal.returns-clause-comes

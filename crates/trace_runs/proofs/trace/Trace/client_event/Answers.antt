@@ -6,7 +6,7 @@ use Rattle.geo_base.specs.TraceItems.{Begins}
 use Rattle.geo_base.specs.TraceText.{item_line}
 use Rattle.world.proofs.RunSteps.{plain_comes}
 use Rattle.trace_runs.proofs.Knowing.{event_known}
-use Rattle.trace_runs.proofs.Telling.{client_still, client_told, comes_wants}
+use Rattle.trace_runs.proofs.ItemsTold.{client_still, client_told, comes_wants}
 use Rattle.trace_runs.proofs.trace.Trace.client_event.Goals as goal
 
 pub returns-in_err-event-clause-comes : goal.returns-in_err-event-clause-comes

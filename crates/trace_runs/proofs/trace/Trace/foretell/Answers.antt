@@ -4,7 +4,7 @@ use Rattle.world.specs.World.{node_at}
 use Rattle.world.proofs.Places.{cluster_below, topic_below}
 use Rattle.world_kept.specs.Events.{node_of}
 use Rattle.trace_runs.proofs.Knowing.{knows_there, same_known, seen_there}
-use Rattle.trace_runs.proofs.Telling.{event_told, events_are, fits_there, foreseen_there, idle_told, next_fits, on_ok, reads_there, there}
+use Rattle.trace_runs.proofs.ItemsTold.{event_told, events_are, fits_there, foreseen_there, idle_told, next_fits, on_ok, reads_there, there}
 use Rattle.trace_runs.proofs.trace.Trace.foretell.Goals as goal
 
 pub returns-then-is_idle-clause-told : goal.returns-then-is_idle-clause-told

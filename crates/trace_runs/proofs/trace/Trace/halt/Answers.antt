@@ -5,8 +5,8 @@ use Rattle.world.specs.World.{node_at}
 use Rattle.world.proofs.Places.{cluster_below, topic_below}
 use Rattle.world_kept.specs.Events.{node_of}
 use Rattle.trace_runs.proofs.Knowing.{halt_known, knows_there, same_known, seen_there}
-use Rattle.trace_runs.proofs.Steps.{halting_comes}
-use Rattle.trace_runs.proofs.Telling.{always, comes_wants, events_are, fits_there, foreseen_there, halt_told, next_fits, reads_there, there}
+use Rattle.trace_runs.proofs.RunSteps.{halting_comes}
+use Rattle.trace_runs.proofs.ItemsTold.{always, comes_wants, events_are, fits_there, foreseen_there, halt_told, next_fits, reads_there, there}
 use Rattle.trace_runs.proofs.trace.Trace.halt.Goals as goal
 
 pub tell-requires-clause-fits : goal.tell-requires-clause-fits

@@ -2,7 +2,7 @@ use Rattle.std.proofs.Common.{◌≡◌, ◌∷◌, ◌+◌, ◌∙◌, ap, arit
 use Rattle.std.proofs.lemmas.List.{drop_more}
 use Rattle.std.proofs.lemmas.Result.{err_from_is_err_and}
 use Rattle.geo_base.specs.declared.event.Step.{Step}
-use Rattle.trace_runs.proofs.Steps.{GoesOn, ends_there, goes_on_by}
+use Rattle.trace_runs.proofs.RunSteps.{GoesOn, ends_there, goes_on_by}
 use Rattle.trace_runs.proofs.trace.Trace.run.Goals as goal
 
 pub loop-place-preserved : goal.loop-place-preserved

@@ -1,5 +1,5 @@
 use Rattle.std.proofs.Common.{drop}
-use Rattle.trace_runs.proofs.Steps.{GoesOn}
+use Rattle.trace_runs.proofs.RunSteps.{GoesOn}
 use Rattle.trace_runs.specs.Tracing.{AreTables}
 use Rattle.trace_runs.proofs.trace.Trace.run.Given as goal
 

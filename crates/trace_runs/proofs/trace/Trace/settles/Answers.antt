@@ -2,8 +2,8 @@ use Rattle.std.proofs.lemmas.Result.{err_from_is_err_and}
 use Rattle.world.proofs.Acting.{later_same}
 use Rattle.world.proofs.SettlingSteps.{later_on}
 use Rattle.trace_runs.proofs.Knowing.{settling_known}
-use Rattle.trace_runs.proofs.Steps.{err_both, settles_past}
-use Rattle.trace_runs.proofs.Telling.{always, leads_wants}
+use Rattle.trace_runs.proofs.RunSteps.{err_both, settles_past}
+use Rattle.trace_runs.proofs.ItemsTold.{always, leads_wants}
 use Rattle.trace_runs.proofs.trace.Trace.settles.Goals as goal
 
 pub returns-clause-tables : goal.returns-clause-tables

@@ -1,5 +1,5 @@
 use Rattle.geo_base.specs.declared.event.Step.TheVariants as step
-use Rattle.trace_runs.proofs.Steps.{halting_told, plain_told, step_comes, step_told}
+use Rattle.trace_runs.proofs.RunSteps.{halting_told, plain_told, step_comes, step_told}
 use Rattle.trace_runs.proofs.trace.Trace.step.Goals as goal
 
 pub returns-in-Plain-clause-told : goal.returns-in-Plain-clause-told

@@ -2,7 +2,7 @@ use Rattle.std.proofs.Common.{ℕ, ◌+◌, ◌∷◌, [], ◌++◌, ap, ◌∙�
 use Rattle.geo_base.specs.TraceItems.{Begins}
 use Rattle.geo_base.specs.TraceText.{item_line}
 use Rattle.trace_runs.proofs.Knowing.{stop_known}
-use Rattle.trace_runs.proofs.Steps.{stop_told, stopping_comes}
+use Rattle.trace_runs.proofs.RunSteps.{stop_told, stopping_comes}
 use Rattle.trace_runs.proofs.trace.Trace.stop.Goals as goal
 
 pub returns-clause-told : goal.returns-clause-told

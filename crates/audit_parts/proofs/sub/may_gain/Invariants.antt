@@ -1,6 +1,0 @@
-use Rattle.std.proofs.Common.{◌≡◌, drop}
-use Rattle.audit_parts.specs.Sub.{may_gain}
-use Rattle.audit_parts.proofs.sub.may_gain.Given as goal
-
-abbrev pub invariant-loop-range : goal.invariant-loop-range
-invariant-loop-range l = may_gain l.cursor.indexes l.len (drop l.range-index l.ranges) ≡ may_gain l.cursor.indexes l.len l.ranges

@@ -1,7 +1,0 @@
-use Rattle.std.proofs.Common.{◌≡◌}
-use Rattle.node_rings.specs.Linked.{HasSites}
-use Rattle.node_rings.proofs.rings.NodeRings.client.Given as goal
-
--- the brokers that are linked so far
-abbrev pub invariant-loop-cluster : goal.invariant-loop-cluster
-invariant-loop-cluster l = (l.self ≡ l.initial.self) × HasSites l.cluster l.ends.rows.items

@@ -1,7 +1,0 @@
-use Rattle.std.proofs.Common.{◌≡◌}
-use Rattle.node_rings.specs.Linked.{HasClients}
-use Rattle.node_rings.proofs.rings.NodeRings.link_clients.Given as goal
-
--- the clients that are linked so far, beside the brokers
-abbrev pub invariant-loop-client : goal.invariant-loop-client
-invariant-loop-client l = (l.self ≡ l.initial.self) × HasClients l.scenario.setup l.own.topic l.own.cluster l.client l.ends.rows.items

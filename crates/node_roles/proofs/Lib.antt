@@ -1,2 +1,0 @@
-pub mod Subs
-pub mod Counting

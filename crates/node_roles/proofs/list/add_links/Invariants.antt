@@ -1,7 +1,0 @@
-use Rattle.std.proofs.Common.{◌≡◌, ◌++◌}
-use Rattle.node_roles.specs.Order.{for_each, source_roles}
-use Rattle.node_roles.proofs.list.add_links.Given as goal
-
--- those so far
-abbrev pub invariant-loop-source : goal.invariant-loop-source
-invariant-loop-source l = l.roles.items ≡ l.initial.roles.items ++ for_each l.source (source_roles l.scenario.setup l.topic)

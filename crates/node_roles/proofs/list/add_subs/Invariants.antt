@@ -1,7 +1,0 @@
-use Rattle.std.proofs.Common.{◌≡◌, ◌++◌}
-use Rattle.node_roles.specs.Order.{for_each, dispatcher_role}
-use Rattle.node_roles.proofs.list.add_subs.Given as goal
-
--- those so far
-abbrev pub invariant-loop-sub : goal.invariant-loop-sub
-invariant-loop-sub l = l.roles.items ≡ l.initial.roles.items ++ for_each l.sub (dispatcher_role l.topic l.cluster)

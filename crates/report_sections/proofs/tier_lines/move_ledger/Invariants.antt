@@ -1,4 +1,0 @@
-use Rattle.report_sections.proofs.tier_lines.move_ledger.Given as goal
-
-abbrev pub ghost-offload : goal.ghost-offload
-ghost-offload g a = g.entries

@@ -1,5 +1,0 @@
-use Rattle.text_laws.proofs.Commands.{command_answer}
-use Rattle.text_laws.proofs.codecs.law_command.Goals as goal
-
-pub returns : goal.returns
-returns c = command_answer

@@ -1,5 +1,0 @@
-use Rattle.text_laws.proofs.Standing.{value_answer}
-use Rattle.text_laws.proofs.machine.law_value.Goals as goal
-
-pub returns : goal.returns
-returns c = value_answer

@@ -1,5 +1,0 @@
-use Rattle.text_laws.proofs.ReadBack.{trace_read}
-use Rattle.text_laws.proofs.traces.law_trace_read.Goals as goal
-
-pub returns : goal.returns
-returns c = trace_read

@@ -1,4 +1,0 @@
-use Rattle.tiered_ledger.proofs.tiered.TieredLedger.read.Given as goal
-
-abbrev pub ghost-recall : goal.ghost-recall
-ghost-recall g a = g.entries

@@ -1,9 +1,0 @@
-use Rattle.std.proofs.Common.{◌≡◌}
-use Rattle.geo_base.specs.Broker.{sub_named}
-use Rattle.geo_base.specs.Traced.{cursor_of}
-use Rattle.trace_events.proofs.Steps.{found_from}
-use Rattle.trace_events.proofs.subs.cursor_of.Given as goal
-
--- what is left has what all have
-abbrev pub invariant-loop-place : goal.invariant-loop-place
-invariant-loop-place l = found_from l.sub l.place l.node.broker.subs ≡ cursor_of (sub_named l.node.broker.subs l.sub)
