@@ -5,8 +5,9 @@ ghost use Rattle.cursor_acks.specs.Ranges.{indexes_of};
 ghost use Rattle.geo_base.specs.Audit.{cause_refused, entry_by, unless_broken};
 ghost use Rattle.audit.specs.Acks.{acks_refused, create_refused, delete_refused, followed, follows_all, seek_refused, told_position};
 
+use crate::named::only_position;
+use crate::runs::{Passed, end_by};
 use crate::topic::TopicMirror;
-use crate::{Passed, end_by, only_position};
 use geo_base::{Cause, Content, Entry, Marker, Memory, Position, Text};
 use std::alloc::Global;
 use trace_lines::AckedRanges;

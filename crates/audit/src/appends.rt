@@ -7,10 +7,12 @@ ghost use Rattle.audit.specs.Appends.{covers_other, marker_refused, place_refuse
 ghost use Rattle.audit.specs.Covers.{entries_of};
 ghost use Rattle.audit.specs.Numbers.{AreSized};
 
+use crate::acks::unless_broken;
+use crate::covers::Pair;
+use crate::entries::is_meant_for;
 use crate::mirrors::{AllMirrors, At, cluster_count, number_of};
-use crate::{
-    Pair, TopicMirror, first_position, is_meant_for, name_same, names_each, unless_broken,
-};
+use crate::named::{first_position, name_same, names_each};
+use crate::topic::TopicMirror;
 use geo_base::{ClusterPosition, Content, Entry, Marker, Memory, Position, Text};
 use script_text::Scenario;
 use std::alloc::Global;

@@ -3,7 +3,7 @@ ghost use Rattle.std.specs.Prelude.{◌≡◌, ◌≤◌, ◌<◌, ◌+◌, ℕ,
 ghost use Rattle.std.specs.List.{list_all};
 ghost use Rattle.audit.specs.Covers.{AreCoversOf, AreNeeded, IsMissing, IsPlaceFor, NeedsHere, entries_of, is_covered_in, last_needed};
 
-use crate::must_stand;
+use crate::entries::must_stand;
 use crate::stored::Stored;
 use crate::topic::TopicMirror;
 use geo_base::{Entry, Memory};

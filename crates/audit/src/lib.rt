@@ -28,14 +28,5 @@ mod sub;
 mod subs;
 mod topic;
 
-use acks::{Acked, unless_broken};
 pub use audit_of::audit;
-use covers::{CoverList, Pair};
-use entries::{is_data, is_meant_for, must_stand, passes};
 pub use fault::AuditFault;
-use named::{first_position, name_same, names_each, only_position};
-use runs::{Passed, Runs, end_by};
-use same::{is_same_entry, is_same_position};
-use stored::Stored;
-use sub::SubMirror;
-use topic::TopicMirror;

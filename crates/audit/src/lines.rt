@@ -11,9 +11,9 @@ ghost use Rattle.audit.specs.AuditOf.{item_refused, lines_audited, may_come, nam
 ghost use Rattle.audit.specs.Numbers.{AreSized, IsActOf, IsItemOf};
 ghost use Rattle.audit.specs.declared.fault.AuditFault.TheVariants as fault;
 
+use crate::acks::{Acked, unless_broken};
 use crate::fault::AuditFault;
 use crate::mirrors::{AllMirrors, At, number_of};
-use crate::{Acked, unless_broken};
 use geo_base::Memory;
 use script_rows::cut_at;
 use script_text::Scenario;

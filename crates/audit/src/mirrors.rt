@@ -10,7 +10,9 @@ ghost use Rattle.audit.specs.Covers.{AreCovers, entries_of, is_covered_in};
 ghost use Rattle.audit.specs.Numbers.{AreSized, IsItemOf};
 ghost use Rattle.audit.specs.Topic.{MayAct};
 
-use crate::{Acked, CoverList, Pair, TopicMirror};
+use crate::acks::Acked;
+use crate::covers::{CoverList, Pair};
+use crate::topic::TopicMirror;
 use geo_base::{Memory, Position};
 use script_text::Scenario;
 use std::alloc::Global;

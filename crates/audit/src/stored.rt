@@ -9,7 +9,7 @@ ghost use Rattle.indexmap.specs.IndexMap.{insert_entry};
 ghost use Rattle.audit.specs.Stored.{Ascend, FindsAll, StandsAt, StandsNowhere, identity_of, is_identity, is_same_at, place_in};
 
 use crate::identity::Identity;
-use crate::{is_same_entry, is_same_position};
+use crate::same::{is_same_entry, is_same_position};
 use geo_base::{Entry, Ident, Memory, Position};
 use indexmap::IndexMap;
 use std::alloc::Global;

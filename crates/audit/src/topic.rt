@@ -11,10 +11,10 @@ ghost use Rattle.trace_lines.specs.Said.{act_said};
 ghost use Rattle.audit.specs.Runs.{AreAllRunsOf, AreRunsOf, all_passed};
 ghost use Rattle.audit.specs.Topic.{IsRunsFor, MayAct};
 
+use crate::runs::{Passed, Runs};
 use crate::stored::Stored;
 use crate::sub::SubMirror;
 use crate::subs::Subs;
-use crate::{Passed, Runs};
 use geo_base::{Entry, Memory, Position, Text};
 use std::alloc::Global;
 use std::marker::Model;

@@ -4,7 +4,7 @@ use geo_base::{Content, EntryStore, Memory, ProducerName, Targets};
 use rand_core::utils::NextWord;
 use rand_pcg::Pcg32;
 use std::alloc::Global;
-use topic_store::{TopicLedger, *};
+use topic_store::*;
 
 fn stream(alloc: Global, origin: u32, producer: &str) -> Result<Stream, Memory> {
     Ok(Stream {

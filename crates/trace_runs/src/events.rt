@@ -22,8 +22,9 @@ ghost use Rattle.world_kept.specs.Reached.{Reached};
 ghost use Rattle.world_kept.specs.Standing.{Stands};
 ghost use Rattle.trace_runs.specs.Tracing.{AreTables, IsClients, item_lines};
 
+use crate::acts::add_begin;
 use crate::trace::Trace;
-use crate::{add_begin, add_writes};
+use crate::writes::add_writes;
 use broker::Broker;
 use geo_base::{Event, Memory};
 use script_text::Scenario;

@@ -30,10 +30,4 @@ mod telling;
 mod trace;
 mod writes;
 
-use acts::{add_acks, add_append, add_begin, add_create, add_delete, add_seek};
-use gained::{gained_each, gained_passed, gained_to};
-use name_words::Naming;
-use snapshot_tables::SnapshotTables;
-use telling::Telling;
 pub use trace::Trace;
-use writes::add_writes;

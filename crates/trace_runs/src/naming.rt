@@ -3,7 +3,7 @@ ghost use Rattle.std.specs.Prelude.{◌≡◌, ◌≤◌, length};
 ghost use Rattle.trace_runs.specs.Snapshots.{number_of};
 ghost use Rattle.trace_runs.specs.Writes.{naming};
 
-use crate::Naming;
+use crate::name_words::Naming;
 use broker::Broker;
 
 /// The topic and the cluster of a broker, by their names.

@@ -11,8 +11,9 @@ ghost use Rattle.world_kept.specs.Reached.{Reached};
 ghost use Rattle.world_kept.specs.Standing.{Stands};
 ghost use Rattle.trace_runs.specs.Tracing.{AreTables, item_lines};
 
+use crate::acts::add_begin;
+use crate::snapshot_tables::SnapshotTables;
 use crate::trace::Trace;
-use crate::{SnapshotTables, add_begin};
 use geo_base::Step;
 use script_text::{Scenario, StepList};
 use std::alloc::Global;

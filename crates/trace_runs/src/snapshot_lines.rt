@@ -3,8 +3,8 @@ ghost use Rattle.std.specs.Prelude.{◌≡◌, IfOk};
 ghost use Rattle.geo_base.specs.Traced.{snapshot_told};
 ghost use Rattle.trace_runs.specs.Snapshots.{HaveSeen, Knows};
 
-use crate::SnapshotTables;
 use crate::naming::number;
+use crate::snapshot_tables::SnapshotTables;
 use broker::Broker;
 use geo_base::{Entry, Memory, Position};
 use std::alloc::Global;

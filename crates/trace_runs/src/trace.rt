@@ -1,7 +1,8 @@
 //! A trace in the making.
 ghost use Rattle.std.specs.Prelude.{◌≡◌};
 
-use crate::{SnapshotTables, Telling};
+use crate::snapshot_tables::SnapshotTables;
+use crate::telling::Telling;
 use broker_state::Plan;
 use geo_base::Blob;
 use std::alloc::Global;

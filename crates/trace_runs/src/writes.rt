@@ -13,14 +13,13 @@ ghost use Rattle.trace_runs.specs.Naming.{act_line};
 ghost use Rattle.trace_runs.specs.Snapshots.{HaveSeen, Knows};
 ghost use Rattle.trace_runs.specs.Writes.{IsWithin, ReadsWithin, SubIsWithin, indexes_acked, lines_of, naming};
 
+use crate::acts::{add_acks, add_append, add_create, add_delete, add_seek};
 use crate::cause::cause_of;
+use crate::gained::{gained_each, gained_passed, gained_to};
 use crate::naming::naming;
 use crate::snapshot_lines::snapshot_told;
 use crate::subs::{cursor_of, name_of};
-use crate::{
-    Telling, add_acks, add_append, add_create, add_delete, add_seek, gained_each, gained_passed,
-    gained_to,
-};
+use crate::telling::Telling;
 use broker::Broker;
 use broker_state::{BookWrite, Plan};
 use broker_subs::SubWrite;
