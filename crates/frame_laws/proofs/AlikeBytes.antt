@@ -10,8 +10,8 @@ use Rattle.frame_values.proofs.One.{value_one}
 use Rattle.frame_values.specs.Standing.{bare}
 use Rattle.wire_ends.specs.declared.packet.WirePacket.{WirePacket}
 use Rattle.frame_laws.specs.BytePackets.{StandsForPacket}
-use Rattle.world_laws.proofs.ByteHistories.{bytes_are_histories}
-use Rattle.world_laws.proofs.Origins.{alike_without_origin}
+use Rattle.world_laws.proofs.Merges.ByteHistories.{bytes_are_histories}
+use Rattle.world_laws.proofs.Merges.Origins.{alike_without_origin}
 use Rattle.world_laws.specs.ByteHistories.{AreByteHistories, ByteEvent}
 
 -- what the wire format leaves out is what no event looks at

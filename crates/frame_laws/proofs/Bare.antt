@@ -10,7 +10,7 @@ use Rattle.geo_base.specs.Forwarding.{receipt, take_packet}
 use Rattle.geo_base.specs.Getting.{get}
 use Rattle.geo_base.specs.Serving.{serve}
 use Rattle.geo_base.specs.Setup.{Declared}
-use Rattle.world_laws.proofs.Origins.{get_same, packet_of, receipt_same, serve_same, take_same}
+use Rattle.world_laws.proofs.Merges.Origins.{get_same, packet_of, receipt_same, serve_same, take_same}
 use Rattle.frame_laws.specs.BytePackets.{bare_packet}
 use Rattle.frame_laws.proofs.AlikeBytes.{bare_is}
 

@@ -22,13 +22,13 @@ use Rattle.frame_values.proofs.One.{written_stands}
 use Rattle.frame_values.specs.Told.{IsTold, IsToldEntry}
 use Rattle.frame_laws.proofs.Plain.{entry_told, source_told}
 use Rattle.wire_ends.specs.declared.packet.WirePacket.{WirePacket}
-use Rattle.world_laws.proofs.Carrying.{Suits}
-use Rattle.world_laws.proofs.Effects.{Each}
-use Rattle.world_laws.proofs.HistoryPush.{last_stamp_push, replayed_push, replays_push}
-use Rattle.world_laws.proofs.NodeCarries.{CarriedIn, Carrier, node_carries}
-use Rattle.world_laws.proofs.Roles.{Role, opening_role, replays_role, role_sends}
-use Rattle.world_laws.proofs.Sending.{SentOut}
-use Rattle.world_laws.proofs.Walk.{left}
+use Rattle.world_laws.proofs.FrameContents.Carrying.{Suits}
+use Rattle.world_laws.proofs.Replicating.Effects.{Each}
+use Rattle.world_laws.proofs.Merges.HistoryPush.{last_stamp_push, replayed_push, replays_push}
+use Rattle.world_laws.proofs.FrameContents.NodeCarries.{CarriedIn, Carrier, node_carries}
+use Rattle.world_laws.proofs.Merges.Roles.{Role, opening_role, replays_role, role_sends}
+use Rattle.world_laws.proofs.FrameContents.Sending.{SentOut}
+use Rattle.world_laws.proofs.Walks.Walk.{left}
 use Rattle.world_laws.specs.ByteHistories.{ByteEvent, ByteSent, EventStands, SentStand, StandAll, TakenStands}
 use Rattle.world_laws.specs.Frames.{IsCarrying}
 

@@ -14,7 +14,7 @@ use Rattle.frame_values.specs.Texts.{is_readable, unread_bytes}
 use Rattle.frame_values.proofs.Entries.{no_rest}
 use Rattle.world_laws.specs.Frames.{SendsPlain, SendsSmall}
 use Rattle.world_laws.specs.Plain.{IsPlain}
-use Rattle.world_laws.proofs.PlainRuns.{fits_always, plain_always}
+use Rattle.world_laws.proofs.FrameContents.PlainRuns.{fits_always, plain_always}
 use Rattle.frame_laws.specs.Telling.{AllTold, AllWritable, LawTold, LawWritten}
 use Rattle.frame_laws.proofs.Plain.{entry_told, told}
 

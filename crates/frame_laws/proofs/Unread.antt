@@ -10,7 +10,7 @@ use Rattle.geo_base.specs.Forwarding.{receipt, take_packet}
 use Rattle.pulsar_frames.proofs.Layouts.{length-sized}
 use Rattle.pulsar_frames.specs.Layout.{content_text}
 use Rattle.frame_values.specs.Standing.{Reads, bare, no_text, text}
-use Rattle.world_laws.proofs.Origins.{packet_of}
+use Rattle.world_laws.proofs.Merges.Origins.{packet_of}
 use Rattle.frame_laws.specs.BytePackets.{StandsForPacket}
 use Rattle.frame_laws.specs.CutOff.{cut_off}
 use Rattle.frame_laws.proofs.Bare.{receipt_bare, take_bare}

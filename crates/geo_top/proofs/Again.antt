@@ -8,7 +8,7 @@ use Rattle.script_inputs.proofs.InRange.{is_scenario}
 use Rattle.script_inputs.specs.Generated.{generated_run}
 use Rattle.script_text.specs.Script.{Script}
 use Rattle.world_kept.specs.Saved.{world_from}
-use Rattle.world_laws.proofs.SavedRuns.{reached_law}
+use Rattle.world_laws.proofs.KeptRuns.SavedRuns.{reached_law}
 use Rattle.geo_top.specs.Headline.{NothingComesAgain}
 use Rattle.geo_top.specs.OneRun.{IsKept, NothingStillComesAgain}
 use Rattle.geo_top.specs.Outputs.{passed_limit, resumed_limit}

@@ -4,8 +4,8 @@ use Rattle.std.proofs.lemmas.Bool.{lt-ltb}
 use Rattle.std.proofs.lemmas.Bool.Decides.{nat_tests}
 use Rattle.std.specs.Prelude.{Option, Some, None, Ok, nat_lt}
 use Rattle.geo_io.specs.Faults.{Rose, Stood}
-use Rattle.world_laws.proofs.ResumedRuns.{resumed_law}
-use Rattle.world_laws.proofs.SavedRuns.{reached_law}
+use Rattle.world_laws.proofs.KeptRuns.ResumedRuns.{resumed_law}
+use Rattle.world_laws.proofs.KeptRuns.SavedRuns.{reached_law}
 use Rattle.geo_top.specs.declared.top.answer.Answer.{Answer}
 use Rattle.geo_top.specs.declared.top.command.Command.{Command}
 use Rattle.geo_top.specs.declared.top.command.Command.TheVariants as command

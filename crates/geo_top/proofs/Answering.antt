@@ -11,8 +11,8 @@ use Rattle.script_text.specs.Schedule.{schedule_of}
 use Rattle.script_text.specs.Script.{Fault, Script}
 use Rattle.state_file.specs.Loading.{IsLoaded, Loaded, bad_state, version}
 use Rattle.state_file.specs.State.{SavedState}
-use Rattle.world_laws.proofs.ResumedRuns.{resumed_law}
-use Rattle.world_laws.proofs.SavedRuns.{reached_law}
+use Rattle.world_laws.proofs.KeptRuns.ResumedRuns.{resumed_law}
+use Rattle.world_laws.proofs.KeptRuns.SavedRuns.{reached_law}
 use Rattle.script_inputs.specs.Starts.{declarations_in, trace_in}
 use Rattle.geo_top.specs.declared.top.answer.Answer.{Answer}
 use Rattle.geo_top.specs.declared.top.command.Command.{Command}

@@ -16,22 +16,22 @@ use Rattle.geo_base.specs.Scripted.{IsScripted}
 use Rattle.geo_base.specs.Setup.{Setup}
 use Rattle.geo_base.specs.World.{World, client_at, opening_world, topic_at}
 use Rattle.world_laws.specs.AlikeWorlds.{AlwaysOn, AreAlike, kept_behind, world_on}
-use Rattle.world_laws.proofs.Once.{once_always}
-use Rattle.world_laws.proofs.Pairs.{prefix_always}
-use Rattle.world_laws.proofs.Reaching.{goes_on as reached_on}
-use Rattle.world_laws.proofs.ResumedRuns.{always_on, between_alike, resumed_law, run_parts}
-use Rattle.trace_laws.specs.Behind.{AnswersBehind, RequestsDiffer, UpdatesBehind}
-use Rattle.trace_laws.specs.Got.{CameTo, IsBehindOrApart, IsConnectedSince, IsNeverGotAgain, SubsTo}
-use Rattle.trace_laws.specs.PassedOver.{HasPassed, UpdatesPass}
-use Rattle.trace_laws.specs.Run.{IsNeverAgain}
-use Rattle.trace_laws.specs.Since.{Since}
-use Rattle.trace_laws.proofs.Behind.{behind_always, own_behind}
-use Rattle.trace_laws.proofs.Given.{not_again}
-use Rattle.trace_laws.proofs.GotLines.{got_law}
-use Rattle.trace_laws.proofs.Lasting.{since_keeps, still_passed, within_keeps}
-use Rattle.trace_laws.proofs.Never.{never_law}
-use Rattle.trace_laws.proofs.Passing.{passes_between}
-use Rattle.trace_laws.proofs.Running.{run_follows, settling_follows}
+use Rattle.world_laws.proofs.OnceInOrder.Once.{once_always}
+use Rattle.world_laws.proofs.Replicating.Pairs.{prefix_always}
+use Rattle.world_laws.proofs.Induction.Reaching.{goes_on as reached_on}
+use Rattle.world_laws.proofs.KeptRuns.ResumedRuns.{always_on, between_alike, resumed_law, run_parts}
+use Rattle.failover_laws.specs.Behind.{AnswersBehind, RequestsDiffer, UpdatesBehind}
+use Rattle.failover_laws.specs.Got.{CameTo, IsBehindOrApart, IsConnectedSince, IsNeverGotAgain, SubsTo}
+use Rattle.failover_laws.specs.PassedOver.{HasPassed, UpdatesPass}
+use Rattle.failover_laws.specs.Run.{IsNeverAgain}
+use Rattle.failover_laws.specs.Since.{Since}
+use Rattle.failover_laws.proofs.Behind.{behind_always, own_behind}
+use Rattle.failover_laws.proofs.Given.{not_again}
+use Rattle.failover_laws.proofs.GotLines.{got_law}
+use Rattle.failover_laws.proofs.Lasting.{since_keeps, still_passed, within_keeps}
+use Rattle.failover_laws.proofs.Never.{never_law}
+use Rattle.failover_laws.proofs.Passing.{passes_between}
+use Rattle.failover_laws.proofs.Running.{run_follows, settling_follows}
 use Rattle.geo_top.specs.Again.{AllStayPassed, ComesNotAgain, IsBehindRequests}
 
 -- ---- what was passed over stays so

@@ -9,11 +9,11 @@ use Rattle.geo_base.specs.Planned.{Planned, has_client, planned}
 use Rattle.geo_base.specs.Run.{Ran, all_settle, counting_round, no_limits, pairs, round_of, rounds_of}
 use Rattle.geo_base.specs.Setup.{Setup}
 use Rattle.geo_base.specs.World.{LinkName, World}
-use Rattle.world_laws.proofs.Effects.{Each, each_take}
-use Rattle.world_laws.proofs.Lowering.{InRound, all_in_round, weight_lowered}
-use Rattle.world_laws.proofs.Rounds.{Works, after, at}
-use Rattle.world_laws.proofs.Walk.{on_elim, on_if}
-use Rattle.world_laws.proofs.Weights.{weight}
+use Rattle.world_laws.proofs.Replicating.Effects.{Each, each_take}
+use Rattle.world_laws.proofs.Budget.Lowering.{InRound, all_in_round, weight_lowered}
+use Rattle.world_laws.proofs.Budget.Rounds.{Works, after, at}
+use Rattle.world_laws.proofs.Walks.Walk.{on_elim, on_if}
+use Rattle.world_laws.proofs.Budget.Weights.{weight}
 
 -- no event counts for more than one
 abbrev IsNext : ℕ → World → Type 0

@@ -11,7 +11,7 @@ use Rattle.geo_base.specs.Planned.{planned}
 use Rattle.geo_base.specs.Run.{Ran, all_limits, all_settle, budget, counting_round, ends_or, goes_on, most_events, most_sent_bytes, or_else, pairs, resets_of, round_of, rounds_of, run_from, run_under, settled_world, settles, steps}
 use Rattle.geo_base.specs.Setup.{Setup}
 use Rattle.geo_base.specs.World.{World, opening_world}
-use Rattle.world_laws.proofs.Walk.{on_elim, on_if}
+use Rattle.world_laws.proofs.Walks.Walk.{on_elim, on_if}
 
 abbrev Few : Ran → Type 0
 Few r = r.world.events ≤ most_events

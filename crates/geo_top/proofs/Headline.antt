@@ -15,11 +15,11 @@ use Rattle.geo_base.specs.Settled.{IsSettled, SettledSoFar, settled, settled_at}
 use Rattle.geo_base.specs.Setup.{Setup}
 use Rattle.geo_base.specs.World.{World}
 use Rattle.script_text.specs.Script.{Script}
-use Rattle.world_laws.proofs.Complete.{budget_always}
-use Rattle.world_laws.proofs.Keeping.{kept_between}
-use Rattle.world_laws.proofs.Once.{once_always}
-use Rattle.world_laws.proofs.Runs.{always_in}
-use Rattle.world_laws.proofs.ToldLaws.{safe_always}
+use Rattle.world_laws.proofs.ComesOver.Complete.{budget_always}
+use Rattle.world_laws.proofs.Dispatching.Keeping.{kept_between}
+use Rattle.world_laws.proofs.OnceInOrder.Once.{once_always}
+use Rattle.world_laws.proofs.Induction.Runs.{always_in}
+use Rattle.world_laws.proofs.Telling.ToldLaws.{safe_always}
 use Rattle.geo_top.specs.Headline.{AllCameOver, IsAlwaysKept, IsAlwaysOnce, IsAlwaysSafe, IsAlwaysSettled, IsInBacklog, IsSafe, NothingIsLost}
 use Rattle.geo_top.specs.Outputs.{passed_limit}
 use Rattle.geo_top.proofs.Quiet.{run_settled}

@@ -18,9 +18,9 @@ use Rattle.geo_base.specs.Plan.{Plan, all_changed, all_written, done, halted}
 use Rattle.geo_base.specs.Run.{waiting_of}
 use Rattle.geo_base.specs.Seeking.{restart}
 use Rattle.geo_base.specs.Subscription.{Subscription, after_acks, attached, cleared, detached, new_subscription, permitted, sought, with_acks}
-use Rattle.world_laws.proofs.SubFrames.{AllSubs, all_written_subs, at_name, created_subs, done_subs}
-use Rattle.world_laws.proofs.Tails.{sum_cons}
-use Rattle.world_laws.proofs.Walk.{on_if, on_test}
+use Rattle.world_laws.proofs.Dispatching.SubFrames.{AllSubs, all_written_subs, at_name, created_subs, done_subs}
+use Rattle.world_laws.proofs.Budget.Tails.{sum_cons}
+use Rattle.world_laws.proofs.Walks.Walk.{on_if, on_test}
 
 -- ---- how many entries and subscriptions
 

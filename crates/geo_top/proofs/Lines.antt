@@ -14,10 +14,10 @@ use Rattle.report_lines.proofs.Added.{line_added}
 use Rattle.broker.specs.Node.{BrokerBook}
 use Rattle.world_laws.specs.Reached.{IsGround}
 use Rattle.world_kept.proofs.Reaching.{ground}
-use Rattle.world_laws.proofs.Sizes.{node_lt}
+use Rattle.world_laws.proofs.Replicating.Sizes.{node_lt}
 use Rattle.geo_top.specs.Shown.{shown_world}
 use Rattle.geo_top.specs.Summary.{big_line, stored_line, stored_lines, summary, summary_lines}
-use Rattle.world_laws.proofs.FewNodes.{few_clients}
+use Rattle.world_laws.proofs.Merges.FewNodes.{few_clients}
 
 -- the items from one that was read on
 pub here : {X : Type 0} (xs : List X) (i : ℕ) (x : X) → i < length xs → x ≡ get_or xs i x → drop i xs ≡ x ∷ drop (i + 1) xs

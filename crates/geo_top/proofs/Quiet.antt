@@ -10,7 +10,7 @@ use Rattle.geo_base.specs.World.{World, opening_world}
 use Rattle.script_inputs.specs.Drawing.{seeded}
 use Rattle.script_inputs.specs.Generated.{generated_run}
 use Rattle.script_inputs.specs.Schedule.{connects, finishes, generated_steps, opens, turns}
-use Rattle.world_laws.proofs.InTime.{settles_in_time}
+use Rattle.world_laws.proofs.Budget.InTime.{settles_in_time}
 use Rattle.geo_top.proofs.Limits.{never_ends}
 
 -- a run of some steps, and then of others

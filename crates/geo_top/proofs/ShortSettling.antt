@@ -18,12 +18,12 @@ use Rattle.geo_base.specs.Scripted.{IsScripted}
 use Rattle.geo_base.specs.Setup.{Setup}
 use Rattle.geo_base.specs.World.{World, opening_world}
 use Rattle.geo_base.specs.Worlds.{IsWorldOf}
-use Rattle.world_laws.proofs.InTime.{start_within}
-use Rattle.world_laws.proofs.Places.{places_kept}
-use Rattle.world_laws.proofs.Rounds.{all_reset, at}
-use Rattle.world_laws.proofs.Runs.{by_events, kept_on, run_on}
-use Rattle.world_laws.proofs.Walk.{on_if}
-use Rattle.world_laws.proofs.Weights.{weight}
+use Rattle.world_laws.proofs.Budget.InTime.{start_within}
+use Rattle.world_laws.proofs.Counters.Places.{places_kept}
+use Rattle.world_laws.proofs.Budget.Rounds.{all_reset, at}
+use Rattle.world_laws.proofs.Induction.Runs.{by_events, kept_on, run_on}
+use Rattle.world_laws.proofs.Walks.Walk.{on_if}
+use Rattle.world_laws.proofs.Budget.Weights.{weight}
 use Rattle.geo_top.proofs.Energy.{energy, part_events, reset_at, round_energy}
 use Rattle.geo_top.proofs.FewEvents.{ran_few}
 use Rattle.geo_top.proofs.Limits.{never_ends, steps_back, unlimited}

@@ -16,8 +16,8 @@ use Rattle.geo_base.specs.World.{World, node, topic_at}
 use Rattle.world_kept.specs.Saved.{world_from}
 use Rattle.script_text.specs.Script.{Script}
 use Rattle.world_laws.specs.AlikeWorlds.{AlwaysOn, AreAlike, LawResumed, RunsAlike, kept_behind, world_on}
-use Rattle.world_laws.proofs.ResumedRuns.{resumed_law}
-use Rattle.world_laws.proofs.SavedRuns.{reached_law}
+use Rattle.world_laws.proofs.KeptRuns.ResumedRuns.{resumed_law}
+use Rattle.world_laws.proofs.KeptRuns.SavedRuns.{reached_law}
 use Rattle.geo_top.specs.Headline.{AllCameOver}
 use Rattle.geo_top.specs.OneRun.{IsKept, IsStillKept, IsStillOnce, IsStillSafe, IsStillSettled}
 use Rattle.geo_top.specs.Outputs.{passed_limit, resumed_limit}

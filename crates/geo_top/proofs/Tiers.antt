@@ -9,7 +9,7 @@ use Rattle.geo_base.specs.Run.{all_limits, run}
 use Rattle.geo_base.specs.Setup.{Setup}
 use Rattle.geo_base.specs.World.{World, node, topic_at}
 use Rattle.broker.specs.Node.{BrokerBook}
-use Rattle.trace_laws.proofs.Ledgers.{readable_law, readable_tellable}
+use Rattle.file_laws.proofs.Ledgers.{readable_law, readable_tellable}
 use Rattle.topic_upkeep.specs.Readable.{AreTellable}
 use Rattle.report_lines.proofs.Added.{line_added}
 use Rattle.report_lines.proofs.Parts.{lines_added}

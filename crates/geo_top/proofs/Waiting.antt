@@ -16,13 +16,13 @@ use Rattle.geo_base.specs.Run.{untaken_of, waiting_of}
 use Rattle.geo_base.specs.Seeking.{restart}
 use Rattle.geo_base.specs.Setup.{Setup}
 use Rattle.geo_base.specs.World.{Back, Forward, LinkName, Links, ToBroker, ToClient, World, broker_at, cell, delivered, from_broker, from_client, link_at, node, opening_world, packet_at, stamped, taken_from, with_cell, with_link}
-use Rattle.world_laws.proofs.Counts.{shape_few}
-use Rattle.world_laws.proofs.Frames.{at_copies, at_map, at_set}
-use Rattle.world_laws.proofs.Runs.{IsKept}
-use Rattle.world_laws.proofs.Shapes.{Shape}
-use Rattle.world_laws.proofs.SubFrames.{AllSubs}
-use Rattle.world_laws.proofs.Tails.{sum_cons, sum_from, whole_new}
-use Rattle.world_laws.proofs.Walk.{on_if}
+use Rattle.world_laws.proofs.Counters.Counts.{shape_few}
+use Rattle.world_laws.proofs.Induction.Frames.{at_copies, at_map, at_set}
+use Rattle.world_laws.proofs.Induction.Runs.{IsKept}
+use Rattle.world_laws.proofs.Walks.Shapes.{Shape}
+use Rattle.world_laws.proofs.Dispatching.SubFrames.{AllSubs}
+use Rattle.world_laws.proofs.Budget.Tails.{sum_cons, sum_from, whole_new}
+use Rattle.world_laws.proofs.Walks.Walk.{on_if}
 use Rattle.geo_top.proofs.FewSent.{shape_sent}
 use Rattle.geo_top.proofs.Held.{IsSmall, done_held, done_small, halted_held, halted_small, held, restarted_held, waiting_most}
 

@@ -12,12 +12,12 @@ use Rattle.geo_base.specs.Run.{no_limits, run_from}
 use Rattle.geo_base.specs.Setup.{Setup, declared_at}
 use Rattle.geo_base.specs.World.{World, client_at, topic_at}
 use Rattle.world_laws.specs.AlikeWorlds.{AlwaysOn, world_on}
-use Rattle.trace_laws.specs.Again.{NotAgain}
-use Rattle.trace_laws.specs.Behind.{AnswersBehind, OwnBehind, RequestsDiffer, UpdatesBehind}
-use Rattle.trace_laws.specs.Got.{IsBehindOrApart, IsConnectedSince, IsNeverGotAgain, SubsTo}
-use Rattle.trace_laws.specs.PassedOver.{HasPassed, UpdatesPass}
-use Rattle.trace_laws.specs.Run.{AllLeave, IsNeverAgain}
-use Rattle.trace_laws.specs.Since.{StaysAcknowledged, leaves_behind}
+use Rattle.failover_laws.specs.Again.{NotAgain}
+use Rattle.failover_laws.specs.Behind.{AnswersBehind, OwnBehind, RequestsDiffer, UpdatesBehind}
+use Rattle.failover_laws.specs.Got.{IsBehindOrApart, IsConnectedSince, IsNeverGotAgain, SubsTo}
+use Rattle.failover_laws.specs.PassedOver.{HasPassed, UpdatesPass}
+use Rattle.failover_laws.specs.Run.{AllLeave, IsNeverAgain}
+use Rattle.failover_laws.specs.Since.{StaysAcknowledged, leaves_behind}
 
 -- What subscription n had at y in world u it still has in world w, and behind the first durable writes of a further event that neither
 -- deletes nor seeks it there. What it had passed over it has passed over, and no event gives it again (passed); and on a connection to y

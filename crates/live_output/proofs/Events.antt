@@ -25,7 +25,7 @@ use Rattle.merge_history.specs.Ends.{AreStood}
 use Rattle.merge_history.specs.Kept.{Kept}
 use Rattle.merge_history.specs.Peers.{LayoutView}
 use Rattle.script_text.specs.Scenario.{IsLink, IsNode}
-use Rattle.world_laws.proofs.Walk.{left, on_if, right}
+use Rattle.world_laws.proofs.Walks.Walk.{left, on_if, right}
 use Rattle.live_output.specs.Playing.{IsEventStep}
 
 -- ---- numbers in range

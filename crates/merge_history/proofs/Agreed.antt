@@ -6,7 +6,7 @@ use Rattle.std.proofs.lemmas.List.{append-nil, append_assoc}
 use Rattle.std.proofs.lemmas.Option.{none-some, same_Some}
 use Rattle.geo_base.specs.declared.packet.Peer.{Peer}
 use Rattle.geo_base.specs.declared.packet.Peer.TheVariants as peer
-use Rattle.world_laws.proofs.Members.{get_right}
+use Rattle.world_laws.proofs.OnceInOrder.Members.{get_right}
 use Rattle.wire_ends.specs.declared.packet.WirePacket.{WirePacket}
 use Rattle.merge_history.specs.Kept.{Kept, kept_by}
 use Rattle.merge_history.specs.Differences.{AllSent, Takes}

@@ -5,7 +5,7 @@ use Rattle.geo_base.specs.Scripted.{IsScripted}
 use Rattle.geo_base.specs.Setup.{Setup}
 use Rattle.merge_history.specs.Ends.{layout_of}
 use Rattle.merge_history.specs.Peers.{IsLayout}
-use Rattle.world_laws.proofs.FewNodes.{few_brokers, few_clients}
+use Rattle.world_laws.proofs.Merges.FewNodes.{few_brokers, few_clients}
 
 pub few_nodes : (s : Setup) → IsScripted s → node_count s < 2 ^ 32
 few_nodes s h = let a = few_brokers s h in let b = few_clients s h in omega (arith, a, b)

@@ -4,7 +4,7 @@ use Rattle.std.specs.Prelude.{IfSome, Result, Ok, Err, Option, Some, None, slice
 use Rattle.std.proofs.lemmas.Option.{none-some, same_Some}
 use Rattle.geo_base.specs.declared.memory.Memory.{Memory}
 use Rattle.geo_base.specs.declared.packet.Peer.{Peer}
-use Rattle.world_laws.proofs.Members.{below_or}
+use Rattle.world_laws.proofs.OnceInOrder.Members.{below_or}
 use Rattle.wire_ends.specs.declared.packet.WirePacket.{WirePacket}
 use Rattle.merge_history.specs.declared.differences.PacketDifference.{PacketDifference}
 use Rattle.merge_history.specs.declared.walk.Found.{Found}

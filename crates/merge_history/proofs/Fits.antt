@@ -12,11 +12,11 @@ use Rattle.geo_base.specs.Run.{run}
 use Rattle.geo_base.specs.Scripted.{IsScripted}
 use Rattle.geo_base.specs.Setup.{Setup}
 use Rattle.frame_laws.specs.Books.{StandsAs}
-use Rattle.world_laws.proofs.MergeOrder.{Rises, rises}
+use Rattle.world_laws.proofs.Merges.MergeOrder.{Rises, rises}
 use Rattle.world_laws.specs.Recorded.{IsAsRecorded}
 use Rattle.script_text.specs.Script.{Script}
 use Rattle.wire_ends.specs.declared.packet.WirePacket.{WirePacket}
-use Rattle.world_laws.proofs.Members.{below_or}
+use Rattle.world_laws.proofs.OnceInOrder.Members.{below_or}
 use Rattle.merge_history.proofs.Firsts.{nothing_past}
 use Rattle.merge_history.proofs.Runs.{runs_begun, runs_whole}
 use Rattle.merge_history.specs.declared.differences.PacketDifference.{PacketDifference}

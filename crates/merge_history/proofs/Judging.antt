@@ -3,7 +3,7 @@ use Rattle.std.proofs.Common.{◌≡◌, ℕ, zero, suc, ◌+◌, ◌<◌, ◌�
 use Rattle.std.specs.Prelude.{None, Option, Some, slice_get, slice_index_or}
 use Rattle.std.proofs.lemmas.Option.{none-some, same_Some}
 use Rattle.script_text.specs.Script.{Script}
-use Rattle.world_laws.proofs.Members.{below_or}
+use Rattle.world_laws.proofs.OnceInOrder.Members.{below_or}
 use Rattle.merge_history.specs.Kept.{kept_by}
 use Rattle.merge_history.specs.declared.difference.Difference.TheVariants as difference
 use Rattle.merge_history.specs.Books.{AreKept, AreOwn, AreTold, BookView, ConfigView, Counts, IsFirstFalse, IsOwn, IsTold, counted_of, kept_of}

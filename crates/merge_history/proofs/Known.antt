@@ -16,12 +16,12 @@ use Rattle.geo_base.specs.Nodes.{BrokerNode, ClientNode, Node, broker_count, is_
 use Rattle.geo_base.specs.Planned.{in_range}
 use Rattle.geo_base.specs.Setup.{Setup}
 use Rattle.geo_base.specs.World.{node}
-use Rattle.world_laws.proofs.ClientPeers.{went, went_once}
-use Rattle.world_laws.proofs.ClientPeers.{cluster_of as their_cluster}
-use Rattle.world_laws.proofs.Crossings.{ToPeers as AllToPeers}
-use Rattle.world_laws.proofs.Roles.{Role, role_next}
-use Rattle.world_laws.proofs.Sizes.{node_lt}
-use Rattle.world_laws.proofs.Walk.{left, right}
+use Rattle.world_laws.proofs.Merges.ClientPeers.{went, went_once}
+use Rattle.world_laws.proofs.Merges.ClientPeers.{cluster_of as their_cluster}
+use Rattle.world_laws.proofs.Merges.Crossings.{ToPeers as AllToPeers}
+use Rattle.world_laws.proofs.Merges.Roles.{Role, role_next}
+use Rattle.world_laws.proofs.Replicating.Sizes.{node_lt}
+use Rattle.world_laws.proofs.Walks.Walk.{left, right}
 use Rattle.world_laws.specs.ByteHistories.{ByteSent, SentStand, StandAll}
 use Rattle.wire_ends.specs.declared.packet.WirePacket.{WirePacket}
 use Rattle.merge_history.specs.Kept.{Kept}

@@ -14,8 +14,8 @@ use Rattle.geo_base.specs.Nodes.{BrokerNode, ClientNode, Node, beside, broker_co
 use Rattle.geo_base.specs.Planned.{has_client, has_node}
 use Rattle.geo_base.specs.Setup.{Setup, declared_at}
 use Rattle.geo_base.specs.World.{Back, Forward, LinkName, node}
-use Rattle.world_laws.proofs.Roles.{opening_role}
-use Rattle.world_laws.proofs.Walk.{left, right}
+use Rattle.world_laws.proofs.Merges.Roles.{opening_role}
+use Rattle.world_laws.proofs.Walks.Walk.{left, right}
 use Rattle.world_laws.specs.ByteHistories.{AreByteHistories, ByteSent, bytes_sent_in, bytes_sent_over, bytes_taken_in, bytes_taken_over}
 use Rattle.wire_ends.specs.declared.packet.WirePacket.{WirePacket}
 use Rattle.frame_laws.specs.Books.{StandsAs}

@@ -8,7 +8,7 @@ use Rattle.geo_base.specs.declared.event.Step.{Step}
 use Rattle.geo_base.specs.declared.event.Step.TheVariants as step
 use Rattle.geo_base.specs.History.{RecordedEvent}
 use Rattle.geo_base.specs.Merge.{history_of, merge_of, steps_of}
-use Rattle.world_laws.proofs.Effects.{Each, each_both}
+use Rattle.world_laws.proofs.Replicating.Effects.{Each, each_both}
 use Rattle.merge_history.specs.declared.turn.Turn.{Turn}
 use Rattle.merge_history.specs.Kept.{Kept, kept_by, kept_stamp}
 use Rattle.merge_history.specs.Turns.{AlikeAll, AlikeEvents, AreSorted, IsIn, Rise, all_turns, entry_at, event_at, no_event, no_kept, stamp_of, step_at, turns_from}

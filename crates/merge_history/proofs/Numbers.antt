@@ -10,7 +10,7 @@ use Rattle.geo_base.specs.Nodes.{BrokerNode, ClientNode, Node, broker_count, has
 use Rattle.geo_base.specs.Planned.{has_client, has_node}
 use Rattle.geo_base.specs.Setup.{Setup, declared_at}
 use Rattle.geo_base.specs.World.{Back, Forward, LinkName, ToBroker, ToClient, node}
-use Rattle.world_laws.proofs.Walk.{left, on_false, on_true, right}
+use Rattle.world_laws.proofs.Walks.Walk.{left, on_false, on_true, right}
 use Rattle.merge_history.specs.declared.packet_layout.FarEnd.{FarEnd}
 use Rattle.merge_history.specs.Ends.{IsLayoutOf, LinkEnds, OtherEnd, other_end}
 use Rattle.merge_history.specs.Peers.{LayoutView, broker_end, client_end, end_of}

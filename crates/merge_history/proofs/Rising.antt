@@ -6,8 +6,8 @@ use Rattle.geo_base.specs.declared.packet.Packet.{Packet}
 use Rattle.geo_base.specs.History.{RecordedEvent}
 use Rattle.geo_base.specs.Merge.{history_of}
 use Rattle.wire_ends.specs.declared.packet.WirePacket.{WirePacket}
-use Rattle.world_laws.proofs.Effects.{Each}
-use Rattle.world_laws.proofs.MergeOrder.{Rises}
+use Rattle.world_laws.proofs.Replicating.Effects.{Each}
+use Rattle.world_laws.proofs.Merges.MergeOrder.{Rises}
 use Rattle.world_laws.specs.ByteHistories.{StandAll}
 use Rattle.merge_history.specs.Kept.{Kept, kept_by}
 use Rattle.merge_history.specs.Turns.{AlikeAll, AlikeEvents, AreAbove, Rise}

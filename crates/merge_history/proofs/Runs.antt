@@ -6,8 +6,8 @@ use Rattle.geo_base.specs.History.{RecordedEvent}
 use Rattle.geo_base.specs.Merge.{Merged, history_of, merge_of, of_node, steps_of}
 use Rattle.geo_base.specs.Run.{run}
 use Rattle.geo_base.specs.Setup.{Declared, Setup, nobody}
-use Rattle.world_laws.proofs.ByteHistories.{bytes_are_histories}
-use Rattle.world_laws.proofs.MergedRun.{has_begun, has_recorded}
+use Rattle.world_laws.proofs.Merges.ByteHistories.{bytes_are_histories}
+use Rattle.world_laws.proofs.Merges.MergedRun.{has_begun, has_recorded}
 use Rattle.world_laws.specs.Recorded.{IsAsRecorded, merged_world}
 use Rattle.frame_laws.proofs.AlikeBytes.{alike_bytes}
 use Rattle.frame_laws.specs.Books.{StandsAs}

@@ -5,7 +5,7 @@ use Rattle.std.proofs.lemmas.List.{append-nil, append_assoc}
 use Rattle.std.proofs.lemmas.Option.{none-some, same_Some}
 use Rattle.geo_base.specs.declared.packet.Peer.{Peer}
 use Rattle.world_laws.specs.ByteHistories.{ByteSent}
-use Rattle.world_laws.proofs.Members.{below_or}
+use Rattle.world_laws.proofs.OnceInOrder.Members.{below_or}
 use Rattle.wire_ends.specs.declared.packet.WirePacket.{WirePacket}
 use Rattle.merge_history.specs.Kept.{Kept, kept_by}
 use Rattle.merge_history.specs.Differences.{AllSent, IsSentAt, earlier, index_taken}

@@ -34,7 +34,7 @@ use Rattle.node_book.proofs.Packs.{packets_are}
 use Rattle.script_text.specs.Script.{Script}
 use Rattle.wire_ends.specs.declared.packet.WirePacket.{WirePacket}
 use Rattle.wire_ends.specs.Parcels.{Packed}
-use Rattle.world_laws.proofs.Roles.{number_lt}
+use Rattle.world_laws.proofs.Merges.Roles.{number_lt}
 use Rattle.world_laws.specs.ByteHistories.{ByteEvent, TakenStands}
 
 -- ---- what it takes

@@ -10,9 +10,9 @@ use Rattle.node_book.specs.declared.state.NodeState.{NodeState as Kept}
 use Rattle.node_book.specs.declared.state.NodeState.TheVariants as kept
 use Rattle.node_book.specs.declared.state.NumberedClient.{NumberedClient}
 use Rattle.node_book.specs.Books.{node_in}
-use Rattle.world_laws.proofs.FewNodes.{few_brokers, few_clients}
-use Rattle.world_laws.proofs.Sizes.{node_lt}
-use Rattle.world_laws.proofs.Walk.{left, right}
+use Rattle.world_laws.proofs.Merges.FewNodes.{few_brokers, few_clients}
+use Rattle.world_laws.proofs.Replicating.Sizes.{node_lt}
+use Rattle.world_laws.proofs.Walks.Walk.{left, right}
 
 pub broker_fits : (s : Setup) (t x : ℕ) → IsScripted s → t < length s.topics → x < length s.clusters → node s t x < 2 ^ 32
 broker_fits s t x scripted lt lx =

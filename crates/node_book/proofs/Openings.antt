@@ -21,7 +21,7 @@ use Rattle.node_book.specs.Books.{BookHolds, HasPeers}
 use Rattle.script_text.specs.Script.{Script}
 use Rattle.wire_ends.specs.declared.packet.WirePacket.{WirePacket}
 use Rattle.world_laws.specs.ByteHistories.{ByteEvent}
-use Rattle.world_laws.proofs.Sizes.{node_lt}
+use Rattle.world_laws.proofs.Replicating.Sizes.{node_lt}
 
 not_below : (c n : ℕ) → nat_lt (n + c) n ≡ false
 not_below c n = by (nat_lt (n + c) n) refl

@@ -14,7 +14,7 @@ use Rattle.geo_base.specs.Planned.{has_client, has_node, has_pair, has_sub, in_r
 use Rattle.geo_base.specs.Setup.{Setup, sub_names}
 use Rattle.node_book.specs.Acts.{NumbersFit}
 use Rattle.node_book.specs.Owning.{IsAtBroker, IsAtClient, IsOwn}
-use Rattle.world_laws.proofs.Walk.{left, right}
+use Rattle.world_laws.proofs.Walks.Walk.{left, right}
 
 -- ---- names of subscriptions
 

@@ -7,7 +7,7 @@ use Rattle.geo_base.specs.declared.client.Line.{Line}
 use Rattle.geo_base.specs.Name.{is_name}
 use Rattle.geo_base.specs.Scripted.{IsScripted, is_declared}
 use Rattle.geo_base.specs.Setup.{Declared, Setup, declared_at, nobody}
-use Rattle.world_laws.proofs.ClientRoams.{all_index}
+use Rattle.world_laws.proofs.Merges.ClientRoams.{all_index}
 
 pub lines_short : (s : Setup) (c : ℕ) → IsScripted s → c < length s.clients → list_all is_short_line (declared_at s c).lines ≡ true
 lines_short s c scripted lt = declared_short s (declared_at s c) (all_index (is_declared s) s.clients c nobody scripted.clients.0 lt)

@@ -8,10 +8,10 @@ use Rattle.world_laws.proofs.Types.marker
 use Rattle.geo_base.specs.Settled.{SettledSoFar}
 use Rattle.geo_base.specs.Setup.{Setup}
 use Rattle.geo_base.specs.Topic.{accepts}
-use Rattle.world_laws.proofs.Members.{get_left, get_push}
-use Rattle.world_laws.proofs.Once.{once_push}
-use Rattle.world_laws.proofs.Sizes.{IsThere}
-use Rattle.world_laws.proofs.Walk.{by_test}
+use Rattle.world_laws.proofs.OnceInOrder.Members.{get_left, get_push}
+use Rattle.world_laws.proofs.OnceInOrder.Once.{once_push}
+use Rattle.world_laws.proofs.Replicating.Sizes.{IsThere}
+use Rattle.world_laws.proofs.Walks.Walk.{by_test}
 use Rattle.geo_base.specs.TraceItems.{Appends, Writes}
 use Rattle.geo_base.specs.Mirror.{Mirror, Mirrors, acted, mirror_at, told}
 use Rattle.geo_base.specs.Audit.{act_refused, is_brought, may_snapshot, may_stand, may_update, unless_broken, is_above}

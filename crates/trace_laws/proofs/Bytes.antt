@@ -6,7 +6,7 @@ use Rattle.std.proofs.lemmas.List.Elements.{All-from_get_or}
 use Rattle.std.proofs.lemmas.List.Splits.{slice_split_at, slice_split_none}
 use Rattle.script_rows.specs.NameWords.{Word, cut_by}
 use Rattle.script_rows.proofs.Back.{passes}
-use Rattle.world_laws.proofs.Effects.{Each}
+use Rattle.world_laws.proofs.Replicating.Effects.{Each}
 
 -- a byte does not stand in a text
 abbrev pub Lacks : ℕ → Word → Type 0

@@ -16,9 +16,9 @@ use Rattle.geo_base.specs.Name.{is_name}
 use Rattle.geo_base.specs.Position.{position_lt}
 use Rattle.geo_base.specs.Storing.{own_marker}
 use Rattle.geo_base.specs.Topic.{next_marker}
-use Rattle.world_laws.proofs.Effects.{Each}
-use Rattle.world_laws.proofs.Ids.{IsSmall}
-use Rattle.world_laws.proofs.Walk.{on_if}
+use Rattle.world_laws.proofs.Replicating.Effects.{Each}
+use Rattle.world_laws.proofs.Snapshotting.Ids.{IsSmall}
+use Rattle.world_laws.proofs.Walks.Walk.{on_if}
 use Rattle.trace_lines.specs.Words.{is_printable}
 use Rattle.trace_laws.proofs.Words.{IsKey, is_token, second_token}
 

@@ -22,13 +22,13 @@ use Rattle.geo_base.specs.Setup.{Setup, declared_at}
 use Rattle.geo_base.specs.Subscription.{Subscription, after_acks, attached, cleared, detached, new_subscription, permitted, sought, with_acks}
 use Rattle.geo_base.specs.Topic.{next_marker, next_position, position_at}
 use Rattle.geo_base.specs.World.{World, packet_at, site, topic_at}
-use Rattle.world_laws.proofs.Effects.{Each, each_both}
-use Rattle.world_laws.proofs.Ids.{IsSmall}
-use Rattle.world_laws.proofs.PeerWalk.{each_filter}
-use Rattle.world_laws.proofs.Shapes.{Answered, Fated, Hears, IsReply, IsSnapshot, Offers, Reads, Seeks, Served, Shape, Snaps, Taken, Updates}
-use Rattle.world_laws.proofs.SubFrames.{at_name, each_at_place, each_to, found_is}
-use Rattle.world_laws.proofs.Walk.{on_if}
-use Rattle.world_laws.proofs.Widths.{Named}
+use Rattle.world_laws.proofs.Replicating.Effects.{Each, each_both}
+use Rattle.world_laws.proofs.Snapshotting.Ids.{IsSmall}
+use Rattle.world_laws.proofs.Merges.PeerWalk.{each_filter}
+use Rattle.world_laws.proofs.Walks.Shapes.{Answered, Fated, Hears, IsReply, IsSnapshot, Offers, Reads, Seeks, Served, Shape, Snaps, Taken, Updates}
+use Rattle.world_laws.proofs.Dispatching.SubFrames.{at_name, each_at_place, each_to, found_is}
+use Rattle.world_laws.proofs.Walks.Walk.{on_if}
+use Rattle.world_laws.proofs.FrameContents.Widths.{Named}
 use Rattle.trace_laws.proofs.Words.{id_token, is_plain}
 use Rattle.trace_laws.proofs.Clean.{IsClean, IsCleanBuilder, IsCleanCached, IsCleanFrame, marker_of, current_token, cut_named, cut_clean, frame_of, hears_clean, last_clean, moved, own_clean, started_clean}
 

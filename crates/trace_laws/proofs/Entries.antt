@@ -22,8 +22,8 @@ use Rattle.trace_lines.specs.Entries.{cluster_positions_of, marked, told_positio
 use Rattle.trace_lines.specs.Words.{is_printable}
 use Rattle.trace_lines.proofs.Told.{data_words}
 use Rattle.world_laws.specs.Plain.{IsCluster}
-use Rattle.world_laws.proofs.Effects.{Each}
-use Rattle.world_laws.proofs.Ids.{IsSmall}
+use Rattle.world_laws.proofs.Replicating.Effects.{Each}
+use Rattle.world_laws.proofs.Snapshotting.Ids.{IsSmall}
 use Rattle.trace_laws.proofs.Words.{IsKey, IsTold, cluster_position_back, cluster_position_plain, is_plain, is_token, key_back, name_back, name_plain, no_by, place_back, place_plain, position_back, position_plain, printed_plain, printed_same, text_back, token_plain}
 
 -- ---- what a line can tell

@@ -20,19 +20,19 @@ use Rattle.geo_base.specs.Serving.{drop_client, drop_session, serve}
 use Rattle.geo_base.specs.Setup.{Setup, declared_at, sub_name}
 use Rattle.geo_base.specs.Subscription.{Subscription, after_acks, attached, cleared, detached, permitted}
 use Rattle.geo_base.specs.World.{Forward, World, link_at, node, site, topic_at}
-use Rattle.world_laws.proofs.Added.{came_other}
-use Rattle.world_laws.proofs.Appends.{fresh}
-use Rattle.world_laws.proofs.EventWalk.{of_node, of_pair, of_sub, of_target}
-use Rattle.world_laws.proofs.Fresh.{Fresh}
-use Rattle.world_laws.proofs.LinkWalk.{fate_answered, fate_taken}
-use Rattle.world_laws.proofs.NoSelf.{NoSelf}
-use Rattle.world_laws.proofs.OfferWalk.{offer_shape, seek_shape, snap_shape}
-use Rattle.world_laws.proofs.ReadWalk.{read_shape}
-use Rattle.world_laws.proofs.SecondRound.{Knows}
-use Rattle.world_laws.proofs.ServeWalk.{frame_served}
-use Rattle.world_laws.proofs.Sizes.{IsThere, node_lt}
-use Rattle.world_laws.proofs.SubFrames.{at_name}
-use Rattle.world_laws.proofs.Walk.{left, on_if, right}
+use Rattle.world_laws.proofs.TopicOrder.Added.{came_other}
+use Rattle.world_laws.proofs.OnceInOrder.Appends.{fresh}
+use Rattle.world_laws.proofs.Walks.EventWalk.{of_node, of_pair, of_sub, of_target}
+use Rattle.world_laws.proofs.OnceInOrder.Fresh.{Fresh}
+use Rattle.world_laws.proofs.Walks.LinkWalk.{fate_answered, fate_taken}
+use Rattle.world_laws.proofs.TopicOrder.NoSelf.{NoSelf}
+use Rattle.world_laws.proofs.Walks.OfferWalk.{offer_shape, seek_shape, snap_shape}
+use Rattle.world_laws.proofs.Walks.ReadWalk.{read_shape}
+use Rattle.world_laws.proofs.Snapshotting.SecondRound.{Knows}
+use Rattle.world_laws.proofs.Walks.ServeWalk.{frame_served}
+use Rattle.world_laws.proofs.Replicating.Sizes.{IsThere, node_lt}
+use Rattle.world_laws.proofs.Dispatching.SubFrames.{at_name}
+use Rattle.world_laws.proofs.Walks.Walk.{left, on_if, right}
 use Rattle.geo_base.specs.declared.planned.Cause.{Cause}
 use Rattle.geo_base.specs.declared.planned.Cause.TheVariants as cause
 use Rattle.geo_base.specs.TraceItems.{Begins, Item}

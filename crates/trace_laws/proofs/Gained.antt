@@ -4,9 +4,9 @@ use Rattle.std.specs.Prelude.{if◌then◌else◌}
 use Rattle.std.specs.List.{list_all}
 use Rattle.std.proofs.lemmas.Bool.{eq-eqb, eqb-true, false≢true}
 use Rattle.geo_base.specs.Cursor.{has, with_indexes}
-use Rattle.world_laws.proofs.Cursors.{either, or_left, or_right}
-use Rattle.world_laws.proofs.Remembers.{has_either, has_left, has_new, has_still, not_false}
-use Rattle.world_laws.proofs.Walk.{both, by_test}
+use Rattle.world_laws.proofs.Replicating.Cursors.{either, or_left, or_right}
+use Rattle.world_laws.proofs.Dispatching.Remembers.{has_either, has_left, has_new, has_still, not_false}
+use Rattle.world_laws.proofs.Walks.Walk.{both, by_test}
 use Rattle.geo_base.specs.Traced.{gained}
 use Rattle.cursor_acks.proofs.Sets.{Rising, rising_with_indexes, same_set}
 

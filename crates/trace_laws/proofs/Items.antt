@@ -25,14 +25,14 @@ use Rattle.geo_base.specs.Traced.{SnapshotAt, acts_of, cause_of, cursor_of, gain
 use Rattle.geo_base.specs.World.{site}
 use Rattle.cursor_acks.proofs.Sets.{Rising, rising_higher, rising_with_indexes}
 use Rattle.script_rows.specs.NameWords.{Word}
-use Rattle.world_laws.proofs.Answering.{Numbered}
-use Rattle.world_laws.proofs.Counts.{HasRoom}
-use Rattle.world_laws.proofs.Effects.{Each}
-use Rattle.world_laws.proofs.Ids.{IsSmall}
-use Rattle.world_laws.proofs.Ledgers.{of_index, total}
-use Rattle.world_laws.proofs.NextPosition.{next_stands}
-use Rattle.world_laws.proofs.Walk.{on_if}
-use Rattle.world_laws.proofs.Widths.{GoodName, Named, WideAt, written_wide}
+use Rattle.world_laws.proofs.Snapshotting.Answering.{Numbered}
+use Rattle.world_laws.proofs.Counters.Counts.{HasRoom}
+use Rattle.world_laws.proofs.Replicating.Effects.{Each}
+use Rattle.world_laws.proofs.Snapshotting.Ids.{IsSmall}
+use Rattle.world_laws.proofs.TopicOrder.Ledgers.{of_index, total}
+use Rattle.world_laws.proofs.TopicOrder.NextPosition.{next_stands}
+use Rattle.world_laws.proofs.Walks.Walk.{on_if}
+use Rattle.world_laws.proofs.FrameContents.Widths.{GoodName, Named, WideAt, written_wide}
 use Rattle.trace_laws.specs.Seen.{seen}
 use Rattle.trace_laws.proofs.Writes.{PlanHolds, option_seen, seen_with, sub_found}
 use Rattle.trace_laws.proofs.Entries.{IsBy, IsToldEntry}

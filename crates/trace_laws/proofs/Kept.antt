@@ -11,12 +11,12 @@ use Rattle.geo_base.specs.Position.{same_position}
 use Rattle.geo_base.specs.Settled.{IsSettled, SettledSoFar}
 use Rattle.geo_base.specs.Setup.{Setup}
 use Rattle.geo_base.specs.Updating.{positions_for}
-use Rattle.world_laws.proofs.Frames.{at_set}
-use Rattle.world_laws.proofs.LinkFrames.{same_node}
-use Rattle.world_laws.proofs.Members.{get_left, get_within}
-use Rattle.world_laws.proofs.Once.{OnceIn}
-use Rattle.world_laws.proofs.Sizes.{IsThere}
-use Rattle.world_laws.proofs.Told.{Includes}
+use Rattle.world_laws.proofs.Induction.Frames.{at_set}
+use Rattle.world_laws.proofs.Replicating.LinkFrames.{same_node}
+use Rattle.world_laws.proofs.OnceInOrder.Members.{get_left, get_within}
+use Rattle.world_laws.proofs.OnceInOrder.Once.{OnceIn}
+use Rattle.world_laws.proofs.Replicating.Sizes.{IsThere}
+use Rattle.world_laws.proofs.Telling.Told.{Includes}
 use Rattle.geo_base.specs.Mirror.{Mirror, MirrorSub, Mirrors, index_at, index_from, mirror_at, no_mirror, mirror_number}
 use Rattle.trace_laws.specs.Audited.{OnlySettledIn}
 

@@ -18,13 +18,13 @@ use Rattle.geo_base.specs.Setup.{Setup}
 use Rattle.geo_base.specs.Subscription.{Subscription}
 use Rattle.geo_base.specs.Topic.{accepts, grown, index_of, next_position, position_at}
 use Rattle.geo_base.specs.Updating.{only_index, passed_over, positions_for}
-use Rattle.world_laws.proofs.Answering.{Numbered}
-use Rattle.world_laws.proofs.Cursors.{or_left, or_right}
-use Rattle.world_laws.proofs.Ledgers.{at_index, still_grown, total}
-use Rattle.world_laws.proofs.Members.{Stands}
-use Rattle.world_laws.proofs.NextPosition.{le_index, next_stands}
-use Rattle.world_laws.proofs.Passing.{passed_over_is}
-use Rattle.world_laws.proofs.Walk.{both, by_test}
+use Rattle.world_laws.proofs.Snapshotting.Answering.{Numbered}
+use Rattle.world_laws.proofs.Replicating.Cursors.{or_left, or_right}
+use Rattle.world_laws.proofs.TopicOrder.Ledgers.{at_index, still_grown, total}
+use Rattle.world_laws.proofs.OnceInOrder.Members.{Stands}
+use Rattle.world_laws.proofs.TopicOrder.NextPosition.{le_index, next_stands}
+use Rattle.world_laws.proofs.Telling.Passing.{passed_over_is}
+use Rattle.world_laws.proofs.Walks.Walk.{both, by_test}
 use Rattle.geo_base.specs.declared.planned.Cause.{Cause}
 use Rattle.geo_base.specs.declared.planned.Cause.TheVariants as cause
 use Rattle.geo_base.specs.TraceItems.{Acks, Appends}

@@ -16,12 +16,12 @@ use Rattle.geo_base.specs.Position.{position_le, position_lt}
 use Rattle.geo_base.specs.Subscription.{Subscription}
 use Rattle.geo_base.specs.Topic.{index_of, position_at}
 use Rattle.geo_base.specs.Updating.{positions_for}
-use Rattle.world_laws.proofs.Answering.{Numbered}
-use Rattle.world_laws.proofs.Ledgers.{at_index}
-use Rattle.world_laws.proofs.Members.{Stands, stands_next}
-use Rattle.world_laws.proofs.NextPosition.{le_index}
-use Rattle.world_laws.proofs.Prefixes.{is_of}
-use Rattle.world_laws.proofs.Walk.{both, left, right}
+use Rattle.world_laws.proofs.Snapshotting.Answering.{Numbered}
+use Rattle.world_laws.proofs.TopicOrder.Ledgers.{at_index}
+use Rattle.world_laws.proofs.OnceInOrder.Members.{Stands, stands_next}
+use Rattle.world_laws.proofs.TopicOrder.NextPosition.{le_index}
+use Rattle.world_laws.proofs.Replicating.Prefixes.{is_of}
+use Rattle.world_laws.proofs.Walks.Walk.{both, left, right}
 use Rattle.geo_base.specs.TraceItems.{names_same, same_positions}
 use Rattle.geo_base.specs.Traced.{SnapshotAt, least_of, least_snapshot, snapshot_in, snapshot_position, snapshots_from}
 use Rattle.geo_base.specs.Mirror.{MirrorSub, index_at, mirror_sub}

@@ -8,10 +8,10 @@ use Rattle.world_laws.proofs.Types.{Entry, Position}
 use Rattle.geo_base.specs.Broker.{Broker}
 use Rattle.geo_base.specs.Position.{same_position}
 use Rattle.geo_base.specs.Topic.{index_of, grown, next_position, position_at}
-use Rattle.world_laws.proofs.Answering.{Numbered}
-use Rattle.world_laws.proofs.Ledgers.{at_index, of_index, position_is, still_grown, total}
-use Rattle.world_laws.proofs.NextPosition.{next_stands}
-use Rattle.world_laws.proofs.Walk.{both, by_test}
+use Rattle.world_laws.proofs.Snapshotting.Answering.{Numbered}
+use Rattle.world_laws.proofs.TopicOrder.Ledgers.{at_index, of_index, position_is, still_grown, total}
+use Rattle.world_laws.proofs.TopicOrder.NextPosition.{next_stands}
+use Rattle.world_laws.proofs.Walks.Walk.{both, by_test}
 use Rattle.geo_base.specs.Mirror.{index_at, index_from}
 use Rattle.trace_laws.specs.Seen.{positions_in, seen}
 use Rattle.trace_laws.proofs.Same.{positions_are}

@@ -18,7 +18,7 @@ use Rattle.script_rows.specs.Numbers.{is_digit}
 use Rattle.script_rows.specs.NameWords.{Word, cut_by, listed}
 use Rattle.script_rows.proofs.Digits.{decimal_digits}
 use Rattle.trace_lines.specs.Ranges.{least_behind, range_in, ranges_from, ranges_of as ranges_read}
-use Rattle.world_laws.proofs.Effects.{Each}
+use Rattle.world_laws.proofs.Replicating.Effects.{Each}
 use Rattle.trace_laws.proofs.Bytes.{Lacks, cut_joined, lacks, weaker}
 use Rattle.trace_laws.proofs.Words.{is_plain, is_visible, number_reads}
 

@@ -19,7 +19,7 @@ use Rattle.trace_lines.specs.Lines.{item_read}
 use Rattle.trace_lines.specs.Words.{is_printable}
 use Rattle.trace_laws.specs.Seen.{world_seen}
 use Rattle.trace_laws.proofs.Traced.{traced_accepted}
-use Rattle.world_laws.proofs.Effects.{Each}
+use Rattle.world_laws.proofs.Replicating.Effects.{Each}
 use Rattle.audit.specs.AuditOf.{audit_of, headed, item_refused, lines_audited, may_come, names_of, told_if}
 use Rattle.trace_laws.specs.Readable.{LawTraceRead}
 use Rattle.trace_laws.proofs.Bytes.{Lacks, lacks}

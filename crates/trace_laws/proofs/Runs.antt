@@ -15,9 +15,9 @@ use Rattle.geo_base.specs.TraceItems.{Begins, Item, Writes}
 use Rattle.geo_base.specs.Traced.{all_writes, event_items, halt_items, items_from, rounds_items, settling_items, step_items, traced, unless_ended}
 use Rattle.geo_base.specs.World.{World, opening_world}
 use Rattle.script_text.specs.Scenario.{IsClient}
-use Rattle.world_laws.proofs.Effects.{Each, each_both}
-use Rattle.world_laws.proofs.Runs.{IsKeptByEvents}
-use Rattle.world_laws.proofs.Walk.{on_elim, on_if}
+use Rattle.world_laws.proofs.Replicating.Effects.{Each, each_both}
+use Rattle.world_laws.proofs.Induction.Runs.{IsKeptByEvents}
+use Rattle.world_laws.proofs.Walks.Walk.{on_elim, on_if}
 use Rattle.trace_laws.proofs.Traced.{few_short}
 use Rattle.trace_laws.proofs.TextEvents.{Known, known_kept, planned_told}
 use Rattle.trace_laws.proofs.TextLines.{IsToldItem}

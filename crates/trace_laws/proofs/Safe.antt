@@ -8,9 +8,9 @@ use Rattle.world_laws.proofs.Types.{Ident}
 use Rattle.geo_base.specs.Entry.{same_ident}
 use Rattle.geo_base.specs.Settled.{SettledSoFar}
 use Rattle.geo_base.specs.Setup.{Setup}
-use Rattle.world_laws.proofs.OnlyTold.{first_included}
-use Rattle.world_laws.proofs.Sizes.{node_lt}
-use Rattle.world_laws.proofs.Told.{Includes, told_too}
+use Rattle.world_laws.proofs.Telling.OnlyTold.{first_included}
+use Rattle.world_laws.proofs.Replicating.Sizes.{node_lt}
+use Rattle.world_laws.proofs.Telling.Told.{Includes, told_too}
 use Rattle.geo_base.specs.TraceItems.{Acks, Appends, Begins, Creates, Deletes, Item, Seeks, Writes}
 use Rattle.geo_base.specs.Mirror.{Mirror, Mirrors, mirror_at, no_mirror, opening_mirrors, mirror_number, settled_by, told}
 use Rattle.geo_base.specs.Audit.{Refusal, audited_from, judged, refused, settled_from}

@@ -13,7 +13,7 @@ use Rattle.geo_base.specs.Entry.{same_ident, same_stream}
 use Rattle.geo_base.specs.Position.{same_position}
 use Rattle.geo_base.specs.Updating.{positions_for}
 use Rattle.std.proofs.lemmas.Bool.Decides.{nat_tests}
-use Rattle.world_laws.proofs.Walk.{by_test, left, right}
+use Rattle.world_laws.proofs.Walks.Walk.{by_test, left, right}
 use Rattle.geo_base.specs.TraceItems.{names_same, same_positions}
 use Rattle.geo_base.specs.Audit.{same_content, same_entry, same_key, same_marker, same_pair, same_pairs, same_place, same_targets}
 

@@ -15,15 +15,15 @@ use Rattle.geo_base.specs.Serving.{drop_session, serve, serve_frame}
 use Rattle.geo_base.specs.Settled.{IsSettled, SettledSoFar, is_session, messages_at, settled_by_command, settled_by_packet, settled_by_seek}
 use Rattle.geo_base.specs.Setup.{Setup, topic_name}
 use Rattle.geo_base.specs.World.{site}
-use Rattle.world_laws.proofs.Answering.{Numbered}
-use Rattle.world_laws.proofs.Effects.{Each, each_both, each_take}
-use Rattle.world_laws.proofs.LinkWalk.{fate_answered, fate_taken}
-use Rattle.world_laws.proofs.OfferWalk.{seek_shape}
-use Rattle.world_laws.proofs.ServeTells.{indexes_told, next_tells, seeks_tell}
-use Rattle.world_laws.proofs.ServeWalk.{frame_served}
-use Rattle.world_laws.proofs.Shapes.{Answered, Fated, Snaps, Taken}
-use Rattle.world_laws.proofs.Told.{Tells, TellsWrite}
-use Rattle.world_laws.proofs.Walk.{on_if}
+use Rattle.world_laws.proofs.Snapshotting.Answering.{Numbered}
+use Rattle.world_laws.proofs.Replicating.Effects.{Each, each_both, each_take}
+use Rattle.world_laws.proofs.Walks.LinkWalk.{fate_answered, fate_taken}
+use Rattle.world_laws.proofs.Walks.OfferWalk.{seek_shape}
+use Rattle.world_laws.proofs.Telling.ServeTells.{indexes_told, next_tells, seeks_tell}
+use Rattle.world_laws.proofs.Walks.ServeWalk.{frame_served}
+use Rattle.world_laws.proofs.Walks.Shapes.{Answered, Fated, Snaps, Taken}
+use Rattle.world_laws.proofs.Telling.Told.{Tells, TellsWrite}
+use Rattle.world_laws.proofs.Walks.Walk.{on_if}
 use Rattle.geo_base.specs.declared.planned.Cause.{Cause}
 use Rattle.geo_base.specs.declared.planned.Cause.TheVariants as cause
 use Rattle.geo_base.specs.Traced.{acts_of, cursor_of, told_at}

@@ -29,18 +29,18 @@ use Rattle.geo_base.specs.Subscription.{Subscription}
 use Rattle.geo_base.specs.TraceItems.{Begins, Item}
 use Rattle.geo_base.specs.Traced.{acts_of, all_writes, cause_of, cursor_of, event_items, halt_items, planned_items, settling_items, told_at, unless_ended}
 use Rattle.geo_base.specs.World.{ToBroker, World, link_at, site, topic_at}
-use Rattle.world_laws.proofs.Announcing.{find_stands}
-use Rattle.world_laws.proofs.Asked.{named}
-use Rattle.world_laws.proofs.Effects.{Each, each_take}
-use Rattle.world_laws.proofs.EventWalk.{of_node, of_sub}
-use Rattle.world_laws.proofs.Loaded.{Tables}
-use Rattle.world_laws.proofs.OfferWalk.{offer_shape, snap_shape}
-use Rattle.world_laws.proofs.QuietTells.{settles_none}
-use Rattle.world_laws.proofs.ReadWalk.{read_shape}
-use Rattle.world_laws.proofs.ServeTells.{seek_settles, serve_settles}
-use Rattle.world_laws.proofs.Sizes.{IsThere}
-use Rattle.world_laws.proofs.Told.{Includes}
-use Rattle.world_laws.proofs.Walk.{left, on_false, on_if, on_test, on_true, right}
+use Rattle.world_laws.proofs.Telling.Announcing.{find_stands}
+use Rattle.world_laws.proofs.Snapshotting.Asked.{named}
+use Rattle.world_laws.proofs.Replicating.Effects.{Each, each_take}
+use Rattle.world_laws.proofs.Walks.EventWalk.{of_node, of_sub}
+use Rattle.world_laws.proofs.KeptRuns.Loaded.{Tables}
+use Rattle.world_laws.proofs.Walks.OfferWalk.{offer_shape, snap_shape}
+use Rattle.world_laws.proofs.Telling.QuietTells.{settles_none}
+use Rattle.world_laws.proofs.Walks.ReadWalk.{read_shape}
+use Rattle.world_laws.proofs.Telling.ServeTells.{seek_settles, serve_settles}
+use Rattle.world_laws.proofs.Replicating.Sizes.{IsThere}
+use Rattle.world_laws.proofs.Telling.Told.{Includes}
+use Rattle.world_laws.proofs.Walks.Walk.{left, on_false, on_if, on_test, on_true, right}
 use Rattle.trace_laws.specs.Audited.{all_told}
 use Rattle.trace_laws.specs.Seen.{seen, world_seen}
 use Rattle.trace_laws.proofs.Events.{Whole}

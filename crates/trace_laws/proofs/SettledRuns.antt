@@ -27,20 +27,20 @@ use Rattle.geo_base.specs.Setup.{Setup, declared_at, sub_name}
 use Rattle.geo_base.specs.TraceItems.{Begins, Item}
 use Rattle.geo_base.specs.Traced.{all_writes, cause_of, event_items, halt_items, items_from, planned_items, rounds_items, settling_items, step_items, traced, unless_ended}
 use Rattle.geo_base.specs.World.{ToBroker, World, link_at, opening_world, site, topic_at}
-use Rattle.world_laws.proofs.Cursors.{either, or_left, or_right}
-use Rattle.world_laws.proofs.Asked.{named}
-use Rattle.world_laws.proofs.Loaded.{Tables, form_kept}
-use Rattle.world_laws.proofs.OfferWalk.{seek_shape}
-use Rattle.world_laws.proofs.Quiet.{plan_idles}
-use Rattle.world_laws.proofs.Remembers.{any_left, any_right}
-use Rattle.world_laws.proofs.Runs.{IsKept}
-use Rattle.world_laws.proofs.SecondRound.{knows_now}
-use Rattle.world_laws.proofs.ServeWalk.{frame_served}
-use Rattle.world_laws.proofs.Shapes.{Seeks as SeekPlan, Served}
-use Rattle.world_laws.proofs.Told.{Includes, IsToldKept, ToldOver, nothing_told, told_too}
-use Rattle.world_laws.proofs.ToldLaws.{only_settled, told_kept}
-use Rattle.world_laws.proofs.ToldRuns.{none_settled, resets_none, rounds_none, step_done}
-use Rattle.world_laws.proofs.Walk.{on_elim, on_if, on_test}
+use Rattle.world_laws.proofs.Replicating.Cursors.{either, or_left, or_right}
+use Rattle.world_laws.proofs.Snapshotting.Asked.{named}
+use Rattle.world_laws.proofs.KeptRuns.Loaded.{Tables, form_kept}
+use Rattle.world_laws.proofs.Walks.OfferWalk.{seek_shape}
+use Rattle.world_laws.proofs.ComesOver.Quiet.{plan_idles}
+use Rattle.world_laws.proofs.Dispatching.Remembers.{any_left, any_right}
+use Rattle.world_laws.proofs.Induction.Runs.{IsKept}
+use Rattle.world_laws.proofs.Snapshotting.SecondRound.{knows_now}
+use Rattle.world_laws.proofs.Walks.ServeWalk.{frame_served}
+use Rattle.world_laws.proofs.Walks.Shapes.{Seeks as SeekPlan, Served}
+use Rattle.world_laws.proofs.Telling.Told.{Includes, IsToldKept, ToldOver, nothing_told, told_too}
+use Rattle.world_laws.proofs.Telling.ToldLaws.{only_settled, told_kept}
+use Rattle.world_laws.proofs.Telling.ToldRuns.{none_settled, resets_none, rounds_none, step_done}
+use Rattle.world_laws.proofs.Walks.Walk.{on_elim, on_if, on_test}
 use Rattle.trace_laws.specs.Seen.{seen, world_seen}
 use Rattle.trace_laws.proofs.Events.{Whole}
 use Rattle.trace_laws.proofs.SettledEvents.{Among, Lines}

@@ -26,14 +26,14 @@ use Rattle.geo_base.specs.Storing.{cursor_write, update_after}
 use Rattle.geo_base.specs.Subscription.{Subscription, is_attached, sought, with_acks}
 use Rattle.geo_base.specs.Topic.{next_position}
 use Rattle.geo_base.specs.World.{site}
-use Rattle.world_laws.proofs.Cursors.{either, or_left, or_right}
-use Rattle.world_laws.proofs.Effects.{Each, each_both}
-use Rattle.world_laws.proofs.OnlyTold.{has_below}
-use Rattle.world_laws.proofs.Remembers.{any_left, has_left, has_new, not_false}
-use Rattle.world_laws.proofs.ServeTells.{acks_same, has_first, indexes_told}
-use Rattle.world_laws.proofs.Shapes.{Offers, Reads, Seeks as SeekPlan, Served, Updates}
-use Rattle.world_laws.proofs.Told.{IsTold, TellsWrite}
-use Rattle.world_laws.proofs.Walk.{both, by_test, left, on_false, on_true, right}
+use Rattle.world_laws.proofs.Replicating.Cursors.{either, or_left, or_right}
+use Rattle.world_laws.proofs.Replicating.Effects.{Each, each_both}
+use Rattle.world_laws.proofs.Telling.OnlyTold.{has_below}
+use Rattle.world_laws.proofs.Dispatching.Remembers.{any_left, has_left, has_new, not_false}
+use Rattle.world_laws.proofs.Telling.ServeTells.{acks_same, has_first, indexes_told}
+use Rattle.world_laws.proofs.Walks.Shapes.{Offers, Reads, Seeks as SeekPlan, Served, Updates}
+use Rattle.world_laws.proofs.Telling.Told.{IsTold, TellsWrite}
+use Rattle.world_laws.proofs.Walks.Walk.{both, by_test, left, on_false, on_true, right}
 use Rattle.geo_base.specs.declared.planned.Cause.{Cause}
 use Rattle.geo_base.specs.declared.planned.Cause.TheVariants as cause
 use Rattle.geo_base.specs.TraceItems.{Acks, Act, Appends, Creates, Deletes, Seeks, Writes}
@@ -42,7 +42,7 @@ use Rattle.geo_base.specs.Mirror.{Mirror, Mirrors, indexes_settled, mirror_at, s
 use Rattle.geo_base.specs.Audit.{settled_from}
 use Rattle.trace_laws.specs.Seen.{seen}
 use Rattle.trace_laws.proofs.Gained.{gained_is}
-use Rattle.world_laws.proofs.Announcing.{find_stands}
+use Rattle.world_laws.proofs.Telling.Announcing.{find_stands}
 use Rattle.trace_laws.proofs.Same.{idents_are}
 use Rattle.trace_laws.proofs.Shaped.{read_cause}
 

@@ -27,32 +27,32 @@ use Rattle.geo_base.specs.Subscription.{Subscription, has_consumer, new_subscrip
 use Rattle.geo_base.specs.Topic.{accepts, position_at}
 use Rattle.geo_base.specs.Updating.{passed_over}
 use Rattle.geo_base.specs.World.{World, node, site, topic_at}
-use Rattle.world_laws.proofs.Added.{sound_data}
-use Rattle.world_laws.proofs.Answering.{Numbered, writes_steady}
-use Rattle.world_laws.proofs.Appends.{fresh}
-use Rattle.world_laws.proofs.Building.{differ}
-use Rattle.world_laws.proofs.Caches.{AllIn, cached_all}
-use Rattle.world_laws.proofs.Cursors.{either, or_right}
-use Rattle.world_laws.proofs.Effects.{Each, each_both}
-use Rattle.world_laws.proofs.Ledgers.{of_index}
-use Rattle.world_laws.proofs.Members.{Stands, get_last}
-use Rattle.world_laws.proofs.NoSelf.{remote_other}
-use Rattle.world_laws.proofs.Passing.{passed_over_is}
-use Rattle.world_laws.proofs.Prefixes.{is_of}
-use Rattle.world_laws.proofs.ServeTells.{ack_within, acks_same}
-use Rattle.world_laws.proofs.LinkFrames.{same_node}
-use Rattle.world_laws.proofs.Order.{of_source}
-use Rattle.world_laws.proofs.SecondRound.{Knows}
-use Rattle.world_laws.proofs.SnapshotFacts.{out_there}
-use Rattle.world_laws.proofs.Shapes.{Answered, Fated, Offers, Reads, Seeks, Served, Snaps, Taken, Updates}
-use Rattle.world_laws.proofs.Walk.{both, left, on_true, right}
+use Rattle.world_laws.proofs.TopicOrder.Added.{sound_data}
+use Rattle.world_laws.proofs.Snapshotting.Answering.{Numbered, writes_steady}
+use Rattle.world_laws.proofs.OnceInOrder.Appends.{fresh}
+use Rattle.world_laws.proofs.Snapshotting.Building.{differ}
+use Rattle.world_laws.proofs.Snapshotting.Caches.{AllIn, cached_all}
+use Rattle.world_laws.proofs.Replicating.Cursors.{either, or_right}
+use Rattle.world_laws.proofs.Replicating.Effects.{Each, each_both}
+use Rattle.world_laws.proofs.TopicOrder.Ledgers.{of_index}
+use Rattle.world_laws.proofs.OnceInOrder.Members.{Stands, get_last}
+use Rattle.world_laws.proofs.TopicOrder.NoSelf.{remote_other}
+use Rattle.world_laws.proofs.Telling.Passing.{passed_over_is}
+use Rattle.world_laws.proofs.Replicating.Prefixes.{is_of}
+use Rattle.world_laws.proofs.Telling.ServeTells.{ack_within, acks_same}
+use Rattle.world_laws.proofs.Replicating.LinkFrames.{same_node}
+use Rattle.world_laws.proofs.TopicOrder.Order.{of_source}
+use Rattle.world_laws.proofs.Snapshotting.SecondRound.{Knows}
+use Rattle.world_laws.proofs.Snapshotting.SnapshotFacts.{out_there}
+use Rattle.world_laws.proofs.Walks.Shapes.{Answered, Fated, Offers, Reads, Seeks, Served, Snaps, Taken, Updates}
+use Rattle.world_laws.proofs.Walks.Walk.{both, left, on_true, right}
 use Rattle.geo_base.specs.Mirror.{mirror_at, no_mirror}
 use Rattle.geo_base.specs.declared.planned.Cause.{Cause}
 use Rattle.geo_base.specs.declared.planned.Cause.TheVariants as cause
 use Rattle.geo_base.specs.Traced.{cursor_of, position_read, snapshot_told}
 use Rattle.trace_laws.specs.Seen.{seen}
 use Rattle.trace_laws.proofs.Lines.{acks_accepted, append_accepted, came_stands, marker_accepted, other_snapshot, other_update, passes_accepted}
-use Rattle.world_laws.proofs.Announcing.{find_stands}
+use Rattle.world_laws.proofs.Telling.Announcing.{find_stands}
 use Rattle.cursor_acks.proofs.Sets.{Rising}
 use Rattle.trace_laws.proofs.Stems.{StemsFrom}
 use Rattle.trace_laws.proofs.Told.{Here, acks_hold, completes_holds, found_after, found_self, marker_holds, numbered_here, publishes_hold, update_holds}

@@ -18,12 +18,12 @@ use Rattle.geo_base.specs.Entry.{is_data, meant_for, same_ident, same_stream}
 use Rattle.geo_base.specs.Setup.{Setup}
 use Rattle.geo_base.specs.Updating.{positions_for}
 use Rattle.geo_base.specs.World.{World, topic_at}
-use Rattle.world_laws.proofs.Answering.{Numbered}
-use Rattle.world_laws.proofs.Cursors.{or_left, or_right}
-use Rattle.world_laws.proofs.Passing.{names_one}
-use Rattle.world_laws.proofs.Prefixes.{same_self}
-use Rattle.world_laws.proofs.Sizes.{IsThere}
-use Rattle.world_laws.proofs.Walk.{both, by_test}
+use Rattle.world_laws.proofs.Snapshotting.Answering.{Numbered}
+use Rattle.world_laws.proofs.Replicating.Cursors.{or_left, or_right}
+use Rattle.world_laws.proofs.Telling.Passing.{names_one}
+use Rattle.world_laws.proofs.Replicating.Prefixes.{same_self}
+use Rattle.world_laws.proofs.Replicating.Sizes.{IsThere}
+use Rattle.world_laws.proofs.Walks.Walk.{both, by_test}
 use Rattle.geo_base.specs.Mirror.{Mirror, index_at, mirror_at, no_mirror, mirror_number}
 use Rattle.geo_base.specs.Audit.{covers, index_named, is_covered, is_cut, is_named_once, may_snapshot, names_each, position_named, same_content, same_entry, same_key, same_marker, same_pair, same_pairs, same_place, same_targets}
 use Rattle.trace_laws.specs.Seen.{seen, world_seen}

@@ -9,9 +9,9 @@ use Rattle.geo_base.specs.Planned.{has_client}
 use Rattle.geo_base.specs.Setup.{Setup}
 use Rattle.geo_base.specs.World.{ToBroker, World, link_at, table}
 use Rattle.world_laws.specs.AlikeWorlds.{waiting, waiting_on}
-use Rattle.world_laws.proofs.AlikeLinks.{get_map}
-use Rattle.world_laws.proofs.Loaded.{Tables, empty_row, form}
-use Rattle.world_laws.proofs.Walk.{both}
+use Rattle.world_laws.proofs.KeptRuns.AlikeLinks.{get_map}
+use Rattle.world_laws.proofs.KeptRuns.Loaded.{Tables, empty_row, form}
+use Rattle.world_laws.proofs.Walks.Walk.{both}
 
 past_end : {X : Type 0} (xs : List X) (i : ℕ) (d : X) → length xs ≤ i → slice_index_or xs i d ≡ d
 past_end [] i d le = refl

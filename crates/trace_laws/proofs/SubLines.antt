@@ -15,13 +15,13 @@ use Rattle.geo_base.specs.Entry.{is_data, meant_for, same_ident}
 use Rattle.geo_base.specs.Settled.{SettledSoFar, first_indexes, messages_at}
 use Rattle.geo_base.specs.Setup.{Setup}
 use Rattle.geo_base.specs.Updating.{passes, positions_for}
-use Rattle.world_laws.proofs.Members.{from_filter, get_push}
-use Rattle.world_laws.proofs.OnlyTold.{first_included, has_below, same_name}
-use Rattle.world_laws.proofs.Remembers.{any_right, has_either}
-use Rattle.world_laws.proofs.ServeTells.{has_first, indexes_told}
-use Rattle.world_laws.proofs.Sizes.{IsThere}
-use Rattle.world_laws.proofs.Told.{Includes, IsTold, told_too}
-use Rattle.world_laws.proofs.Walk.{left, on_test, on_true, right}
+use Rattle.world_laws.proofs.OnceInOrder.Members.{from_filter, get_push}
+use Rattle.world_laws.proofs.Telling.OnlyTold.{first_included, has_below, same_name}
+use Rattle.world_laws.proofs.Dispatching.Remembers.{any_right, has_either}
+use Rattle.world_laws.proofs.Telling.ServeTells.{has_first, indexes_told}
+use Rattle.world_laws.proofs.Replicating.Sizes.{IsThere}
+use Rattle.world_laws.proofs.Telling.Told.{Includes, IsTold, told_too}
+use Rattle.world_laws.proofs.Walks.Walk.{left, on_test, on_true, right}
 use Rattle.geo_base.specs.declared.planned.Cause.{Cause}
 use Rattle.geo_base.specs.declared.planned.Cause.TheVariants as cause
 use Rattle.geo_base.specs.TraceItems.{Acks, Act, Creates, Deletes, Seeks, Writes}

@@ -18,18 +18,18 @@ use Rattle.geo_base.specs.World.{World, node, topic_at}
 use Rattle.script_rows.specs.NameWords.{Word}
 use Rattle.script_text.specs.Scenario.{IsClient}
 use Rattle.world_laws.specs.Plain.{AreClusters, HasClusters, IsPlainContent, IsPlainEntry}
-use Rattle.world_laws.proofs.Added.{after_is, appended}
-use Rattle.world_laws.proofs.Appends.{written_entries}
-use Rattle.world_laws.proofs.Carrying.{Carried, Stored, beneath, carried_kept, carried_written, plain_suits}
-use Rattle.world_laws.proofs.Counts.{FewAt, HasRoom, shape_few, written_room}
-use Rattle.world_laws.proofs.Effects.{Each, each_take}
-use Rattle.world_laws.proofs.EventWalk.{HasShape, planned_shape}
-use Rattle.world_laws.proofs.Fresh.{shape_fresh}
-use Rattle.world_laws.proofs.Runs.{IsKeptByEvents}
-use Rattle.world_laws.proofs.SecondRound.{Knows, knows_now, knows_written}
-use Rattle.world_laws.proofs.Shapes.{Shape}
-use Rattle.world_laws.proofs.Sizes.{IsThere, node_lt}
-use Rattle.world_laws.proofs.Widths.{GoodName, WideAt, shape_wide}
+use Rattle.world_laws.proofs.TopicOrder.Added.{after_is, appended}
+use Rattle.world_laws.proofs.OnceInOrder.Appends.{written_entries}
+use Rattle.world_laws.proofs.FrameContents.Carrying.{Carried, Stored, beneath, carried_kept, carried_written, plain_suits}
+use Rattle.world_laws.proofs.Counters.Counts.{FewAt, HasRoom, shape_few, written_room}
+use Rattle.world_laws.proofs.Replicating.Effects.{Each, each_take}
+use Rattle.world_laws.proofs.Walks.EventWalk.{HasShape, planned_shape}
+use Rattle.world_laws.proofs.OnceInOrder.Fresh.{shape_fresh}
+use Rattle.world_laws.proofs.Induction.Runs.{IsKeptByEvents}
+use Rattle.world_laws.proofs.Snapshotting.SecondRound.{Knows, knows_now, knows_written}
+use Rattle.world_laws.proofs.Walks.Shapes.{Shape}
+use Rattle.world_laws.proofs.Replicating.Sizes.{IsThere, node_lt}
+use Rattle.world_laws.proofs.FrameContents.Widths.{GoodName, WideAt, shape_wide}
 use Rattle.trace_laws.proofs.Events.{FreshIn, PlannedHolds, planned_holds, whole_take}
 use Rattle.trace_laws.proofs.Told.{numbered_here}
 use Rattle.trace_laws.proofs.Traced.{Tracing, whole}

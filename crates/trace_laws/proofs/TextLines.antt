@@ -27,8 +27,8 @@ use Rattle.cursor_acks.proofs.Sets.{Rising}
 use Rattle.trace_lines.specs.Entries.{entry_with, what_of}
 use Rattle.trace_lines.specs.Lines.{cause_of, item_of, item_read}
 use Rattle.trace_lines.specs.Words.{is_printable}
-use Rattle.world_laws.proofs.Effects.{Each}
-use Rattle.world_laws.proofs.Ids.{IsSmall}
+use Rattle.world_laws.proofs.Replicating.Effects.{Each}
+use Rattle.world_laws.proofs.Snapshotting.Ids.{IsSmall}
 use Rattle.audit.specs.AuditOf.{names_of}
 use Rattle.trace_laws.proofs.Bytes.{Lacks, cut_front, cut_joined, lacks}
 use Rattle.trace_laws.proofs.Words.{declared_back, is_plain, key_plain, name_plain, number_plain, number_reads, plain_printable, position_back, position_plain, printed_plain, printed_same, sub_back, text_back, token_plain, unspaced}

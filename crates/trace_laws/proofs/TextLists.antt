@@ -20,7 +20,7 @@ use Rattle.script_rows.specs.NameWords.{Word, listed}
 use Rattle.script_rows.proofs.Masks.{mask_back}
 use Rattle.script_rows.specs.Written.{AreNames}
 use Rattle.trace_lines.specs.Words.{is_list, targets_of}
-use Rattle.world_laws.proofs.Effects.{Each}
+use Rattle.world_laws.proofs.Replicating.Effects.{Each}
 use Rattle.trace_laws.proofs.Bytes.{Lacks, cut_joined, lacks}
 use Rattle.trace_laws.proofs.Words.{is_plain, is_visible, name_bytes, name_plain}
 

@@ -22,28 +22,28 @@ use Rattle.geo_base.specs.Storing.{own_marker, update_marker}
 use Rattle.geo_base.specs.Subscription.{Subscription}
 use Rattle.geo_base.specs.Topic.{accepts, index_of}
 use Rattle.geo_base.specs.World.{World, site, topic_at}
-use Rattle.world_laws.proofs.Answering.{Numbered}
-use Rattle.world_laws.proofs.Asked.{Asked}
-use Rattle.world_laws.proofs.Caches.{AllIn}
-use Rattle.world_laws.proofs.Completing.{cut_made, heard_over}
-use Rattle.world_laws.proofs.Cursors.{or_right}
-use Rattle.world_laws.proofs.Cuts.{HasCuts}
-use Rattle.world_laws.proofs.Effects.{Each, each_map}
-use Rattle.world_laws.proofs.MakingEvents.{heard_made}
-use Rattle.world_laws.proofs.Members.{Stands}
-use Rattle.world_laws.proofs.Passing.{last_passed_is}
-use Rattle.world_laws.proofs.SecondRound.{Knows}
-use Rattle.world_laws.proofs.Shapes.{Hears, IsResponse, ReadsNext}
-use Rattle.world_laws.proofs.Sizes.{IsThere}
-use Rattle.world_laws.proofs.SubFrames.{NamesApart, Only, at_name, only_named}
-use Rattle.world_laws.proofs.Walk.{on_true}
+use Rattle.world_laws.proofs.Snapshotting.Answering.{Numbered}
+use Rattle.world_laws.proofs.Snapshotting.Asked.{Asked}
+use Rattle.world_laws.proofs.Snapshotting.Caches.{AllIn}
+use Rattle.world_laws.proofs.Snapshotting.Completing.{cut_made, heard_over}
+use Rattle.world_laws.proofs.Replicating.Cursors.{or_right}
+use Rattle.world_laws.proofs.Snapshotting.Cuts.{HasCuts}
+use Rattle.world_laws.proofs.Replicating.Effects.{Each, each_map}
+use Rattle.world_laws.proofs.Snapshotting.MakingEvents.{heard_made}
+use Rattle.world_laws.proofs.OnceInOrder.Members.{Stands}
+use Rattle.world_laws.proofs.Telling.Passing.{last_passed_is}
+use Rattle.world_laws.proofs.Snapshotting.SecondRound.{Knows}
+use Rattle.world_laws.proofs.Walks.Shapes.{Hears, IsResponse, ReadsNext}
+use Rattle.world_laws.proofs.Replicating.Sizes.{IsThere}
+use Rattle.world_laws.proofs.Dispatching.SubFrames.{NamesApart, Only, at_name, only_named}
+use Rattle.world_laws.proofs.Walks.Walk.{on_true}
 use Rattle.geo_base.specs.declared.planned.Cause.{Cause}
 use Rattle.geo_base.specs.Traced.{cursor_of, gained, least_snapshot, snapshot_position, snapshot_told, snapshots_from}
 use Rattle.geo_base.specs.Mirror.{Mirror, Mirrors, mirror_number}
 use Rattle.geo_base.specs.Audit.{cause_refused, may_snapshot, may_update}
 use Rattle.trace_laws.specs.Seen.{seen}
 use Rattle.trace_laws.proofs.Lines.{acks_accepted, append_accepted, own_stands}
-use Rattle.world_laws.proofs.Announcing.{find_stands}
+use Rattle.world_laws.proofs.Telling.Announcing.{find_stands}
 use Rattle.trace_laws.proofs.Marks.{LocalStored, NamesItsCut, update_accepted}
 use Rattle.cursor_acks.proofs.Sets.{Rising}
 use Rattle.trace_laws.proofs.Snapshots.{snapshot_accepted}

@@ -28,16 +28,16 @@ use Rattle.geo_base.specs.Seeking.{restart}
 use Rattle.geo_base.specs.Setup.{Declared, Setup, declared_at, nobody}
 use Rattle.geo_base.specs.Subscription.{Subscription, after_acks, attached, cleared, detached, new_subscription, permitted, sought, with_acks}
 use Rattle.geo_base.specs.World.{LinkName, World, node, opening_world, site, topic_at}
-use Rattle.world_laws.proofs.Asked.{Named, named}
-use Rattle.world_laws.proofs.Effects.{Each, each_both}
-use Rattle.world_laws.proofs.EventWalk.{HasShape, planned_shape}
-use Rattle.world_laws.proofs.Fresh.{shape_fresh}
-use Rattle.world_laws.proofs.Layers.{Both, Everywhere, Grounds, IsDurable, both_kept, durable_kept, kept_over}
-use Rattle.world_laws.proofs.PeerWalk.{each_filter}
-use Rattle.world_laws.proofs.Runs.{IsKept, event_done, plan_halted}
-use Rattle.world_laws.proofs.SecondRound.{Knows, knows_now, knows_written}
-use Rattle.world_laws.proofs.SubFrames.{NamesApart, all_written_apart, at_name, changed_apart, each_to}
-use Rattle.world_laws.proofs.Walk.{left, on_elim, on_if, right}
+use Rattle.world_laws.proofs.Snapshotting.Asked.{Named, named}
+use Rattle.world_laws.proofs.Replicating.Effects.{Each, each_both}
+use Rattle.world_laws.proofs.Walks.EventWalk.{HasShape, planned_shape}
+use Rattle.world_laws.proofs.OnceInOrder.Fresh.{shape_fresh}
+use Rattle.world_laws.proofs.Induction.Layers.{Both, Everywhere, Grounds, IsDurable, both_kept, durable_kept, kept_over}
+use Rattle.world_laws.proofs.Merges.PeerWalk.{each_filter}
+use Rattle.world_laws.proofs.Induction.Runs.{IsKept, event_done, plan_halted}
+use Rattle.world_laws.proofs.Snapshotting.SecondRound.{Knows, knows_now, knows_written}
+use Rattle.world_laws.proofs.Dispatching.SubFrames.{NamesApart, all_written_apart, at_name, changed_apart, each_to}
+use Rattle.world_laws.proofs.Walks.Walk.{left, on_elim, on_if, right}
 use Rattle.geo_base.specs.declared.planned.Cause.{Cause}
 use Rattle.geo_base.specs.TraceItems.{Begins, Item}
 use Rattle.geo_base.specs.Traced.{acts_of, all_writes, cause_of, event_items, halt_items, items_from, planned_items, rounds_items, settling_items, step_items, told_at, traced, unless_ended}

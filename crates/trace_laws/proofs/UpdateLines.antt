@@ -14,13 +14,13 @@ use Rattle.geo_base.specs.Entry.{is_data, meant_for, same_ident}
 use Rattle.geo_base.specs.Settled.{IsSettled, SettledSoFar}
 use Rattle.geo_base.specs.Setup.{Setup}
 use Rattle.geo_base.specs.Updating.{passes}
-use Rattle.world_laws.proofs.Passing.{below_mark}
-use Rattle.world_laws.proofs.Walk.{left, right}
+use Rattle.world_laws.proofs.Telling.Passing.{below_mark}
+use Rattle.world_laws.proofs.Walks.Walk.{left, right}
 use Rattle.geo_base.specs.TraceItems.{names_same}
 use Rattle.geo_base.specs.Mirror.{Mirror, MirrorSub, Mirrors, index_at, mirror_at, mirror_sub, told}
 use Rattle.geo_base.specs.Audit.{covers, entry_at, entry_by, is_brought, may_update, passes_local, same_entry, tells_content, tells_entry}
 use Rattle.trace_laws.proofs.Kept.{IsCutIn, Kept, TellsSettled, TopicKept}
-use Rattle.world_laws.proofs.Announcing.{find_stands}
+use Rattle.world_laws.proofs.Telling.Announcing.{find_stands}
 use Rattle.trace_laws.proofs.Lists.{any_at}
 use Rattle.trace_laws.proofs.Same.{entries_are, names_at}
 use Rattle.trace_laws.proofs.Refusals.{not_true}

@@ -25,7 +25,7 @@ use Rattle.script_rows.specs.Written.{AreNames}
 use Rattle.script_rows.proofs.Back.{is_name_at, number_at}
 use Rattle.trace_lines.specs.Words.{cluster_position_of, declared, is_printable, is_text, key_of, number, place_of, position_of, sub_of, text_of}
 use Rattle.world_laws.specs.Plain.{IsCluster}
-use Rattle.world_laws.proofs.Ids.{IsSmall}
+use Rattle.world_laws.proofs.Snapshotting.Ids.{IsSmall}
 use Rattle.trace_laws.proofs.Bytes.{Lacks, lacks, weaker}
 
 -- ---- texts without a space

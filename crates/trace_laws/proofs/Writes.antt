@@ -13,10 +13,10 @@ use Rattle.geo_base.specs.Setup.{Setup}
 use Rattle.geo_base.specs.Subscription.{Subscription, new_subscription, sought, with_acks}
 use Rattle.geo_base.specs.Topic.{next_position, or_first, position_at, position_from}
 use Rattle.geo_base.specs.World.{site}
-use Rattle.world_laws.proofs.Answering.{Numbered}
-use Rattle.world_laws.proofs.Effects.{Each}
-use Rattle.world_laws.proofs.SubFrames.{at_name}
-use Rattle.world_laws.proofs.Walk.{on_if}
+use Rattle.world_laws.proofs.Snapshotting.Answering.{Numbered}
+use Rattle.world_laws.proofs.Replicating.Effects.{Each}
+use Rattle.world_laws.proofs.Dispatching.SubFrames.{at_name}
+use Rattle.world_laws.proofs.Walks.Walk.{on_if}
 use Rattle.geo_base.specs.declared.planned.Cause.{Cause}
 use Rattle.geo_base.specs.TraceItems.{Acks, Act, Appends, Creates, Deletes, Item, Seeks, Writes}
 use Rattle.geo_base.specs.Traced.{act_of, acts_of, cursor_of, gained, snapshot_told, told_at}

@@ -1,14 +1,3 @@
 pub mod Audited
 pub mod Seen
-pub mod Since
-pub mod PassedOver
-pub mod Again
-pub mod Behind
-pub mod Run
-pub mod Got
 pub mod Readable
-pub mod Ledgers
-pub mod Answers
-pub mod Streams
-pub mod Contents
-pub mod Offers

@@ -28,14 +28,14 @@ use Rattle.geo_base.specs.TraceItems.{Act, Acks, Appends}
 use Rattle.geo_base.specs.Traced.{act_of, acts_of, cursor_of, gained, snapshot_told}
 use Rattle.geo_base.specs.Updating.{passed_over}
 use Rattle.geo_base.specs.World.{site}
-use Rattle.world_laws.proofs.Appends.{after_writes, done_entries}
-use Rattle.world_laws.proofs.Effects.{Each, each_both}
-use Rattle.world_laws.proofs.LinkWalk.{fate_answered, fate_taken}
-use Rattle.world_laws.proofs.OfferWalk.{offer_shape, seek_shape, snap_shape}
-use Rattle.world_laws.proofs.ReadWalk.{read_shape}
-use Rattle.world_laws.proofs.ServeWalk.{frame_served}
-use Rattle.world_laws.proofs.Shapes.{Answered, Fated, Offers, Reads, Seeks, Served, Snaps, Taken, Updates}
-use Rattle.world_laws.proofs.Walk.{on_if}
+use Rattle.world_laws.proofs.OnceInOrder.Appends.{after_writes, done_entries}
+use Rattle.world_laws.proofs.Replicating.Effects.{Each, each_both}
+use Rattle.world_laws.proofs.Walks.LinkWalk.{fate_answered, fate_taken}
+use Rattle.world_laws.proofs.Walks.OfferWalk.{offer_shape, seek_shape, snap_shape}
+use Rattle.world_laws.proofs.Walks.ReadWalk.{read_shape}
+use Rattle.world_laws.proofs.Walks.ServeWalk.{frame_served}
+use Rattle.world_laws.proofs.Walks.Shapes.{Answered, Fated, Offers, Reads, Seeks, Served, Snaps, Taken, Updates}
+use Rattle.world_laws.proofs.Walks.Walk.{on_if}
 use Rattle.world_kept.specs.Events.{cluster_of, topic_of}
 use Rattle.trace_runs.specs.Acts.{acts_before}
 

@@ -14,10 +14,10 @@ use Rattle.geo_base.specs.Planned.{Planned, has_client, planned}
 use Rattle.geo_base.specs.Seeking.{restart}
 use Rattle.geo_base.specs.Setup.{Setup}
 use Rattle.geo_base.specs.World.{LinkName, World, broker_at, node}
-use Rattle.world_laws.proofs.Added.{after_is, appended}
-use Rattle.world_laws.proofs.Appends.{done_entries, halted_entries}
-use Rattle.world_laws.proofs.Frames.{at_set}
-use Rattle.world_laws.proofs.Walk.{on_if}
+use Rattle.world_laws.proofs.TopicOrder.Added.{after_is, appended}
+use Rattle.world_laws.proofs.OnceInOrder.Appends.{done_entries, halted_entries}
+use Rattle.world_laws.proofs.Induction.Frames.{at_set}
+use Rattle.world_laws.proofs.Walks.Walk.{on_if}
 
 -- one topic, from one broker to the next
 pub record Longer (b b' : Broker) : Type 0 where

@@ -26,7 +26,7 @@ use Rattle.links.specs.Standing.{OutsStand}
 use Rattle.world_kept.proofs.Keeping.{client_goes, client_reconnects, client_stays}
 use Rattle.world_kept.specs.Kept.{Kept, client_acted, idled, stamp_at}
 use Rattle.world_kept.specs.Standing.{Stands, limit_of}
-use Rattle.world_laws.proofs.Bounds.{packet_within}
+use Rattle.world_laws.proofs.Counters.Bounds.{packet_within}
 use Rattle.world_kept.proofs.Reaching.{ground}
 use Rattle.world_kept.specs.Reached.{Reached}
 use Rattle.world_laws.specs.Starts.{most_at_start}

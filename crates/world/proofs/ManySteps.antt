@@ -9,7 +9,7 @@ use Rattle.geo_base.specs.Planned.{planned}
 use Rattle.geo_base.specs.Run.{Ran, all_limits, all_settle, budget, counting_round, ends_or, goes_on, pairs, resets_of, round_of, rounds_of, run_from, settled_world, settles, steps}
 use Rattle.geo_base.specs.Setup.{Setup}
 use Rattle.geo_base.specs.World.{World}
-use Rattle.world_laws.proofs.Walk.{on_elim, on_if}
+use Rattle.world_laws.proofs.Walks.Walk.{on_elim, on_if}
 use Rattle.world_kept.proofs.Reaching.{event_reached, halt_reached, idle_reached, round_reached, stop_reached}
 use Rattle.world_kept.specs.Reached.{Reached}
 

@@ -14,7 +14,7 @@ use Rattle.links.specs.Queues.{empty_links}
 use Rattle.world_kept.proofs.Keeping.{opening}
 use Rattle.world_kept.specs.Kept.{Kept, opening_kept}
 use Rattle.world_kept.specs.Standing.{Stands}
-use Rattle.world_laws.proofs.Sizes.{node_lt}
+use Rattle.world_laws.proofs.Replicating.Sizes.{node_lt}
 use Rattle.world_kept.proofs.Reaching.{opening_reached}
 use Rattle.world.specs.Opening.{AreNew}
 use Rattle.world.specs.World.{AreNodes, IsAt, WorldBook, kept_of, no_node}

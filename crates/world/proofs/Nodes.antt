@@ -19,7 +19,7 @@ use Rattle.links.specs.declared.name.LinkName.{LinkName}
 use Rattle.wire_ends.specs.declared.packet.WirePacket.{WirePacket}
 use Rattle.links.specs.Each.{Both, both, neither}
 use Rattle.links.specs.Queues.{packet_on}
-use Rattle.world_laws.proofs.Frames.{at_set}
+use Rattle.world_laws.proofs.Induction.Frames.{at_set}
 use Rattle.world.specs.Steps.{IsSetNode, PreparesAt}
 use Rattle.world.specs.World.{AreNodes, SameWorld, WorldBook, brokers_of, kept_of, no_node, node_at}
 

@@ -25,11 +25,11 @@ use Rattle.links.specs.Queues.{packet_on, stamp_of}
 use Rattle.world_kept.specs.Events.{IsBrokers, cluster_of, node_of, topic_of}
 use Rattle.world_kept.specs.Kept.{Kept, stamp_at}
 use Rattle.world_kept.specs.Standing.{Stands}
-use Rattle.world_laws.proofs.Bounds.{packet_within}
-use Rattle.world_laws.proofs.ClientRoams.{all_index}
+use Rattle.world_laws.proofs.Counters.Bounds.{packet_within}
+use Rattle.world_laws.proofs.Merges.ClientRoams.{all_index}
 use Rattle.world_kept.proofs.Reaching.{ground}
-use Rattle.world_laws.proofs.Sizes.{node_lt}
-use Rattle.world_laws.proofs.Walk.{on_if}
+use Rattle.world_laws.proofs.Replicating.Sizes.{node_lt}
+use Rattle.world_laws.proofs.Walks.Walk.{on_if}
 use Rattle.world_laws.specs.Reached.{IsGround}
 use Rattle.world_laws.specs.Starts.{most_at_start}
 use Rattle.world_laws.specs.Within.{BrokerWithin}

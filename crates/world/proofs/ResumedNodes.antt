@@ -15,7 +15,7 @@ use Rattle.world_kept.proofs.Reaching.{starts}
 use Rattle.world_kept.specs.Kept.{Kept}
 use Rattle.world_kept.specs.Reached.{Reached}
 use Rattle.world_kept.specs.Standing.{Stands}
-use Rattle.world_laws.proofs.Sizes.{node_lt}
+use Rattle.world_laws.proofs.Replicating.Sizes.{node_lt}
 use Rattle.world_laws.specs.Starts.{most_at_start}
 use Rattle.world.specs.Saving.{AreRevived, IsResumed}
 use Rattle.world_kept.specs.Saved.{revived, world_from}

@@ -29,7 +29,7 @@ use Rattle.state_nodes.specs.Writing.{CanWrite, HaveRests}
 use Rattle.world_kept.proofs.Keeping.{counts, stop}
 use Rattle.world_kept.specs.Kept.{all_stopped}
 use Rattle.world_kept.specs.Standing.{Stands, limit_of}
-use Rattle.world_laws.proofs.Reaching.{indexes}
+use Rattle.world_laws.proofs.Induction.Reaching.{indexes}
 use Rattle.world_laws.specs.Indexes.{HasIndexes, KeepsIndexes}
 use Rattle.world.specs.declared.fault.RunFault.{RunFault}
 use Rattle.world.specs.declared.fault.RunFault.TheVariants as fault

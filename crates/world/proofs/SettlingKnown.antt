@@ -7,8 +7,8 @@ use Rattle.geo_base.specs.declared.event.Event.{Event}
 use Rattle.geo_base.specs.Run.{Pair, pairs, resets_of, round_of}
 use Rattle.geo_base.specs.Setup.{Setup}
 use Rattle.script_text.specs.Scenario.{IsLink}
-use Rattle.world_laws.proofs.Effects.{Each}
-use Rattle.world_laws.proofs.Lowering.{IsPair, all_pairs}
+use Rattle.world_laws.proofs.Replicating.Effects.{Each}
+use Rattle.world_laws.proofs.Budget.Lowering.{IsPair, all_pairs}
 use Rattle.world.specs.Settling.{IsSettlingEvent}
 
 link_is : (s : Setup) (t x y : ℕ) → IsPair s t x y → IsLink s t x y

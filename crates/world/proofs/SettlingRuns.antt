@@ -7,7 +7,7 @@ use Rattle.geo_base.specs.declared.event.Event.{Event}
 use Rattle.geo_base.specs.Run.{Limits, Ran, all_limits, all_settle, budget, counting_round, ends_or, no_limits, pairs, resets_of, round_of, rounds_of, settled_world}
 use Rattle.geo_base.specs.Setup.{Setup}
 use Rattle.geo_base.specs.World.{World}
-use Rattle.world_laws.proofs.InTime.{settles_in_time}
+use Rattle.world_laws.proofs.Budget.InTime.{settles_in_time}
 use Rattle.world.specs.Runs.{at_world}
 use Rattle.world.specs.Settling.{EndsWithin, settled_by}
 

@@ -24,7 +24,7 @@ use Rattle.links.specs.Queues.{all_discarded}
 use Rattle.world_kept.proofs.Keeping.{stop}
 use Rattle.world_kept.specs.Kept.{Kept, all_stopped}
 use Rattle.world_kept.specs.Standing.{Stands, limit_of}
-use Rattle.world_laws.proofs.Sizes.{node_lt}
+use Rattle.world_laws.proofs.Replicating.Sizes.{node_lt}
 use Rattle.world_kept.proofs.Reaching.{stop_reached}
 use Rattle.world.specs.declared.fault.RunFault.{RunFault}
 use Rattle.world.specs.declared.fault.RunFault.TheVariants as fault

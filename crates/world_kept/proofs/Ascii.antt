@@ -13,9 +13,9 @@ use Rattle.geo_base.specs.Name.{is_name, most_name_bytes, name_byte}
 use Rattle.script_rows.proofs.Digits.{decimal_digits}
 use Rattle.script_rows.specs.Numbers.{is_digit}
 use Rattle.world_laws.proofs.Types.{Position}
-use Rattle.world_laws.proofs.Effects.{Each, each_both}
-use Rattle.world_laws.proofs.Ids.{IsSmall}
-use Rattle.world_laws.proofs.Walk.{left, right}
+use Rattle.world_laws.proofs.Replicating.Effects.{Each, each_both}
+use Rattle.world_laws.proofs.Snapshotting.Ids.{IsSmall}
+use Rattle.world_laws.proofs.Walks.Walk.{left, right}
 
 abbrev pub IsLow : ℕ → Type 0
 IsLow b = b < 128

@@ -10,7 +10,7 @@ use Rattle.geo_base.specs.Setup.{Setup, declared_at}
 use Rattle.state_nodes.specs.Clients.{is_done, is_flow, is_in_force, is_pub, is_sub}
 use Rattle.state_nodes.specs.ClientFitting.{IsClientState, IsIdent, IsPublish}
 use Rattle.world_laws.specs.Starts.{IsStartClient}
-use Rattle.world_laws.proofs.Walk.{both}
+use Rattle.world_laws.proofs.Walks.Walk.{both}
 use Rattle.world_kept.proofs.Ascii.{low_readable}
 use Rattle.world_kept.proofs.Doing.{InForce, WasDone}
 use Rattle.world_kept.proofs.Got.{Goes, IsGotIdent}

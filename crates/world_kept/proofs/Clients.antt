@@ -12,10 +12,10 @@ use Rattle.geo_base.specs.Link.{next_packet}
 use Rattle.geo_base.specs.Planned.{Planned, has_client, planned}
 use Rattle.geo_base.specs.Setup.{Setup, declared_at, nobody}
 use Rattle.geo_base.specs.World.{LinkName, ToClient, World, client_at, link_at, opening_world}
-use Rattle.world_laws.proofs.Frames.{at_map, at_set}
-use Rattle.world_laws.proofs.Runs.{IsKeptByEvents}
-use Rattle.world_laws.proofs.Short.{WhileShort, client_short, does_short, halts_short, stops_short}
-use Rattle.world_laws.proofs.Walk.{on_if, on_test}
+use Rattle.world_laws.proofs.Induction.Frames.{at_map, at_set}
+use Rattle.world_laws.proofs.Induction.Runs.{IsKeptByEvents}
+use Rattle.world_laws.proofs.Induction.Short.{WhileShort, client_short, does_short, halts_short, stops_short}
+use Rattle.world_laws.proofs.Walks.Walk.{on_if, on_test}
 
 -- of client c, where Q holds of the world, in short runs
 pub record IsClientSteady (s : Setup) (Q : World → Type 0) (P : ℕ → Client → Type 0) : Type 0 where

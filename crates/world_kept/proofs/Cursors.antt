@@ -14,10 +14,10 @@ use Rattle.geo_base.specs.Dispatcher.{given, passed_index}
 use Rattle.geo_base.specs.Sender.{Sender, new_sender, sender_reset, sender_restarted, sender_sent, without_number}
 use Rattle.geo_base.specs.Subscription.{Subscription, after_acks, attached, cleared, detached, new_subscription, permitted, sought, with_acks}
 use Rattle.cursor_acks.proofs.Sets.{Rising, rising_range, rising_with_index, rising_with_indexes}
-use Rattle.world_laws.proofs.Effects.{Each, each_both}
-use Rattle.world_laws.proofs.PeerWalk.{each_filter}
-use Rattle.world_laws.proofs.SubFrames.{at_name, each_to}
-use Rattle.world_laws.proofs.Walk.{on_if}
+use Rattle.world_laws.proofs.Replicating.Effects.{Each, each_both}
+use Rattle.world_laws.proofs.Merges.PeerWalk.{each_filter}
+use Rattle.world_laws.proofs.Dispatching.SubFrames.{at_name, each_to}
+use Rattle.world_laws.proofs.Walks.Walk.{on_if}
 
 -- ---- lists
 

@@ -17,9 +17,9 @@ use Rattle.geo_base.specs.Going.{acks_all, acks_one, acks_to, ends_sub, first_he
 use Rattle.geo_base.specs.Scripted.{IsScripted, is_line, is_produce}
 use Rattle.geo_base.specs.Setup.{Declared, Setup, declared_at}
 use Rattle.geo_base.specs.World.{World}
-use Rattle.world_laws.proofs.ClientRoams.{good_client}
-use Rattle.world_laws.proofs.Effects.{Each, each_both, each_map}
-use Rattle.world_laws.proofs.Walk.{left, on_if, on_test, right}
+use Rattle.world_laws.proofs.Merges.ClientRoams.{good_client}
+use Rattle.world_laws.proofs.Replicating.Effects.{Each, each_both, each_map}
+use Rattle.world_laws.proofs.Walks.Walk.{left, on_if, on_test, right}
 use Rattle.world_kept.proofs.Clients.{IsClientSteady}
 use Rattle.state_nodes.specs.Clients.{is_flow, is_pub, is_sub}
 

@@ -38,7 +38,7 @@ use Rattle.state_items.specs.Origins.{number_of, origin_of}
 use Rattle.state_items.specs.EntryTexts.{HasTexts, metadata_text, source_of, with_rest}
 use Rattle.state_items.specs.Told.{IsTold}
 use Rattle.world_laws.specs.Plain.{IsPlainContent, IsPlainEntry}
-use Rattle.world_laws.proofs.Walk.{left, on_if, right}
+use Rattle.world_laws.proofs.Walks.Walk.{left, on_if, right}
 use Rattle.world_kept.proofs.Ascii.{IsNameText, low_utf8, name_text, named_text}
 use Rattle.world_kept.proofs.Markers.{bytes_fit, marker_right, number_fits}
 use Rattle.world_kept.proofs.Sayable.{IsSayable, IsSayableContent}

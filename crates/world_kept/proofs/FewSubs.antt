@@ -18,10 +18,10 @@ use Rattle.geo_base.specs.Setup.{Setup}
 use Rattle.geo_base.specs.Subscribing.{has_room, most_subs}
 use Rattle.geo_base.specs.Subscription.{Subscription, new_subscription}
 use Rattle.geo_base.specs.World.{World, site, topic_at}
-use Rattle.world_laws.proofs.Effects.{Each, each_both}
-use Rattle.world_laws.proofs.Shapes.{Answered, Fated, Offers, Reads, Seeks, Served, Shape, Snaps, Taken, Updates}
-use Rattle.world_laws.proofs.SubFrames.{CreatesNone}
-use Rattle.world_laws.proofs.Walk.{on_if, right}
+use Rattle.world_laws.proofs.Replicating.Effects.{Each, each_both}
+use Rattle.world_laws.proofs.Walks.Shapes.{Answered, Fated, Offers, Reads, Seeks, Served, Shape, Snaps, Taken, Updates}
+use Rattle.world_laws.proofs.Dispatching.SubFrames.{CreatesNone}
+use Rattle.world_laws.proofs.Walks.Walk.{on_if, right}
 use Rattle.world_kept.proofs.Steady.{Along, IsSteady, changes_all}
 
 abbrev pub HasFew : Broker → Type 0

@@ -15,9 +15,9 @@ use Rattle.script_text.specs.Script.{Script}
 use Rattle.state_file.specs.State.{state_in}
 use Rattle.world_laws.specs.AlikeWorlds.{AreAlike}
 use Rattle.world_laws.specs.Starts.{resumed_world}
-use Rattle.world_laws.proofs.ResumedRuns.{resumed_law}
-use Rattle.world_laws.proofs.SavedRuns.{reached_law}
-use Rattle.world_laws.proofs.Starting.{opening_starts}
+use Rattle.world_laws.proofs.KeptRuns.ResumedRuns.{resumed_law}
+use Rattle.world_laws.proofs.KeptRuns.SavedRuns.{reached_law}
+use Rattle.world_laws.proofs.KeptRuns.Starting.{opening_starts}
 use Rattle.world_kept.specs.Saved.{revived, world_from}
 use Rattle.world_kept.proofs.States.{Behind, behind}
 

@@ -21,11 +21,11 @@ use Rattle.geo_base.specs.Setup.{Declared, Setup, declared_at}
 use Rattle.geo_base.specs.World.{LinkName, ToClient, World, client_at, link_at, opening_world}
 use Rattle.world_laws.specs.Frames.{IsCarrying}
 use Rattle.world_laws.specs.Plain.{IsPlainEntry}
-use Rattle.world_laws.proofs.Carrying.{Carried, carried_kept, frames_carry, plain_suits}
-use Rattle.world_laws.proofs.Effects.{Each, each_both}
-use Rattle.world_laws.proofs.Frames.{at_map, at_set}
-use Rattle.world_laws.proofs.Runs.{IsKeptByEvents}
-use Rattle.world_laws.proofs.Walk.{on_if}
+use Rattle.world_laws.proofs.FrameContents.Carrying.{Carried, carried_kept, frames_carry, plain_suits}
+use Rattle.world_laws.proofs.Replicating.Effects.{Each, each_both}
+use Rattle.world_laws.proofs.Induction.Frames.{at_map, at_set}
+use Rattle.world_laws.proofs.Induction.Runs.{IsKeptByEvents}
+use Rattle.world_laws.proofs.Walks.Walk.{on_if}
 use Rattle.world_kept.proofs.Ascii.{IsNameText}
 use Rattle.world_kept.proofs.Clients.{AllClients, IsClientSteady, clients_kept}
 use Rattle.world_kept.proofs.Doing.{Doing, doing_steady}

@@ -8,9 +8,9 @@ use Rattle.world_laws.proofs.Types.change
 use Rattle.world_laws.proofs.Types.write
 use Rattle.geo_base.specs.Broker.{Broker, changed, sub_named, written}
 use Rattle.geo_base.specs.Topic.{grown}
-use Rattle.world_laws.proofs.Effects.{Each, each_both}
-use Rattle.world_laws.proofs.Ledgers.{grown_is, grown_some, one_more, opened_some, total, total_grown, total_opened}
-use Rattle.world_laws.proofs.Walk.{on_if, on_test}
+use Rattle.world_laws.proofs.Replicating.Effects.{Each, each_both}
+use Rattle.world_laws.proofs.TopicOrder.Ledgers.{grown_is, grown_some, one_more, opened_some, total, total_grown, total_opened}
+use Rattle.world_laws.proofs.Walks.Walk.{on_if, on_test}
 
 pub record AreLedgersOf (per : ℕ) (es : List Entry) (ls : List ℕ) : Type 0 where
   pub some : 0 < length ls

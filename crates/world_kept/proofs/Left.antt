@@ -11,7 +11,7 @@ use Rattle.state_file.proofs.Back.{state_again}
 use Rattle.state_file.specs.Fitting.{IsState}
 use Rattle.state_file.specs.State.{SavedState, state_in}
 use Rattle.world_laws.specs.AlikeWorlds.{AreAlike}
-use Rattle.world_laws.proofs.ResumedRuns.{resumed_law}
+use Rattle.world_laws.proofs.KeptRuns.ResumedRuns.{resumed_law}
 use Rattle.world_kept.specs.Saved.{ComesTo, IsLeft, IsShortState, LawSaved, world_from}
 use Rattle.world_kept.proofs.GoingOn.{turned, went_on}
 use Rattle.world_kept.proofs.States.{Behind, behind, state_fits}

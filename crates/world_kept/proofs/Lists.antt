@@ -4,8 +4,8 @@ use Rattle.std.specs.Prelude.{slice_index_or}
 use Rattle.std.specs.List.{AllByRecursion, sum}
 use Rattle.std.proofs.lemmas.List.Sums.{sum_by-cons}
 use Rattle.state_items.specs.Fitting.{AllFit}
-use Rattle.world_laws.proofs.Effects.{Each}
-use Rattle.world_laws.proofs.Ledgers.{total}
+use Rattle.world_laws.proofs.Replicating.Effects.{Each}
+use Rattle.world_laws.proofs.TopicOrder.Ledgers.{total}
 
 -- of items that need not be told apart from those before
 pub fits_each : {X : Type 0} (P : X → Type 0) (Fits : List X → X → Type 0) → ((before : List X) (x : X) → P x → Fits before x) → (before xs : List X) → Each P xs → AllFit Fits before xs

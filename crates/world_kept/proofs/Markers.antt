@@ -19,8 +19,8 @@ use Rattle.pb_fields.specs.Field.{IsField, bytes_field, varint_field}
 use Rattle.frame_values.proofs.Counting.{varint_most}
 use Rattle.frame_values.proofs.Sized.{length-text}
 use Rattle.world_laws.specs.Plain.{AreClusters, HasClusters, IsCluster}
-use Rattle.world_laws.proofs.Effects.{Each}
-use Rattle.world_laws.proofs.Ids.{IsSmall}
+use Rattle.world_laws.proofs.Replicating.Effects.{Each}
+use Rattle.world_laws.proofs.Snapshotting.Ids.{IsSmall}
 use Rattle.world_kept.proofs.Ascii.{IsNameText, low_utf8, named_text}
 use Rattle.world_kept.proofs.Sayable.{IsSayableMarker, SmallPlace}
 

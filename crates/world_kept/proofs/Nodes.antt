@@ -19,9 +19,9 @@ use Rattle.state_nodes.specs.Entries.{is_in_turn}
 use Rattle.state_nodes.specs.Fitting.{IsDurable, IsNextEntry, IsPlace, IsSender, IsSub}
 use Rattle.world_laws.specs.Indexes.{AreBelow, HasIndexes}
 use Rattle.world_laws.specs.Starts.{AreStored, IsNextStored, IsStartBroker, IsStartSub, most_at_start}
-use Rattle.world_laws.proofs.Effects.{Each}
-use Rattle.world_laws.proofs.SubFrames.{NamesApart}
-use Rattle.world_laws.proofs.Walk.{both, by_test}
+use Rattle.world_laws.proofs.Replicating.Effects.{Each}
+use Rattle.world_laws.proofs.Dispatching.SubFrames.{NamesApart}
+use Rattle.world_laws.proofs.Walks.Walk.{both, by_test}
 use Rattle.world_kept.proofs.CursorRanges.{cursor_is}
 use Rattle.world_kept.proofs.Cursors.{SenderAscends, SubAscends}
 use Rattle.world_kept.proofs.Entries.{IsWritten}

@@ -15,12 +15,12 @@ use Rattle.geo_base.specs.Cursor.{with_index}
 use Rattle.geo_base.specs.Sender.{Sender, new_sender, pending_index, sender_reset, sender_restarted, sender_sent, without_number}
 use Rattle.geo_base.specs.Setup.{Setup, declared_at}
 use Rattle.geo_base.specs.World.{World, site, topic_at}
-use Rattle.world_laws.proofs.Effects.{Each, each_both, each_map}
-use Rattle.world_laws.proofs.Frames.{at_copies, at_map, at_set}
-use Rattle.world_laws.proofs.NoSelf.{remote_other}
-use Rattle.world_laws.proofs.Reach.{Incoming, IncomingChange, IncomingWrite, Outgoing, OutgoingChange, OutgoingWrite, fated_in, fated_out, offers_out, reads_out, resets_out, seeks_out, served_out, snaps_out}
-use Rattle.world_laws.proofs.Shapes.{Answered, Fated, Reads, Shape}
-use Rattle.world_laws.proofs.Walk.{by_test, on_if}
+use Rattle.world_laws.proofs.Replicating.Effects.{Each, each_both, each_map}
+use Rattle.world_laws.proofs.Induction.Frames.{at_copies, at_map, at_set}
+use Rattle.world_laws.proofs.TopicOrder.NoSelf.{remote_other}
+use Rattle.world_laws.proofs.Replicating.Reach.{Incoming, IncomingChange, IncomingWrite, Outgoing, OutgoingChange, OutgoingWrite, fated_in, fated_out, offers_out, reads_out, resets_out, seeks_out, served_out, snaps_out}
+use Rattle.world_laws.proofs.Walks.Shapes.{Answered, Fated, Reads, Shape}
+use Rattle.world_laws.proofs.Walks.Walk.{by_test, on_if}
 use Rattle.world_kept.proofs.Steady.{Along, IsSteady}
 
 abbrev pub IsUnused : ℕ → Broker → Type 0

@@ -22,9 +22,9 @@ use Rattle.world_kept.specs.Standing.{Stands}
 use Rattle.world_laws.specs.Frames.{AllEntries, AllFrames, IsCarrying}
 use Rattle.world_laws.specs.Reached.{IsGround, IsOf, IsPlainOrOf, ReachedFrom}
 use Rattle.world_laws.specs.Starts.{IsStart}
-use Rattle.world_laws.proofs.Frames.{at_copies}
-use Rattle.world_laws.proofs.Reaching.{carried, ground as ground_from}
-use Rattle.world_laws.proofs.Starting.{opening_starts}
+use Rattle.world_laws.proofs.Induction.Frames.{at_copies}
+use Rattle.world_laws.proofs.Induction.Reaching.{carried, ground as ground_from}
+use Rattle.world_laws.proofs.KeptRuns.Starting.{opening_starts}
 
 -- ---- starts
 

@@ -14,9 +14,9 @@ use Rattle.geo_base.specs.Entry.{with_origin}
 use Rattle.geo_base.specs.Position.{position_lt}
 use Rattle.geo_base.specs.Storing.{own_marker}
 use Rattle.geo_base.specs.Topic.{next_marker}
-use Rattle.world_laws.proofs.Effects.{Each}
-use Rattle.world_laws.proofs.Ids.{IsSmall}
-use Rattle.world_laws.proofs.Walk.{on_if}
+use Rattle.world_laws.proofs.Replicating.Effects.{Each}
+use Rattle.world_laws.proofs.Snapshotting.Ids.{IsSmall}
+use Rattle.world_laws.proofs.Walks.Walk.{on_if}
 use Rattle.world_kept.proofs.Ascii.{AreLow, IsNameText, marker_producer_text, second_low}
 use Rattle.world_kept.proofs.Cursors.{each_copies, each_set}
 

@@ -14,9 +14,9 @@ use Rattle.geo_base.specs.Name.{is_name}
 use Rattle.geo_base.specs.Planned.{has_client}
 use Rattle.geo_base.specs.Scripted.{IsScripted, is_declared, is_line, is_optional_name, most_text_bytes, names_some, stays_or_is_silent}
 use Rattle.geo_base.specs.Setup.{Declared, Setup, declared_at, nobody}
-use Rattle.world_laws.proofs.ClientRoams.{all_index}
-use Rattle.world_laws.proofs.Effects.{Each, each_both}
-use Rattle.world_laws.proofs.Walk.{left, on_if, right}
+use Rattle.world_laws.proofs.Merges.ClientRoams.{all_index}
+use Rattle.world_laws.proofs.Replicating.Effects.{Each, each_both}
+use Rattle.world_laws.proofs.Walks.Walk.{left, on_if, right}
 use Rattle.world_kept.proofs.Ascii.{IsNameText, name_text}
 use Rattle.world_kept.proofs.Doing.{lines_at}
 use Rattle.world_kept.proofs.SayablePlans.{SendsSayable}

@@ -22,13 +22,13 @@ use Rattle.geo_base.specs.Setup.{Setup, declared_at}
 use Rattle.geo_base.specs.Subscription.{Subscription, after_acks, attached, cleared, detached, new_subscription, permitted, sought, with_acks}
 use Rattle.geo_base.specs.Topic.{next_marker, next_position, position_at}
 use Rattle.geo_base.specs.World.{World, packet_at, site, topic_at}
-use Rattle.world_laws.proofs.Effects.{Each, each_both}
-use Rattle.world_laws.proofs.Ids.{IsSmall}
-use Rattle.world_laws.proofs.PeerWalk.{each_filter}
-use Rattle.world_laws.proofs.Shapes.{Answered, Fated, Hears, IsReply, IsSnapshot, Offers, Reads, Seeks, Served, Shape, Snaps, Taken, Updates}
-use Rattle.world_laws.proofs.SubFrames.{at_name, each_at_place, each_to, found_is}
-use Rattle.world_laws.proofs.Walk.{on_if}
-use Rattle.world_laws.proofs.Widths.{Named}
+use Rattle.world_laws.proofs.Replicating.Effects.{Each, each_both}
+use Rattle.world_laws.proofs.Snapshotting.Ids.{IsSmall}
+use Rattle.world_laws.proofs.Merges.PeerWalk.{each_filter}
+use Rattle.world_laws.proofs.Walks.Shapes.{Answered, Fated, Hears, IsReply, IsSnapshot, Offers, Reads, Seeks, Served, Shape, Snaps, Taken, Updates}
+use Rattle.world_laws.proofs.Dispatching.SubFrames.{at_name, each_at_place, each_to, found_is}
+use Rattle.world_laws.proofs.Walks.Walk.{on_if}
+use Rattle.world_laws.proofs.FrameContents.Widths.{Named}
 use Rattle.world_kept.proofs.Ascii.{AreLow, id_low, name_low}
 use Rattle.world_kept.proofs.Sayable.{IsSayable, IsSayableBuilder, IsSayableCached, IsSayableFrame, content_of, current_low, cut_named, cut_sayable, frame_of, hears_sayable, last_sayable, moved, own_sayable, started_sayable}
 

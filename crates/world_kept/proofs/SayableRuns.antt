@@ -21,26 +21,26 @@ use Rattle.geo_base.specs.Seeking.{restart}
 use Rattle.geo_base.specs.Setup.{Setup}
 use Rattle.geo_base.specs.World.{Back, Forward, LinkName, Links, ToBroker, ToClient, World, client_at, delivered, from_broker, from_client, link_at, node, opening_world, packet_at, site, stamped, taken_from, topic_at, with_link}
 use Rattle.world_laws.specs.Starts.{most_at_start}
-use Rattle.world_laws.proofs.Answering.{Numbered}
-use Rattle.world_laws.proofs.Bounds.{link_set, table_has}
-use Rattle.world_laws.proofs.Counts.{FewAt, HasRoom, few_kept, few_room, next_small, stored_small}
-use Rattle.world_laws.proofs.Effects.{Each, each_both, each_take}
-use Rattle.world_laws.proofs.EventWalk.{HasShape, planned_shape}
-use Rattle.world_laws.proofs.Frames.{at_map}
-use Rattle.world_laws.proofs.Ids.{IsSmall}
-use Rattle.world_laws.proofs.Layers.{Both, Everywhere, Grounds, both_kept, grounds_kept, one_node}
-use Rattle.world_laws.proofs.Ledgers.{at_index}
-use Rattle.world_laws.proofs.MarkerRuns.{Marked, marked_on}
-use Rattle.world_laws.proofs.PairRoles.{shape_within}
-use Rattle.world_laws.proofs.Pairs.{past_node}
-use Rattle.world_laws.proofs.Runs.{IsKeptByEvents, by_events}
-use Rattle.world_laws.proofs.Shapes.{Shape}
-use Rattle.world_laws.proofs.Short.{client_short, does_short, halts_short, stops_short}
-use Rattle.world_laws.proofs.Sizes.{IsThere, Sized, node_lt, node_there, sized_kept, stopped_at}
-use Rattle.world_laws.proofs.Starting.{opening_starts, start_marked}
-use Rattle.world_laws.proofs.SubFrames.{each_at_place}
-use Rattle.world_laws.proofs.Walk.{by_test, on_if, on_test}
-use Rattle.world_laws.proofs.Widths.{AllWide, wide_kept}
+use Rattle.world_laws.proofs.Snapshotting.Answering.{Numbered}
+use Rattle.world_laws.proofs.Counters.Bounds.{link_set, table_has}
+use Rattle.world_laws.proofs.Counters.Counts.{FewAt, HasRoom, few_kept, few_room, next_small, stored_small}
+use Rattle.world_laws.proofs.Replicating.Effects.{Each, each_both, each_take}
+use Rattle.world_laws.proofs.Walks.EventWalk.{HasShape, planned_shape}
+use Rattle.world_laws.proofs.Induction.Frames.{at_map}
+use Rattle.world_laws.proofs.Snapshotting.Ids.{IsSmall}
+use Rattle.world_laws.proofs.Induction.Layers.{Both, Everywhere, Grounds, both_kept, grounds_kept, one_node}
+use Rattle.world_laws.proofs.TopicOrder.Ledgers.{at_index}
+use Rattle.world_laws.proofs.Counters.MarkerRuns.{Marked, marked_on}
+use Rattle.world_laws.proofs.Replicating.PairRoles.{shape_within}
+use Rattle.world_laws.proofs.Replicating.Pairs.{past_node}
+use Rattle.world_laws.proofs.Induction.Runs.{IsKeptByEvents, by_events}
+use Rattle.world_laws.proofs.Walks.Shapes.{Shape}
+use Rattle.world_laws.proofs.Induction.Short.{client_short, does_short, halts_short, stops_short}
+use Rattle.world_laws.proofs.Replicating.Sizes.{IsThere, Sized, node_lt, node_there, sized_kept, stopped_at}
+use Rattle.world_laws.proofs.KeptRuns.Starting.{opening_starts, start_marked}
+use Rattle.world_laws.proofs.Dispatching.SubFrames.{each_at_place}
+use Rattle.world_laws.proofs.Walks.Walk.{by_test, on_if, on_test}
+use Rattle.world_laws.proofs.FrameContents.Widths.{AllWide, wide_kept}
 use Rattle.world_kept.proofs.Ascii.{AreLow, named_low}
 use Rattle.world_kept.proofs.Sayable.{IsSayableFrame}
 use Rattle.world_kept.proofs.SayableClients.{gets_say, goes_say, reconnects_say}

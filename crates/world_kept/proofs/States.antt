@@ -23,16 +23,16 @@ use Rattle.state_file.specs.State.{state_in}
 use Rattle.state_nodes.specs.Fitting.{IsDurable}
 use Rattle.world_laws.specs.Plain.{IsPlainEntry}
 use Rattle.world_laws.specs.Starts.{IsStart, IsStartClient, resumed_world}
-use Rattle.world_laws.proofs.Effects.{Each}
-use Rattle.world_laws.proofs.FittingRuns.{Fitting, fitting_kept}
-use Rattle.world_laws.proofs.KeptStarts.{place_of}
-use Rattle.world_laws.proofs.Layers.{Both, Everywhere}
-use Rattle.world_laws.proofs.NewEntries.{IsFit}
-use Rattle.world_laws.proofs.ResumedRuns.{run_parts}
-use Rattle.world_laws.proofs.Runs.{IsKeptByEvents, between_by_events, by_events}
-use Rattle.world_laws.proofs.SavedRuns.{saved}
-use Rattle.world_laws.proofs.Sizes.{IsThere, Sized}
-use Rattle.world_laws.proofs.Starting.{start_at}
+use Rattle.world_laws.proofs.Replicating.Effects.{Each}
+use Rattle.world_laws.proofs.ComesOver.FittingRuns.{Fitting, fitting_kept}
+use Rattle.world_laws.proofs.KeptRuns.KeptStarts.{place_of}
+use Rattle.world_laws.proofs.Induction.Layers.{Both, Everywhere}
+use Rattle.world_laws.proofs.FrameContents.NewEntries.{IsFit}
+use Rattle.world_laws.proofs.KeptRuns.ResumedRuns.{run_parts}
+use Rattle.world_laws.proofs.Induction.Runs.{IsKeptByEvents, between_by_events, by_events}
+use Rattle.world_laws.proofs.KeptRuns.SavedRuns.{saved}
+use Rattle.world_laws.proofs.Replicating.Sizes.{IsThere, Sized}
+use Rattle.world_laws.proofs.KeptRuns.Starting.{start_at}
 use Rattle.world_kept.specs.Saved.{IsShortState}
 use Rattle.world_kept.proofs.ClientStates.{client_fits}
 use Rattle.world_kept.proofs.Clients.{AllClients}

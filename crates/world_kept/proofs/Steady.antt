@@ -13,12 +13,12 @@ use Rattle.geo_base.specs.Planned.{Planned}
 use Rattle.geo_base.specs.Seeking.{restart}
 use Rattle.geo_base.specs.Setup.{Setup}
 use Rattle.geo_base.specs.World.{LinkName, ToClient, World, node, opening_world, topic_at}
-use Rattle.world_laws.proofs.Layers.{Both, Everywhere, KeptWith, both_kept, one_node}
-use Rattle.world_laws.proofs.PairRoles.{shape_within}
-use Rattle.world_laws.proofs.Runs.{IsKept}
-use Rattle.world_laws.proofs.Shapes.{Shape}
-use Rattle.world_laws.proofs.Sizes.{Sized, node_lt, node_there, sized_kept, stopped_at}
-use Rattle.world_laws.proofs.Walk.{on_if}
+use Rattle.world_laws.proofs.Induction.Layers.{Both, Everywhere, KeptWith, both_kept, one_node}
+use Rattle.world_laws.proofs.Replicating.PairRoles.{shape_within}
+use Rattle.world_laws.proofs.Induction.Runs.{IsKept}
+use Rattle.world_laws.proofs.Walks.Shapes.{Shape}
+use Rattle.world_laws.proofs.Replicating.Sizes.{Sized, node_lt, node_there, sized_kept, stopped_at}
+use Rattle.world_laws.proofs.Walks.Walk.{on_if}
 
 -- after each of some writes
 abbrev pub Along : (Broker → Type 0) → ℕ → Broker → List Write → Type 0

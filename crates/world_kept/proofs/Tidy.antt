@@ -3,7 +3,7 @@ use Rattle.std.proofs.Common.{ℕ, ◌≤◌, [], ◌∷◌, length, refl, arith
 use Rattle.world_laws.proofs.Types.{Change, Write}
 use Rattle.geo_base.specs.Broker.{Broker, changed, new_broker, written}
 use Rattle.geo_base.specs.Setup.{Setup}
-use Rattle.world_laws.proofs.SubFrames.{NamesApart, all_written_apart, changed_apart}
+use Rattle.world_laws.proofs.Dispatching.SubFrames.{NamesApart, all_written_apart, changed_apart}
 use Rattle.world_kept.proofs.Cursors.{HasCursors, changed_cursors, new_cursors, written_cursors}
 use Rattle.world_kept.proofs.Ledgers.{HasLedgers, changed_ledgers, written_ledgers}
 use Rattle.world_kept.proofs.Steady.{IsSteady, always_steady}

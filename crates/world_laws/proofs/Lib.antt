@@ -1,165 +1,32 @@
--- Types, the walk through the branches of every event, and the shapes that it finds.
+-- The words that every file uses.
 pub mod Types
-pub mod Walk
-pub mod Shapes
-pub mod ServeWalk
-pub mod LinkWalk
-pub mod ReadWalk
-pub mod OfferWalk
-pub mod EventWalk
--- The induction over runs, and what an event leaves alone.
-pub mod Runs
-pub mod Frames
-pub mod Layers
-pub mod Reaching
-pub mod Short
+-- The walk through the branches of every event, and the shapes that it finds.
+pub mod Walks
+-- The induction over runs, under the program's limits too, and what an event leaves alone.
+pub mod Induction
 -- Once and in order.
-pub mod Members
-pub mod Appends
-pub mod Fresh
-pub mod Once
+pub mod OnceInOrder
 -- Two clusters of a pair: what stands at the one of the other's topic, and what a receipt means.
-pub mod Prefixes
-pub mod Cursors
-pub mod Packets
-pub mod PairFacts
-pub mod SessionFacts
-pub mod Effects
-pub mod InARow
-pub mod SenderSide
-pub mod SenderEvents
-pub mod ReceiverSide
-pub mod TakeEvents
-pub mod Reach
-pub mod LinkFrames
-pub mod PairRoles
-pub mod PairEvents
-pub mod Sizes
-pub mod PairWorlds
-pub mod PairMoments
-pub mod Pairs
+pub mod Replicating
 -- Numbers and counts: what rises with events, and by how much.
-pub mod Calm
-pub mod Places
-pub mod Bounds
-pub mod Counts
-pub mod Slow
-pub mod Rising
-pub mod OwnNumbers
-pub mod MarkerRuns
+pub mod Counters
 -- Nodes, their peers, and the merge of what each of them records.
-pub mod FewNodes
-pub mod LinkTables
-pub mod TwoLists
-pub mod NodeEvents
-pub mod Crossings
-pub mod PeerWalk
-pub mod Peers
-pub mod ClientPeers
-pub mod ClientRoams
-pub mod Roles
-pub mod Alike
-pub mod Merging
-pub mod Opened
-pub mod MergeOrder
-pub mod OnlyMerge
-pub mod MergedRun
-pub mod MergedExample
-pub mod HistoryPush
-pub mod Agreeing
-pub mod ByteHistories
-pub mod Origins
+pub mod Merges
 -- Positions, and the order between the topics of clusters.
-pub mod Ledgers
-pub mod NoSelf
-pub mod Order
-pub mod Added
-pub mod Ordered
-pub mod NextPosition
+pub mod TopicOrder
 -- Snapshots: answers, the second round, and the cut.
-pub mod Answering
-pub mod Positions
-pub mod SnapshotFacts
-pub mod Hearing
-pub mod Everyone
-pub mod Ids
-pub mod Building
-pub mod Making
-pub mod MakingEvents
-pub mod Asked
-pub mod SecondRound
-pub mod Completing
-pub mod WrittenCuts
-pub mod Grows
-pub mod Caches
-pub mod Cuts
+pub mod Snapshotting
 -- Settling ends, and within its budget.
-pub mod Rounds
-pub mod Tails
-pub mod Weights
-pub mod Counting
-pub mod CacheSums
-pub mod ReadWeights
-pub mod TakeWeights
-pub mod LinkWeights
-pub mod Lowering
-pub mod WeightBounds
-pub mod InTime
--- Behind settling all has come over.
-pub mod Fitting
-pub mod Awaited
-pub mod Waiting
-pub mod Live
-pub mod LiveSender
-pub mod Backs
-pub mod LiveFrames
-pub mod LiveRounds
-pub mod LiveStarts
-pub mod Quiet
-pub mod FittingRuns
-pub mod Complete
+pub mod Budget
+-- After settling all has come over.
+pub mod ComesOver
 -- Subscriptions: nothing due is forgotten, and offers bring all of it out.
-pub mod SubFrames
-pub mod Remembers
-pub mod Dispatched
-pub mod Recalled
-pub mod Keeping
-pub mod DueCounts
-pub mod Serving
-pub mod Offered
+pub mod Dispatching
 -- What is in a frame and in a topic: sizes, plain entries, and what a node's bytes tell.
-pub mod OwnSizes
-pub mod Widths
-pub mod NewEntries
-pub mod OwnPlain
-pub mod Sizing
-pub mod Sending
-pub mod ClientSends
-pub mod Carrying
-pub mod PlainRuns
-pub mod NodeCarries
+pub mod FrameContents
 -- Settled: only what is told is acknowledged, and updates name only that.
-pub mod Passing
-pub mod Told
-pub mod OnlyTold
-pub mod ServeTells
-pub mod Announcing
-pub mod NamesTold
-pub mod QuietTells
-pub mod ToldRuns
-pub mod ToldWorlds
-pub mod ToldLaws
--- Runs under the program's limits.
-pub mod LimitedRuns
+pub mod Telling
 -- Runs that begin from what was kept of another one.
-pub mod KeptIndexes
-pub mod IndexRuns
-pub mod Starting
-pub mod TurnRuns
-pub mod KeptStarts
-pub mod AlikeLinks
-pub mod AlikeWorlds
-pub mod AlikeRuns
-pub mod Loaded
-pub mod ResumedRuns
-pub mod SavedRuns
+pub mod KeptRuns
+-- Clients: what their frames say, what a broker sends them, and what both links carry.
+pub mod Clients

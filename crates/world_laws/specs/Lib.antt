@@ -8,3 +8,4 @@ pub mod Indexes
 pub mod Starts
 pub mod Reached
 pub mod AlikeWorlds
+pub mod SubLines

@@ -1,5 +1,5 @@
-use Rattle.world_laws.proofs.ResumedRuns.{resumed_law}
-use Rattle.world_laws.proofs.SavedRuns.{reached_law}
+use Rattle.world_laws.proofs.KeptRuns.ResumedRuns.{resumed_law}
+use Rattle.world_laws.proofs.KeptRuns.SavedRuns.{reached_law}
 use Rattle.geo_top.proofs.OneRun.{answers_same, files_same, kept_is, text_is}
 use Rattle.geo_top.proofs.law.resumed_runs_are_one.Goals as goal
 

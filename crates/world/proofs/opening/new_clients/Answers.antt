@@ -1,6 +1,6 @@
 use Rattle.std.proofs.Common.{rules, ◌∙◌, ◌≡◌, length, ap, arith}
 use Rattle.geo_base.specs.Client.{new_client}
-use Rattle.world_laws.proofs.FewNodes.{few_clients}
+use Rattle.world_laws.proofs.Merges.FewNodes.{few_clients}
 use Rattle.world.proofs.NewWorlds.{one_client_more}
 use Rattle.world.proofs.opening.new_clients.Goals as goal
 

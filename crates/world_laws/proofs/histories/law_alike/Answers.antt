@@ -1,4 +1,4 @@
-use Rattle.world_laws.proofs.Origins.{alike_without_origin}
+use Rattle.world_laws.proofs.Merges.Origins.{alike_without_origin}
 use Rattle.world_laws.proofs.histories.law_alike.Goals as goal
 
 pub returns : goal.returns

@@ -1,4 +1,4 @@
-use Rattle.world_laws.proofs.MergedRun.{are_like, counted, has_begun, has_recorded, is_merge, is_only}
+use Rattle.world_laws.proofs.Merges.MergedRun.{are_like, counted, has_begun, has_recorded, is_merge, is_only}
 use Rattle.world_laws.proofs.histories.law_merge.Goals as goal
 
 pub returns : goal.returns

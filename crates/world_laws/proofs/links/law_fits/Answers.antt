@@ -1,4 +1,4 @@
-use Rattle.world_laws.proofs.PlainRuns.{fits_always}
+use Rattle.world_laws.proofs.FrameContents.PlainRuns.{fits_always}
 use Rattle.world_laws.proofs.links.law_fits.Goals as goal
 
 pub returns : goal.returns

@@ -1,4 +1,4 @@
-use Rattle.world_laws.proofs.PlainRuns.{plain_always}
+use Rattle.world_laws.proofs.FrameContents.PlainRuns.{plain_always}
 use Rattle.world_laws.proofs.links.law_plain.Goals as goal
 
 pub returns : goal.returns

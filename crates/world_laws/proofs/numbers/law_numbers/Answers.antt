@@ -1,4 +1,4 @@
-use Rattle.world_laws.proofs.Rising.{numbers_between}
+use Rattle.world_laws.proofs.Counters.Rising.{numbers_between}
 use Rattle.world_laws.proofs.numbers.law_numbers.Goals as goal
 
 pub returns : goal.returns

@@ -1,4 +1,4 @@
-use Rattle.world_laws.proofs.SavedRuns.{reached_law}
+use Rattle.world_laws.proofs.KeptRuns.SavedRuns.{reached_law}
 use Rattle.world_laws.proofs.numbers.law_reached.Goals as goal
 
 pub returns : goal.returns

@@ -1,4 +1,4 @@
-use Rattle.world_laws.proofs.Pairs.{prefix_always}
+use Rattle.world_laws.proofs.Replicating.Pairs.{prefix_always}
 use Rattle.world_laws.proofs.replication.law_prefix.Goals as goal
 
 pub returns : goal.returns

@@ -1,4 +1,4 @@
-use Rattle.world_laws.proofs.Pairs.{receipt_always}
+use Rattle.world_laws.proofs.Replicating.Pairs.{receipt_always}
 use Rattle.world_laws.proofs.replication.law_receipt.Goals as goal
 
 pub returns : goal.returns

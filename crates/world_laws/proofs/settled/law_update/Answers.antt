@@ -1,4 +1,4 @@
-use Rattle.world_laws.proofs.ToldLaws.{update_always}
+use Rattle.world_laws.proofs.Telling.ToldLaws.{update_always}
 use Rattle.world_laws.proofs.settled.law_update.Goals as goal
 
 pub returns : goal.returns

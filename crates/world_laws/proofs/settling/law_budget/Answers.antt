@@ -1,4 +1,4 @@
-use Rattle.world_laws.proofs.Complete.{budget_always}
+use Rattle.world_laws.proofs.ComesOver.Complete.{budget_always}
 use Rattle.world_laws.proofs.settling.law_budget.Goals as goal
 
 pub returns : goal.returns

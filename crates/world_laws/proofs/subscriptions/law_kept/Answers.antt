@@ -1,4 +1,4 @@
-use Rattle.world_laws.proofs.Keeping.{kept_between}
+use Rattle.world_laws.proofs.Dispatching.Keeping.{kept_between}
 use Rattle.world_laws.proofs.subscriptions.law_kept.Goals as goal
 
 pub returns : goal.returns

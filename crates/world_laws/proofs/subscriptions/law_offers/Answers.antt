@@ -1,4 +1,4 @@
-use Rattle.world_laws.proofs.Offered.{offers_between}
+use Rattle.world_laws.proofs.Dispatching.Offered.{offers_between}
 use Rattle.world_laws.proofs.subscriptions.law_offers.Goals as goal
 
 pub returns : goal.returns

@@ -1,0 +1,14 @@
+pub mod AnswerBytes
+pub mod Varints
+pub mod Fields
+pub mod Contents
+pub mod Messages
+pub mod Values
+pub mod Metas
+pub mod Markers
+pub mod Parts
+pub mod Commands
+pub mod Layouts
+pub mod Frames
+pub mod Contained
+pub mod Standing

@@ -1,0 +1,5 @@
+pub mod Ledgers
+pub mod Leaving
+pub mod Shares
+pub mod AnswerEntries
+pub mod Loading

@@ -1,5 +1,0 @@
-use Rattle.trace_laws.proofs.Proved.{law_holds}
-use Rattle.trace_laws.proofs.again.law_again.Goals as goal
-
-pub returns : goal.returns
-returns c = law_holds

@@ -1,5 +1,0 @@
-use Rattle.trace_laws.proofs.Behind.{behind_always}
-use Rattle.trace_laws.proofs.again.law_behind.Goals as goal
-
-pub returns : goal.returns
-returns c = record { always = behind_always }

@@ -1,5 +1,0 @@
-use Rattle.trace_laws.proofs.Running.{run_follows}
-use Rattle.trace_laws.proofs.again.law_follows.Goals as goal
-
-pub returns : goal.returns
-returns c = run_follows

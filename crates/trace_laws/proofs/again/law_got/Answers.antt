@@ -1,5 +1,0 @@
-use Rattle.trace_laws.proofs.GotLines.{got_law}
-use Rattle.trace_laws.proofs.again.law_got.Goals as goal
-
-pub returns : goal.returns
-returns c = got_law

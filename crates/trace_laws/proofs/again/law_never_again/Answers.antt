@@ -1,5 +1,0 @@
-use Rattle.trace_laws.proofs.Never.{never_law}
-use Rattle.trace_laws.proofs.again.law_never_again.Goals as goal
-
-pub returns : goal.returns
-returns c = never_law

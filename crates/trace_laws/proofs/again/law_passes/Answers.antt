@@ -1,5 +1,0 @@
-use Rattle.trace_laws.proofs.Passing.{passes_between}
-use Rattle.trace_laws.proofs.again.law_passes.Goals as goal
-
-pub returns : goal.returns
-returns c = record { between = passes_between }

@@ -1,5 +1,0 @@
-use Rattle.trace_laws.proofs.Markers.{marker_answer}
-use Rattle.trace_laws.proofs.codecs.law_marker.Goals as goal
-
-pub returns : goal.returns
-returns c = marker_answer

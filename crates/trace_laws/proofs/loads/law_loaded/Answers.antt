@@ -1,5 +1,0 @@
-use Rattle.trace_laws.proofs.Loading.{body_some, loaded_some}
-use Rattle.trace_laws.proofs.loads.law_loaded.Goals as goal
-
-pub returns : goal.returns
-returns c = record { body = body_some; file = loaded_some }

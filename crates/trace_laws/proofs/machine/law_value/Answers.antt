@@ -1,5 +1,0 @@
-use Rattle.trace_laws.proofs.Standing.{value_answer}
-use Rattle.trace_laws.proofs.machine.law_value.Goals as goal
-
-pub returns : goal.returns
-returns c = value_answer

@@ -1,5 +1,0 @@
-use Rattle.trace_laws.proofs.Ledgers.{readable_law}
-use Rattle.trace_laws.proofs.stored.law_readable.Goals as goal
-
-pub returns : goal.returns
-returns c = readable_law

@@ -1,0 +1,22 @@
+-- Nodes, their peers, and the merge of what each of them records.
+pub mod FewNodes
+pub mod LinkTables
+pub mod TwoLists
+pub mod NodeEvents
+pub mod Crossings
+pub mod PeerWalk
+pub mod Peers
+pub mod ClientPeers
+pub mod ClientRoams
+pub mod Roles
+pub mod Alike
+pub mod Merging
+pub mod Opened
+pub mod MergeOrder
+pub mod OnlyMerge
+pub mod MergedRun
+pub mod MergedExample
+pub mod HistoryPush
+pub mod Agreeing
+pub mod ByteHistories
+pub mod Origins

@@ -1,0 +1,20 @@
+-- Two clusters of a pair: what stands at the one of the other's topic, and what a receipt means.
+pub mod Prefixes
+pub mod Cursors
+pub mod Packets
+pub mod PairFacts
+pub mod SessionFacts
+pub mod Effects
+pub mod InARow
+pub mod SenderSide
+pub mod SenderEvents
+pub mod ReceiverSide
+pub mod TakeEvents
+pub mod Reach
+pub mod LinkFrames
+pub mod PairRoles
+pub mod PairEvents
+pub mod Sizes
+pub mod PairWorlds
+pub mod PairMoments
+pub mod Pairs
