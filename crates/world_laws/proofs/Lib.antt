@@ -30,3 +30,7 @@ pub mod Telling
 pub mod KeptRuns
 -- Clients: what their frames say, what a broker sends them, and what both links carry.
 pub mod Clients
+-- From a pub line to the client that got its message: what stands was published, receipts and counts are of what stands.
+pub mod Published
+-- What stands at a cluster or goes there is meant for it; marks; and what holds in one run.
+pub mod Residing

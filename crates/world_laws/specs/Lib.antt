@@ -9,3 +9,6 @@ pub mod Starts
 pub mod Reached
 pub mod AlikeWorlds
 pub mod SubLines
+pub mod Publishing
+pub mod Residency
+pub mod InRun

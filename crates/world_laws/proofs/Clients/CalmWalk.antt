@@ -53,7 +53,7 @@ pub data Acts (t c m : ℕ) (d : Declared) (h : Site) (b : Broker) : Plan → Ty
 calm : (t c m : ℕ) (d : Declared) (p : Plan) → Each (IsCalmChange t c d m) p.changes → Each (IsCalmOut c m) p.sent → IsCalm t c m d p
 calm t c m d p k o = record { changes = k; sent = o }
 
-reply_quiet : (f : Frame) → IsReply f → IsQuiet f
+pub reply_quiet : (f : Frame) → IsReply f → IsQuiet f
 reply_quiet (frame.ProducerSuccess request n) h = tt
 reply_quiet (frame.Error request code) h = tt
 reply_quiet (frame.Success request) h = tt

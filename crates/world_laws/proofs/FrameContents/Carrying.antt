@@ -134,7 +134,7 @@ new_has B E s w p suits all lt e (NewEntry.Carried a z within (q, at, c) fit) = 
 new_has B E s w p suits all lt e (NewEntry.Own b m to names own) = (suits.plain e (own_plain B (site s p.topic p.cluster) b m to names lt own), lt)
 
 -- an entry stands only in a topic that is there
-entry_there : (s : Setup) (w : World) (t x i : ℕ) (e : Entry) → length w.brokers ≡ length s.topics * length s.clusters → x < length s.clusters → IsEntry (topic_at s w t x) i e → IsThere s t x
+pub entry_there : (s : Setup) (w : World) (t x i : ℕ) (e : Entry) → length w.brokers ≡ length s.topics * length s.clusters → x < length s.clusters → IsEntry (topic_at s w t x) i e → IsThere s t x
 entry_there s w t x i e size small at = by (nat_lt t (length s.topics)) refl
   where
     by : (b : Bool) → nat_lt t (length s.topics) ≡ b → IsThere s t x

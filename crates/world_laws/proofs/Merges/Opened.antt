@@ -64,7 +64,7 @@ opening_link s (Back n y) = empty_cell (broker_count s) (length s.clusters) n y
 opening_link s (ToBroker c x) = empty_cell (length s.clients) (length s.clusters) c x
 opening_link s (ToClient c x) = empty_cell (length s.clients) (length s.clusters) c x
 
-opening_client : (ds : List Declared) (c : ℕ) → slice_index_or (map new_client ds) c (new_client (slice_index_or ds c nobody)) ≡ new_client (slice_index_or ds c nobody)
+pub opening_client : (ds : List Declared) (c : ℕ) → slice_index_or (map new_client ds) c (new_client (slice_index_or ds c nobody)) ≡ new_client (slice_index_or ds c nobody)
 opening_client [] c = refl
 opening_client (d ∷ ds) zero = refl
 opening_client (d ∷ ds) (suc c) = opening_client ds c

@@ -156,11 +156,11 @@ next_begins x y near far i e once begins at out all new = go c.cuts
         absurd (omega (arith, h))
 
 -- what a topic that refuses an identity has
-record Refuses (es : List Entry) (i : Ident) : Type 0 where
-  entry : Entry
-  stands : Stands es entry
-  same : same_stream entry.ident i ≡ true
-  newer : nat_lt entry.ident.seq i.seq ≡ false
+pub record Refuses (es : List Entry) (i : Ident) : Type 0 where
+  pub entry : Entry
+  pub stands : Stands es entry
+  pub same : same_stream entry.ident i ≡ true
+  pub newer : nat_lt entry.ident.seq i.seq ≡ false
 
 refused_at : (a : Entry) (es : List Entry) (i : Ident) (same older : Bool) → same_stream a.ident i ≡ same → nat_lt a.ident.seq i.seq ≡ older
     → ((not same || older) && accepts es i) ≡ false → (accepts es i ≡ false → Refuses es i) → Refuses (a ∷ es) i
@@ -168,7 +168,7 @@ refused_at a es i true false s o h ih = record { entry = a; stands = record { pl
 refused_at a es i true true s o h ih = let r = ih h in record { entry = r.entry; stands = stands_next a es r.entry r.stands; same = r.same; newer = r.newer }
 refused_at a es i false older s o h ih = let r = ih h in record { entry = r.entry; stands = stands_next a es r.entry r.stands; same = r.same; newer = r.newer }
 
-refused : (es : List Entry) (i : Ident) → accepts es i ≡ false → Refuses es i
+pub refused : (es : List Entry) (i : Ident) → accepts es i ≡ false → Refuses es i
 refused [] i h = absurd (false≢true (sym h))
 refused (a ∷ es) i h = refused_at a es i (same_stream a.ident i) (nat_lt a.ident.seq i.seq) refl refl h (refused es i)
 

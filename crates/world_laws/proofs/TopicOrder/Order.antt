@@ -5,7 +5,7 @@ use Rattle.std.proofs.lemmas.Option.{slice_get_within}
 use Rattle.world_laws.proofs.Types.{Entry}
 use Rattle.geo_base.specs.Entry.{is_outbound}
 use Rattle.geo_base.specs.Laws.{of_origin, outbound}
-use Rattle.world_laws.proofs.OnceInOrder.Members.{Cuts, Stands, below_or, from_filter, get_left, get_right, get_within, stands_left, to_filter}
+use Rattle.world_laws.proofs.OnceInOrder.Members.{Cuts, Passes, Stands, below_or, from_filter, get_left, get_right, get_within, stands_left, to_filter}
 use Rattle.world_laws.proofs.OnceInOrder.Once.{OnceIn}
 use Rattle.world_laws.proofs.Replicating.Prefixes.{Begins, InOrder, IsCutAt, before_cut, cut_at, filter_order, is_of, not_twice, of_out, same_self}
 
@@ -18,12 +18,15 @@ pub record Below (es : List Entry) (k : ℕ) (f : Entry) : Type 0 where
 twice : (es : List Entry) (e : Entry) → OnceIn es → (i j : ℕ) → i < j → slice_get es i ≡ Some e → slice_get es j ≡ Some e → ⊥
 twice es e once i j lt gi gj = let h = once i j e e lt gi gj (same_self e.ident) in omega (arith, h)
 
--- what y has of x stands at x
-pub of_source : (x y : ℕ) (near far : List Entry) → Begins x y near far → (i : ℕ) (f : Entry) → slice_get far i ≡ Some f → is_of x f ≡ true → Stands near f
-of_source x y near far begins i f at of =
+-- what y has of x stands at x, and goes to y
+pub source_passes : (x y : ℕ) (near far : List Entry) → Begins x y near far → (i : ℕ) (f : Entry) → slice_get far i ≡ Some f → is_of x f ≡ true → Passes (is_outbound x y) near f
+source_passes x y near far begins i f at of =
     let P : List Entry → Type 0 = λ l. Stands l f in
     let s : Stands (of_origin x far) f = to_filter (is_of x) far f i at of in
-    (from_filter (is_outbound x y) near f (subst P (sym begins.1) (stands_left (of_origin x far) begins.0 f s))).stands
+    from_filter (is_outbound x y) near f (subst P (sym begins.1) (stands_left (of_origin x far) begins.0 f s))
+
+pub of_source : (x y : ℕ) (near far : List Entry) → Begins x y near far → (i : ℕ) (f : Entry) → slice_get far i ≡ Some f → is_of x f ≡ true → Stands near f
+of_source x y near far begins i f at of = (source_passes x y near far begins i f at of).stands
 
 -- what stood at y, of x, before an entry of y that x has, stands at x before that entry
 abbrev pub Follows : ℕ → ℕ → List Entry → List Entry → Type 0
