@@ -6,6 +6,7 @@ pub mod ServeTells
 pub mod Announcing
 pub mod NamesTold
 pub mod QuietTells
+pub mod TellingRuns
 pub mod ToldRuns
 pub mod ToldWorlds
 pub mod ToldLaws

@@ -12,3 +12,4 @@ pub mod SubLines
 pub mod Publishing
 pub mod Residency
 pub mod InRun
+pub mod Telling

@@ -20,6 +20,7 @@ use Rattle.geo_base.specs.World.{World, node, opening_world}
 use Rattle.world_laws.specs.AlikeWorlds.{AlwaysOn, AreAlike, AreEven, LawResumed, RunsAlike, kept_behind, world_on}
 use Rattle.world_laws.specs.Reached.{ReachedFrom}
 use Rattle.world_laws.specs.Starts.{IsStart, resumed_world}
+use Rattle.world_laws.specs.Telling.{AlwaysTold, AlwaysToldOn, BetweenTold, BetweenToldOn, Telling, told_at, told_under}
 use Rattle.world_laws.proofs.KeptRuns.AlikeRuns.{all_even, none_even, run_alike, settling_alike}
 use Rattle.world_laws.proofs.KeptRuns.AlikeWorlds.{event_alike, halt_alike, planned_alike, stop_alike}
 use Rattle.world_laws.proofs.Dispatching.Keeping.{kept_between}
@@ -161,6 +162,24 @@ always_on s Holds moved a v before es h = record {
   moment = λ k at e writes.
       let m : Moment = record { steps = before ++ take k es; settling = at; event = e; writes = writes } in
       moved _ _ (settled_at no_limits s m) (moment_alike s _ (world_on s v (take k es) at) writes e (between_alike s v before (take k es) at h)) (a.moment no_limits m);
+}
+
+-- the same of whatever is told
+pub always_told_on : (tells : Telling) (s : Setup) (Q : World → SettledSoFar → Type 0) → ((v w : World) (told : SettledSoFar) → AreAlike v w → Q v told → Q w told) → AlwaysTold tells s Q
+    → (v : World) (before es : List Step) → AreAlike (run s before) v → AlwaysToldOn tells s v before es Q
+always_told_on tells s Q moved a v before es h = record {
+  between = λ k at.
+      moved _ (world_on s v (take k es) at) (told_under tells no_limits s (before ++ take k es)) (between_alike s v before (take k es) at h) (a.between no_limits (before ++ take k es) at);
+  moment = λ k at e writes.
+      let m : Moment = record { steps = before ++ take k es; settling = at; event = e; writes = writes } in
+      moved _ _ (told_at tells no_limits s m) (moment_alike s _ (world_on s v (take k es) at) writes e (between_alike s v before (take k es) at h)) (a.moment no_limits m);
+}
+
+pub between_told_on : (tells : Telling) (s : Setup) (Q : World → SettledSoFar → Type 0) → ((v w : World) (told : SettledSoFar) → AreAlike v w → Q v told → Q w told) → BetweenTold tells s Q
+    → (v : World) (before es : List Step) → AreAlike (run s before) v → BetweenToldOn tells s v before es Q
+between_told_on tells s Q moved b v before es h = record {
+  between = λ k at.
+      moved _ (world_on s v (take k es) at) (told_under tells no_limits s (before ++ take k es)) (between_alike s v before (take k es) at h) (b.between no_limits (before ++ take k es) at);
 }
 
 -- facts of brokers
