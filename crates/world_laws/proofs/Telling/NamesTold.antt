@@ -59,14 +59,15 @@ update_grows s w w' told t a n remote lt all grown h = λ y small other.
     names_to_grow told t a n remote y (topic_at s w t y) (topic_at s w' t y) (grown t y (lt, small)) (all t y (lt, small)).numbered (h y small other)
 
 -- the updates of a topic that an event leaves alone
-pub names_same : (s : Setup) (w w' : World) (told : SettledSoFar) (t a : ℕ) (es : List Entry) → t < length s.topics → Everywhere s (AnswersAt s) w → Grown s w w'
-    → NamesTold s w told t a es → NamesTold s w' told t a es
-names_same s w w' told t a es lt all grown h = λ i e n remote at of is. update_grows s w w' told t a n remote lt all grown (h i e n remote at of is)
+pub names_same : (s : Setup) (w w' : World) (told : SettledSoFar) (t a from : ℕ) (es : List Entry) → t < length s.topics → Everywhere s (AnswersAt s) w → Grown s w w'
+    → NamesTold s w told t a from es → NamesTold s w' told t a from es
+names_same s w w' told t a from es lt all grown h = λ i e n remote since at of is. update_grows s w w' told t a n remote lt all grown (h i e n remote since at of is)
 
 -- as more is told
-pub names_more : (s : Setup) (w : World) (told more : SettledSoFar) (t a : ℕ) (es : List Entry) → Includes told more → NamesTold s w told t a es → NamesTold s w more t a es
-names_more s w told more t a es includes h = λ i e n remote at of is y small other.
-    let r = h i e n remote at of is y small other in (r.0, r.1, r.2, r.3, λ k f le there message meant. includes t n f (r.4 k f le there message meant))
+pub names_more : (s : Setup) (w : World) (told more : SettledSoFar) (t a from : ℕ) (es : List Entry) → Includes told more → NamesTold s w told t a from es
+    → NamesTold s w more t a from es
+names_more s w told more t a from es includes h = λ i e n remote since at of is y small other.
+    let r = h i e n remote since at of is y small other in (r.0, r.1, r.2, r.3, λ k f le there message meant. includes t n f (r.4 k f le there message meant))
 
 -- A NEW UPDATE
 
@@ -118,14 +119,14 @@ update_named s w told t x c n remote g only u y small other = (
 -- THE TOPIC OF AN EVENT
 
 -- behind its writes, or some of them; w' is the world after
-pub names_after : (s : Setup) (w w' : World) (told : SettledSoFar) (t x : ℕ) → IsThere s t x → Everywhere s (AnswersAt s) w → Grown s w w' → (ws : List Write)
+pub names_after : (s : Setup) (w w' : World) (told : SettledSoFar) (t x from : ℕ) → IsThere s t x → Everywhere s (AnswersAt s) w → Grown s w w' → (ws : List Write)
     → Announcing (IsCachedCut s w t x (topic_at s w t x).ledgers) (site s t x) (topic_at s w t x) ws
     → AllSubs (OnlyTold told t (all_written s.per_ledger (topic_at s w t x) ws).entries) (all_written s.per_ledger (topic_at s w t x) ws)
-    → NamesTold s w told t x (topic_at s w t x).entries → NamesTold s w' told t x (all_written s.per_ledger (topic_at s w t x) ws).entries
-names_after s w w' told t x there all grown ws announcing only old i e n remote at of is =
+    → NamesTold s w told t x from (topic_at s w t x).entries → NamesTold s w' told t x from (all_written s.per_ledger (topic_at s w t x) ws).entries
+names_after s w w' told t x from there all grown ws announcing only old i e n remote since at of is =
     update_grows s w w' told t x n remote there.0 all grown
     (elim (old_or_new b.entries (appended ws) i e (subst P (written_entries s.per_ledger b ws ∙ after_is b.entries ws) at)) [
-      | inl o ↦ old i e n remote o.1 of is
+      | inl o ↦ old i e n remote since o.1 of is
       | inr m ↦
           update_named s w told t x c n remote (writes_stay s.per_ledger b ws (all t x there).numbered) only
           (announced (IsCachedCut s w t x b.ledgers) (site s t x) s.per_ledger b ws announcing (i - length b.entries) e n remote m.1 of is)
@@ -147,10 +148,10 @@ pub update_told : (s : Setup) (w : World) (told : SettledSoFar) (t z i a : ℕ) 
     → slice_get (topic_at s w t z).entries i ≡ Some e → is_of a e ≡ true → e.content ≡ content.Marked (marker.Update n remote) → UpdateTold s w told t a n remote
 update_told s w told t z i a e n remote k kept there at of is =
     by_test (a == z)
-    (λ same. (kept t a (there.0, small)).names i e n remote (subst (λ (x : ℕ). slice_get (topic_at s w t x).entries i ≡ Some e) (sym (eqb-true a z same)) at) of is)
+    (λ same. (kept t a (there.0, small)).names i e n remote (omega arith) (subst (λ (x : ℕ). slice_get (topic_at s w t x).entries i ≡ Some e) (sym (eqb-true a z same)) at) of is)
     (λ differ.
     let source = of_source a z (topic_at s w t a).entries (topic_at s w t z).entries (k.prefix t a z (small, there.1, λ same. false≢true (sym differ ∙ eq-eqb a z same))) i e at of in
-    (kept t a (there.0, small)).names source.place e n remote source.is of is)
+    (kept t a (there.0, small)).names source.place e n remote (omega arith) source.is of is)
   where
     small : a < length s.clusters
     small = let h = (k.answers t z there).origins i e at in let is_a = eqb-true e.ident.origin a of in omega (arith, h, is_a)

@@ -11,6 +11,7 @@ use Rattle.geo_base.specs.Broker.{Broker, Site, written}
 use Rattle.geo_base.specs.Cursor.{has}
 use Rattle.geo_base.specs.Entry.{is_data, meant_for}
 use Rattle.geo_base.specs.Forwarding.{closes, is_remote, receipt, reset, take_packet}
+use Rattle.geo_base.specs.Laws.{IsShort}
 use Rattle.geo_base.specs.Plan.{Plan, idle_plan, quiet_plan}
 use Rattle.geo_base.specs.Planned.{in_range, planned, planned_in}
 use Rattle.geo_base.specs.Seeking.{restart}
@@ -28,10 +29,9 @@ use Rattle.world_laws.proofs.TopicOrder.NoSelf.{remote_other}
 use Rattle.world_laws.proofs.Walks.OfferWalk.{offer_shape, snap_shape}
 use Rattle.world_laws.proofs.Telling.Passing.{one_index, passed_over_is}
 use Rattle.world_laws.proofs.Walks.ReadWalk.{read_shape}
-use Rattle.world_laws.proofs.Snapshotting.SecondRound.{Knows}
 use Rattle.world_laws.proofs.Walks.Shapes.{Answered, Fated, IsUpdate, Offers, Reads, ReadsNext, Snaps, Taken, Updates}
 use Rattle.world_laws.proofs.Replicating.Sizes.{IsThere}
-use Rattle.world_laws.proofs.Telling.Told.{HasTold, IsTold, NamesTo, Tells, TellsAll, ToldOver, told_now}
+use Rattle.world_laws.proofs.Telling.Told.{IsTold, NamesTo, Tells, TellsAll, ToldOver, UpdateTold, told_now}
 use Rattle.world_laws.proofs.Walks.Walk.{on_if, on_test}
 
 -- A write that gains nothing for a cursor
@@ -90,37 +90,42 @@ passed_over_told told t y j n remote x b names same i h =
     subst (IsTold told t n b.entries) here
     (o.entry, o.at, λ message. names.4 o.place o.entry (omega (arith, small, same)) o.at message (meant y o.entry o.passed message))
 
+-- each update that is read, wherever that is, names only what is told
+abbrev pub ReadsTold : Setup → World → SettledSoFar → Type 0
+ReadsTold s w told = (t x y i j : ℕ) (e : Entry) (n : List ℕ) (remote : List ClusterPosition) → IsThere s t x
+    → ReadsNext (site s t x) (topic_at s w t x) y i e → IsUpdate (site s t x) (topic_at s w t x) y e n remote j → UpdateTold s w told t y n remote
+
 -- the update e of y stands at index i of x's topic
-names_here : (s : Setup) (w : World) (told : SettledSoFar) (t x y i j : ℕ) (e : Entry) (n : List ℕ) (remote : List ClusterPosition) → Knows s w → HasTold s w told → IsThere s t x
+names_here : (s : Setup) (w : World) (told : SettledSoFar) (t x y i j : ℕ) (e : Entry) (n : List ℕ) (remote : List ClusterPosition) → ReadsTold s w told → IsThere s t x
     → ReadsNext (site s t x) (topic_at s w t x) y i e → IsUpdate (site s t x) (topic_at s w t x) y e n remote j
     → (m : ℕ) → has (passed_over y 0 (j + 1) (topic_at s w t x).entries) m ≡ true → IsTold told t n (topic_at s w t x).entries m
-names_here s w told t x y i j e n remote k kept there next is =
+names_here s w told t x y i j e n remote read there next is =
     let b = topic_at s w t x in
-    let names = update_told s w told t x i y e n remote k kept there next.2 is.0.1 is.1 x there.1 (remote_other (site s t x) y next.0) in
+    let names = read t x y i j e n remote there next is x there.1 (remote_other (site s t x) y next.0) in
     passed_over_told told t y j n remote x b names (one_index b.ledgers (positions_for x remote) names.0 names.1 j names.2 names.3 is.2)
 
 -- a creation at Earliest gains nothing
 create_none : (told : SettledSoFar) (t : ℕ) (n : List ℕ) (b : Broker) (i : ℕ) → false ≡ true → i < length b.entries → IsTold told t n b.entries i
 create_none told t n b i never lt = absurd (false≢true never)
 
-reads_tell : (s : Setup) (w : World) (told : SettledSoFar) (t x y : ℕ) (q : Plan) → Knows s w → HasTold s w told → IsThere s t x → Reads (site s t x) (topic_at s w t x) y q
+reads_tell : (s : Setup) (w : World) (told : SettledSoFar) (t x y : ℕ) (q : Plan) → ReadsTold s w told → IsThere s t x → Reads (site s t x) (topic_at s w t x) y q
     → Tells told t s.per_ledger (topic_at s w t x) q.writes
-reads_tell s w told t x y q k kept there Reads.NothingToRead = tt
-reads_tell s w told t x y q k kept there (Reads.Forwards i e next out) = tt
-reads_tell s w told t x y q k kept there (Reads.Skips i e next other) = (tt, tt)
-reads_tell s w told t x y q k kept there (Reads.Responds i e id source next of is) = (tt, (tt, tt))
-reads_tell s w told t x y q k kept there (Reads.Counts i e id answer u u' next is heard) = (tt, tt)
-reads_tell s w told t x y q k kept there (Reads.AsksAgain i e id answer u u' next is heard) = (tt, (tt, tt))
-reads_tell s w told t x y q k kept there (Reads.Completes i e id answer u u' next is heard) = (tt, (tt, tt))
-reads_tell s w told t x y q k kept there (Reads.CreatesAt i j e n remote next is absent) =
+reads_tell s w told t x y q read there Reads.NothingToRead = tt
+reads_tell s w told t x y q read there (Reads.Forwards i e next out) = tt
+reads_tell s w told t x y q read there (Reads.Skips i e next other) = (tt, tt)
+reads_tell s w told t x y q read there (Reads.Responds i e id source next of is) = (tt, (tt, tt))
+reads_tell s w told t x y q read there (Reads.Counts i e id answer u u' next is heard) = (tt, tt)
+reads_tell s w told t x y q read there (Reads.AsksAgain i e id answer u u' next is heard) = (tt, (tt, tt))
+reads_tell s w told t x y q read there (Reads.Completes i e id answer u u' next is heard) = (tt, (tt, tt))
+reads_tell s w told t x y q read there (Reads.CreatesAt i j e n remote next is absent) =
     let b = topic_at s w t x in
     let same = written_entries s.per_ledger b (write.Create n sub_kind.Exclusive true false ∷ []) in
     let P : List Entry → Type 0 = λ es. (m : ℕ) → has (passed_over y 0 (j + 1) b.entries) m ≡ true → IsTold told t n es m in
-    (create_none told t n b, (subst P (sym same) (names_here s w told t x y i j e n remote k kept there next is), (tt, tt)))
-reads_tell s w told t x y q k kept there (Reads.PassesOver i j e n remote v ws next is found after) =
+    (create_none told t n b, (subst P (sym same) (names_here s w told t x y i j e n remote read there next is), (tt, tt)))
+reads_tell s w told t x y q read there (Reads.PassesOver i j e n remote v ws next is found after) =
     let b = topic_at s w t x in
     let acks = write.Acks n (passed_over y 0 (j + 1) b.entries) in (
-      names_here s w told t x y i j e n remote k kept there next is,
+      names_here s w told t x y i j e n remote read there next is,
       gains_none told t s.per_ledger (written s.per_ledger b acks) (ws ++ write.SenderAck y i ∷ [])
           (each_both GainsNone ws (write.SenderAck y i ∷ []) (updates_gain (site s t x) b _ ws after) (tt, tt)),
     )
@@ -180,14 +185,14 @@ settles_none (event.Serve x c) = false
 settles_none (event.Seek t x n to) = false
 settles_none e = true
 
-quiet_planned : (s : Setup) (w : World) (told : SettledSoFar) (e : Event) → in_range s e ≡ true → settles_none e ≡ true → ToldOver s told w → TellsAll s w told (planned_in s w e)
+quiet_planned : (s : Setup) (w : World) (told : SettledSoFar) (e : Event) → in_range s e ≡ true → settles_none e ≡ true → (IsShort w → ReadsTold s w told) → TellsAll s w told (planned_in s w e)
 unfolding drop_client restart
 quiet_planned s w told (event.Serve x c) within quiet h = absurd (false≢true quiet)
 quiet_planned s w told (event.Seek t x n to) within quiet h = absurd (false≢true quiet)
 quiet_planned s w told (event.Drop x c) within quiet h = λ short there. gains_none told _ s.per_ledger _ _ (drop_gains c _)
 quiet_planned s w told (event.Reset t x y) within quiet h = λ short there. gains_none told t s.per_ledger _ _ (reset_gains (site s t x) (topic_at s w t x) y)
 quiet_planned s w told (event.Read t x y) within quiet h = λ short there.
-    let now = told_now s told w h short in reads_tell s w told t x y _ now.knows now.kept there (read_shape (site s t x) (topic_at s w t x) y)
+    reads_tell s w told t x y _ (h short) there (read_shape (site s t x) (topic_at s w t x) y)
 quiet_planned s w told (event.Take t x y f) within quiet h = λ short there. gains_none told t s.per_ledger _ _ (packet_gains (site s t y) (topic_at s w t y) x f _)
 quiet_planned s w told (event.Receipt t x y f) within quiet h = λ short there. gains_none told t s.per_ledger _ _ (receipt_gains (site s t x) (topic_at s w t x) y f _)
 quiet_planned s w told (event.Snap t x) within quiet h = λ short there.
@@ -199,6 +204,12 @@ quiet_planned s w told (event.Go c) within quiet h = tt
 quiet_planned s w told (event.Get c) within quiet h = tt
 quiet_planned s w told (event.Reconnect c) within quiet h = tt
 
-pub quiet_tells : (s : Setup) (w : World) (told : SettledSoFar) (e : Event) → settles_none e ≡ true → ToldOver s told w → TellsAll s w told (planned s w e)
+pub quiet_told : (s : Setup) (w : World) (told : SettledSoFar) (e : Event) → settles_none e ≡ true → (IsShort w → ReadsTold s w told) → TellsAll s w told (planned s w e)
 unfolding planned
-quiet_tells s w told e quiet h = on_test (TellsAll s w told) (in_range s e) (planned_in s w e) None (λ within. quiet_planned s w told e within quiet h) (λ _. tt)
+quiet_told s w told e quiet h = on_test (TellsAll s w told) (in_range s e) (planned_in s w e) None (λ within. quiet_planned s w told e within quiet h) (λ _. tt)
+
+-- where all updates name only what is told
+pub quiet_tells : (s : Setup) (w : World) (told : SettledSoFar) (e : Event) → settles_none e ≡ true → ToldOver s told w → TellsAll s w told (planned s w e)
+quiet_tells s w told e quiet h =
+    quiet_told s w told e quiet (λ short t x y i j f n remote there next is.
+    let now = told_now s told w h short in update_told s w told t x i y f n remote now.knows now.kept there next.2 is.0.1 is.1)

@@ -17,6 +17,7 @@ use Rattle.geo_base.specs.Acknowledging.{acked_indexes, allows_cumulative, cumul
 use Rattle.geo_base.specs.Broker.{Broker, Site, sub_named}
 use Rattle.geo_base.specs.Cursor.{has}
 use Rattle.geo_base.specs.Entry.{is_data, same_ident, same_stream}
+use Rattle.geo_base.specs.Laws.{IsShort}
 use Rattle.geo_base.specs.Link.{next_packet}
 use Rattle.geo_base.specs.Name.{is_name}
 use Rattle.geo_base.specs.Plan.{Plan}
@@ -36,6 +37,7 @@ use Rattle.world_laws.proofs.Walks.OfferWalk.{seek_shape}
 use Rattle.world_laws.proofs.Telling.OnlyTold.{has_below, same_name, second_included}
 use Rattle.world_laws.proofs.Replicating.Prefixes.{same_self}
 use Rattle.world_laws.proofs.Telling.QuietTells.{gains_none, updates_gain}
+use Rattle.world_laws.proofs.Snapshotting.SecondRound.{Knows}
 use Rattle.world_laws.proofs.Walks.ServeWalk.{frame_served}
 use Rattle.world_laws.proofs.Walks.Shapes.{InSession, MayJoin, Seeks, Served}
 use Rattle.world_laws.proofs.Telling.Told.{IsTold, Tells, TellsAll, ToldOver, told_now, told_too}
@@ -281,29 +283,37 @@ seek_settles s w t x m to there =
 abbrev Now : Setup → SettledSoFar → World → Event → SettledSoFar
 Now s told w e = told_too told (λ t n. settled_event s w t n e)
 
-pub serve_tells : (s : Setup) (told : SettledSoFar) (w : World) (x c : ℕ) → ToldOver s told w → TellsAll s w (Now s told w (event.Serve x c)) (planned s w (event.Serve x c))
+pub serve_told : (s : Setup) (told : SettledSoFar) (w : World) (x c : ℕ) → (IsShort w → Knows s w) → TellsAll s w (Now s told w (event.Serve x c)) (planned s w (event.Serve x c))
 unfolding planned
-serve_tells s told w x c h =
+serve_told s told w x c h =
     let e = event.Serve x c in let t = (declared_at s c).topic in let b = topic_at s w t x in let o = next_packet (link_at w.links (ToBroker c x)) in
     let now = Now s told w e in
     on_if (TellsAll s w now) (in_range s e) (planned_in s w e) None
     (λ short there.
-    next_tells now t s.per_ledger (site s t x) b c o ((told_now s told w h short).knows.answers t x there).numbered
+    next_tells now t s.per_ledger (site s t x) b c o ((h short).answers t x there).numbered
     (λ n i inside lt.
     indexes_told now t n b.entries (settled_by_packet n b (topic_name s t) c o)
     (λ f among. second_included told (λ t n. settled_event s w t n e) t n f (subst (λ (l : List Ident). list_any (same_ident f.ident) l ≡ true) (sym (serve_settles s w x c n)) among)) i inside lt))
     tt
 
-pub seek_tells : (s : Setup) (told : SettledSoFar) (w : World) (t x m : ℕ) (to : Option Position) → ToldOver s told w
+pub seek_told : (s : Setup) (told : SettledSoFar) (w : World) (t x m : ℕ) (to : Option Position) → (IsShort w → Knows s w)
     → TellsAll s w (Now s told w (event.Seek t x m to)) (planned s w (event.Seek t x m to))
 unfolding planned
-seek_tells s told w t x m to h =
+seek_told s told w t x m to h =
     let e = event.Seek t x m to in let b = topic_at s w t x in let n = sub_name s t m in
     let now = Now s told w e in
     on_test (TellsAll s w now) (in_range s e) (planned_in s w e) None
     (λ within short there.
-    seeks_tell now t s.per_ledger (site s t x) b n to _ (seek_shape (site s t x) b n to) ((told_now s told w h short).knows.answers t x there).numbered
+    seeks_tell now t s.per_ledger (site s t x) b n to _ (seek_shape (site s t x) b n to) ((h short).answers t x there).numbered
     (λ i inside lt.
     indexes_told now t n b.entries (settled_by_seek b to (sub_named b.subs n))
     (λ f among. second_included told (λ t n. settled_event s w t n e) t n f (subst (λ (l : List Ident). list_any (same_ident f.ident) l ≡ true) (sym (seek_settles s w t x m to within)) among)) i inside lt))
     (λ out. tt)
+
+-- the same of what is told over
+pub serve_tells : (s : Setup) (told : SettledSoFar) (w : World) (x c : ℕ) → ToldOver s told w → TellsAll s w (Now s told w (event.Serve x c)) (planned s w (event.Serve x c))
+serve_tells s told w x c h = serve_told s told w x c (λ short. (told_now s told w h short).knows)
+
+pub seek_tells : (s : Setup) (told : SettledSoFar) (w : World) (t x m : ℕ) (to : Option Position) → ToldOver s told w
+    → TellsAll s w (Now s told w (event.Seek t x m to)) (planned s w (event.Seek t x m to))
+seek_tells s told w t x m to h = seek_told s told w t x m to (λ short. (told_now s told w h short).knows)

@@ -74,29 +74,39 @@ NamesTo told t a n remote y b =
 abbrev pub UpdateTold : Setup → World → SettledSoFar → ℕ → ℕ → List ℕ → List ClusterPosition → Type 0
 UpdateTold s w told t a n remote = (y : ℕ) → y < length s.clusters → a ≢ y → NamesTo told t a n remote y (topic_at s w t y)
 
--- of the own updates of a among some entries of topic t
-abbrev pub NamesTold : Setup → World → SettledSoFar → ℕ → ℕ → List Entry → Type 0
-NamesTold s w told t a es = (i : ℕ) (e : Entry) (n : List ℕ) (remote : List ClusterPosition) → slice_get es i ≡ Some e → is_of a e ≡ true
+-- of the own updates of a among some entries of topic t, from an index on
+abbrev pub NamesTold : Setup → World → SettledSoFar → ℕ → ℕ → ℕ → List Entry → Type 0
+NamesTold s w told t a from es = (i : ℕ) (e : Entry) (n : List ℕ) (remote : List ClusterPosition) → from ≤ i → slice_get es i ≡ Some e → is_of a e ≡ true
     → e.content ≡ content.Marked (marker.Update n remote) → UpdateTold s w told t a n remote
 
 -- of topic t at x, b being its broker
-pub record ToldIn (s : Setup) (w : World) (told : SettledSoFar) (t x : ℕ) (b : Broker) : Type 0 where
+pub record ToldIn (s : Setup) (w : World) (told : SettledSoFar) (t x from : ℕ) (b : Broker) : Type 0 where
   pub only : AllSubs (OnlyTold told t b.entries) b
-  pub names : NamesTold s w told t x b.entries
+  pub names : NamesTold s w told t x from b.entries
+
+-- with the first index of each topic from which on its updates are meant, and of all updates
+abbrev pub HasToldFrom : (ℕ → ℕ → ℕ) → Setup → World → SettledSoFar → Type 0
+HasToldFrom from s w told = (t x : ℕ) → IsThere s t x → ToldIn s w told t x (from t x) (topic_at s w t x)
+
+abbrev pub from_first : ℕ → ℕ → ℕ
+from_first t x = 0
 
 abbrev pub HasTold : Setup → World → SettledSoFar → Type 0
-HasTold s w told = (t x : ℕ) → IsThere s t x → ToldIn s w told t x (topic_at s w t x)
+HasTold s w told = HasToldFrom from_first s w told
 
 -- the fact that runs keep, told being what is settled so far
 abbrev pub ToldOver : Setup → SettledSoFar → World → Type 0
 ToldOver s told w = Cutting s w × (IsShort w → HasTold s w told)
 
 -- and what it gives in a short run
-pub record ToldNow (s : Setup) (told : SettledSoFar) (w : World) : Type 0 where
+pub record ToldSince (from : ℕ → ℕ → ℕ) (s : Setup) (told : SettledSoFar) (w : World) : Type 0 where
   pub knows : Knows s w
   pub no_self : NoSelf s w
   pub cuts : HasCuts s w
-  pub kept : HasTold s w told
+  pub kept : HasToldFrom from s w told
+
+abbrev pub ToldNow : Setup → SettledSoFar → World → Type 0
+ToldNow s told w = ToldSince from_first s told w
 
 pub told_now : (s : Setup) (told : SettledSoFar) (w : World) → ToldOver s told w → IsShort w → ToldNow s told w
 told_now s told w h short = record { knows = knows_now s w h.0.0 short; no_self = h.0.0.0.0.0.0.1; cuts = h.0.1 short; kept = h.1 short }
