@@ -1,0 +1,2 @@
+-- The link to a client: what a broker sends on it.
+pub mod Sending

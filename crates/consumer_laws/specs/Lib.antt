@@ -1,0 +1,5 @@
+pub mod Lines
+pub mod Handed
+pub mod InOrder
+pub mod Got
+pub mod Laws
