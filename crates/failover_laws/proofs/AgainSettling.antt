@@ -20,11 +20,11 @@ use Rattle.failover_laws.proofs.Running.{Leaves, events_follow, round_leaves, ro
 
 -- ---- an event of settling counts, or changes nothing
 
-abbrev Counts : World → World → Type 0
+abbrev pub Counts : World → World → Type 0
 Counts w v = (v ≡ w) ⊎ (w.events < v.events)
 
 -- w' being the world after an event
-abbrev CountsIn : World → World → Type 0
+abbrev pub CountsIn : World → World → Type 0
 CountsIn w w' = Counts w (record w' { idle = w.idle })
 
 does_counts : (s : Setup) (w : World) (o : Option Planned) → CountsIn w (does_planned s w o)
@@ -36,7 +36,7 @@ client_counts : (s : Setup) (w : World) (c : ℕ) (l : Option LinkName) (a : Act
 unfolding client_does
 client_counts s w c l a = on_if (CountsIn w) a.idle _ _ (inl refl) (inr (omega arith))
 
-event_counts : (s : Setup) (w : World) (e : Event) → Counts w (after s w e)
+pub event_counts : (s : Setup) (w : World) (e : Event) → Counts w (after s w e)
 unfolding happens
 event_counts s w (event.Go c) = on_if (CountsIn w) (has_client s c) _ _ (client_counts s w c None _) (inl refl)
 event_counts s w (event.Reconnect c) = on_if (CountsIn w) (has_client s c) _ _ (client_counts s w c None _) (inl refl)
@@ -53,7 +53,7 @@ events_count : (s : Setup) (w : World) (es : List Event) → Counts w (all_settl
 events_count s w [] = inl refl
 events_count s w (e ∷ es) = counts_then w (after s w e) (all_settle no_limits s (at (after s w e)) es).world (event_counts s w e) (events_count s (after s w e) es)
 
-not_fewer : (v w : World) → Counts v w → (v.events < w.events) ⊎ (v.events ≡ w.events)
+pub not_fewer : (v w : World) → Counts v w → (v.events < w.events) ⊎ (v.events ≡ w.events)
 not_fewer v w (inl same) = inr (ap (λ (z : World). z.events) (sym same))
 not_fewer v w (inr less) = inl less
 

@@ -42,20 +42,20 @@ use Rattle.failover_laws.proofs.AgainTraced.{AnsweredWith, AskedFor, IsCutHere, 
 use Rattle.failover_laws.proofs.TracedRuns.{AllTraced, Tracing, traced_written, tracing_kept}
 
 -- a topic that is not there has no entries
-absent : (s : Setup) (w : World) (t x i : ℕ) (e : Entry) → Knows s w → nat_lt t (length s.topics) ≡ false → IsEntry (topic_at s w t x) i e → ⊥
+pub absent : (s : Setup) (w : World) (t x i : ℕ) (e : Entry) → Knows s w → nat_lt t (length s.topics) ≡ false → IsEntry (topic_at s w t x) i e → ⊥
 absent s w t x i e k past at =
     let le : length s.topics ≤ t = grind (arith, nat_tests, past) in
     none-some e (subst (λ (b : Broker). slice_get b.entries i ≡ Some e) (past_node s w.brokers t x k.size le) at)
 
-asked_at : (a r : ℕ) (b : Broker) (id : List ℕ) → MarkerAt b r a (marker.Request id (place.Known a)) → RequestAt a b.entries r id
+pub asked_at : (a r : ℕ) (b : Broker) (id : List ℕ) → MarkerAt b r a (marker.Request id (place.Known a)) → RequestAt a b.entries r id
 asked_at a r b id m = record { entry = m.entry; at = m.stands; of = eq-eqb m.entry.ident.origin a m.origin; asks = (place.Known a, m.is) }
 
-abbrev bits : Targets → ℕ
+abbrev pub bits : Targets → ℕ
 bits (targets.Only n) = n
 bits t = 0
 
 -- for one cluster alone
-one_bit : (a z : ℕ) → targets.Only (2 ^ z) ≡ targets.Only (2 ^ a) → z ≡ a
+pub one_bit : (a z : ℕ) → targets.Only (2 ^ z) ≡ targets.Only (2 ^ a) → z ≡ a
 one_bit a z is =
     let same : 2 ^ z ≡ 2 ^ a = ap bits is in
     elim (below_or z a) [
@@ -66,7 +66,7 @@ one_bit a z is =
       ]
     ]
 
-begins : (s : Setup) (w : World) (t a y : ℕ) → Knows s w → ArePair s a y → Begins a y (topic_at s w t a).entries (topic_at s w t y).entries
+pub begins : (s : Setup) (w : World) (t a y : ℕ) → Knows s w → ArePair s a y → Begins a y (topic_at s w t a).entries (topic_at s w t y).entries
 begins s w t a y k pair = k.prefix t a y pair
 
 -- ---- answers
@@ -121,7 +121,7 @@ answers_behind s w k traced t a y r l j id answer pair request m to at =
 
 -- ---- updates
 
-flip : (s : Setup) (a y : ℕ) → ArePair s a y → ArePair s y a
+pub flip : (s : Setup) (a y : ℕ) → ArePair s a y → ArePair s y a
 flip s a y pair = (pair.1, pair.0, λ is. pair.2 (sym is))
 
 -- an update that stands at z stands at its own cluster

@@ -38,14 +38,14 @@ none_both m k (c ∷ cs) ds h l =
     or_false (is_given m k c) (list_any (is_given m k) (cs ++ ds)) (first_false (is_given m k c) (list_any (is_given m k) cs) h)
     (none_both m k cs ds (second_false (is_given m k c) (list_any (is_given m k) cs) h) l)
 
-fated_gives : (m : List ℕ) (k per : ℕ) (b : Broker) (Acts : Broker → Plan → Type 0) (lost : Plan) (q : Plan)
+pub fated_gives : (m : List ℕ) (k per : ℕ) (b : Broker) (Acts : Broker → Plan → Type 0) (lost : Plan) (q : Plan)
     → ((c : Broker) (p : Plan) → Acts c p → list_any (is_given m k) p.changes ≡ false) → list_any (is_given m k) lost.changes ≡ false → Fated per b Acts lost q
     → list_any (is_given m k) q.changes ≡ false
 fated_gives m k per b Acts lost q f l (Fated.Once p a) = f b p a
 fated_gives m k per b Acts lost q f l Fated.Lost = l
 fated_gives m k per b Acts lost q f l (Fated.Twice p p' a a') = none_both m k p.changes p'.changes (f b p a) (f (done per b p) p' a')
 
-served_gives : (m : List ℕ) (k : ℕ) (h : Site) (b : Broker) (c : ℕ) (p : Packet) (q : Plan) → Served h b c p q → list_any (is_given m k) q.changes ≡ false
+pub served_gives : (m : List ℕ) (k : ℕ) (h : Site) (b : Broker) (c : ℕ) (p : Packet) (q : Plan) → Served h b c p q → list_any (is_given m k) q.changes ≡ false
 served_gives m k h b c p q (Served.Stores s id seq source e at sound new) = refl
 served_gives m k h b c p q (Served.Acknowledges s id kind ps v i is ws at sent by of after) = refl
 served_gives m k h b c p q Served.Ignores = refl
@@ -61,7 +61,7 @@ served_gives m k h b c p q (Served.Permits s id permits v at is by) = refl
 served_gives m k h b c p q (Served.Unsubscribes s id request v at is by last) = refl
 served_gives m k h b c p q (Served.ClosesConsumer s id request v at is by) = refl
 
-taken_gives : (m : List ℕ) (k : ℕ) (h : Site) (b : Broker) (x : ℕ) (p : Packet) (q : Plan) → Taken h b x p q → list_any (is_given m k) q.changes ≡ false
+pub taken_gives : (m : List ℕ) (k : ℕ) (h : Site) (b : Broker) (x : ℕ) (p : Packet) (q : Plan) → Taken h b x p q → list_any (is_given m k) q.changes ≡ false
 taken_gives m k h b x p q (Taken.Stores id seq source e is at may new) = refl
 taken_gives m k h b x p q (Taken.Unreadable is) = refl
 taken_gives m k h b x p q (Taken.Opens topic id request name is opening) = refl
@@ -69,7 +69,7 @@ taken_gives m k h b x p q (Taken.Discards other shut) = refl
 taken_gives m k h b x p q (Taken.Refuses other at may) = refl
 taken_gives m k h b x p q (Taken.Repeats id seq source e is at may old) = refl
 
-answered_gives : (m : List ℕ) (k : ℕ) (b : Broker) (y : ℕ) (p : Packet) (q : Plan) → Answered b y p q → list_any (is_given m k) q.changes ≡ false
+pub answered_gives : (m : List ℕ) (k : ℕ) (b : Broker) (y : ℕ) (p : Packet) (q : Plan) → Answered b y p q → list_any (is_given m k) q.changes ≡ false
 answered_gives m k b y p q (Answered.Stale other) = refl
 answered_gives m k b y p q (Answered.Other at other) = refl
 answered_gives m k b y p q (Answered.Opened request name at is state) = refl
@@ -78,7 +78,7 @@ answered_gives m k b y p q (Answered.ClosedBefore request name at is state) = re
 answered_gives m k b y p q (Answered.Received id n i position at is pending) = refl
 answered_gives m k b y p q (Answered.ReceivedBefore id n position at is pending) = refl
 
-reads_gives : (m : List ℕ) (k : ℕ) (h : Site) (b : Broker) (y : ℕ) (q : Plan) → Reads h b y q → list_any (is_given m k) q.changes ≡ false
+pub reads_gives : (m : List ℕ) (k : ℕ) (h : Site) (b : Broker) (y : ℕ) (q : Plan) → Reads h b y q → list_any (is_given m k) q.changes ≡ false
 reads_gives m k h b y q Reads.NothingToRead = refl
 reads_gives m k h b y q (Reads.Forwards i e next out) = refl
 reads_gives m k h b y q (Reads.Skips i e next other) = refl
@@ -89,15 +89,15 @@ reads_gives m k h b y q (Reads.Completes i e id answer u u' next is heard) = ref
 reads_gives m k h b y q (Reads.CreatesAt i j e n remote next is named) = refl
 reads_gives m k h b y q (Reads.PassesOver i j e n remote v ws next is named after) = refl
 
-snaps_gives : (m : List ℕ) (k : ℕ) (h : Site) (b : Broker) (q : Plan) → Snaps h b q → list_any (is_given m k) q.changes ≡ false
+pub snaps_gives : (m : List ℕ) (k : ℕ) (h : Site) (b : Broker) (q : Plan) → Snaps h b q → list_any (is_given m k) q.changes ≡ false
 snaps_gives m k h b q Snaps.NothingToAsk = refl
 snaps_gives m k h b q (Snaps.Asks any none) = refl
 
-seeks_gives : (m : List ℕ) (k : ℕ) (h : Site) (b : Broker) (n : List ℕ) (to : Option Position) (q : Plan) → Seeks h b n to q → list_any (is_given m k) q.changes ≡ false
+pub seeks_gives : (m : List ℕ) (k : ℕ) (h : Site) (b : Broker) (n : List ℕ) (to : Option Position) (q : Plan) → Seeks h b n to q → list_any (is_given m k) q.changes ≡ false
 seeks_gives m k h b n to q Seeks.NothingToSeek = refl
 seeks_gives m k h b n to q (Seeks.SeeksTo v i ws named at after) = refl
 
-restart_gives : (m : List ℕ) (k : ℕ) → list_any (is_given m k) restart.changes ≡ false
+pub restart_gives : (m : List ℕ) (k : ℕ) → list_any (is_given m k) restart.changes ≡ false
 unfolding restart
 restart_gives m k = refl
 
@@ -133,13 +133,13 @@ gives_open m k s w p (Shape.Snap t x plan within snaps) g = absurd (unlike _ g (
 gives_open m k s w p (Shape.Seek t x n to plan within seeks) g = absurd (unlike _ g (seeks_gives m k _ _ _ to plan seeks))
 gives_open m k s w p (Shape.Restart t x within) g = absurd (unlike _ g (restart_gives m k))
 
-planned_open : (m : List ℕ) (k : ℕ) (s : Setup) (w : World) (t y : ℕ) (o : Option Planned) → HasShape s w o → gives s t y m k o ≡ true → IsOpen (topic_at s w t y) m k
+pub planned_open : (m : List ℕ) (k : ℕ) (s : Setup) (w : World) (t y : ℕ) (o : Option Planned) → HasShape s w o → gives s t y m k o ≡ true → IsOpen (topic_at s w t y) m k
 planned_open m k s w t y None shape g = absurd (false≢true g)
 planned_open m k s w t y (Some p) shape g =
     subst (λ (z : ℕ). IsOpen (broker_at w z) m k) (eqb-true _ _ (left (is_at s t y p) (list_any (is_given m k) p.plan.changes) g))
     (gives_open m k s w p shape (right (is_at s t y p) (list_any (is_given m k) p.plan.changes) g))
 
-passes_meant : (d meant : Bool) → meant ≡ true → (not d || meant) ≡ true
+pub passes_meant : (d meant : Bool) → meant ≡ true → (not d || meant) ≡ true
 passes_meant true meant h = h
 passes_meant false meant h = refl
 

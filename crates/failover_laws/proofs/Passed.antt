@@ -105,7 +105,7 @@ created per b n none = on_false (is_some (sub_named b.subs n)) b (made b n) (ap 
 
 -- ---- the plan at a broker
 
-abbrev acting : Site → Broker → ℕ → ℕ → List ℕ → ℕ → Option Subscription → Plan
+abbrev pub acting : Site → Broker → ℕ → ℕ → List ℕ → ℕ → Option Subscription → Plan
 acting h b a i n j o = handled a i (passing h b n (passed_over a 0 (j + 1) b.entries) o) (change.Acked n ∷ [])
 
 done_passes : (per : ℕ) (h : Site) (b : Broker) (a i : ℕ) (n : List ℕ) (j : ℕ) (o : Option Subscription) → sub_named b.subs n ≡ o → j < length b.entries
@@ -187,10 +187,10 @@ set_there [] k c i e at = absurd (none-some e at)
 set_there (x ∷ bs) zero c i e at = refl
 set_there (x ∷ bs) (suc k) c i e at = set_there bs k c i e at
 
-abbrev plans : ℕ → ℕ → Plan → Planned
+abbrev pub plans : ℕ → ℕ → Plan → Planned
 plans t y p = record { topic = t; cluster = y; takes = None; plan = p }
 
-planned_is : (s : Setup) (w : World) (t y a : ℕ) (n : List ℕ) (told : List ClusterPosition) (j : ℕ) (m : MayPass s w t y a n told j)
+pub planned_is : (s : Setup) (w : World) (t y a : ℕ) (n : List ℕ) (told : List ClusterPosition) (j : ℕ) (m : MayPass s w t y a n told j)
     → planned s w (event.Read t y a) ≡ Some (plans t y (acting (site s t y) (topic_at s w t y) a m.next.index n j (sub_named (topic_at s w t y).subs n)))
 unfolding planned
 planned_is s w t y a n told j m =

@@ -41,7 +41,7 @@ fated_takes m per b Acts lost q f l (Fated.Once p a) = f b p a
 fated_takes m per b Acts lost q f l Fated.Lost = l
 fated_takes m per b Acts lost q f l (Fated.Twice p p' a a') = none_both m p.writes p'.writes (f b p a) (f (done per b p) p' a')
 
-updates_take : (m : List ℕ) (h : Site) (b : Broker) (v : Subscription) (ws : List Write) → Updates h b v ws → list_any (takes_back m) ws ≡ false
+pub updates_take : (m : List ℕ) (h : Site) (b : Broker) (v : Subscription) (ws : List Write) → Updates h b v ws → list_any (takes_back m) ws ≡ false
 updates_take m h b v ws Updates.NoUpdate = refl
 updates_take m h b v ws (Updates.Update cut replicated passed) = refl
 
@@ -87,7 +87,7 @@ unfolding receipt
 receipt_takes m h b y f None = refl
 receipt_takes m h b y f (Some p) = fated_takes m h.per_ledger b (λ c. Answered c y p) (quiet_plan []) _ (λ c q a. answered_takes m c y p q a) refl (fate_answered h b y p f)
 
-not_both : (a b : Bool) → b ≡ false → not (a && b) ≡ true
+pub not_both : (a b : Bool) → b ≡ false → not (a && b) ≡ true
 not_both true true h = sym h
 not_both true false h = refl
 not_both false b h = refl
@@ -138,7 +138,7 @@ part_leaves k s t y n (Some p) h =
 abbrev pub Leaves : Setup → ℕ → ℕ → List ℕ → Event → Type 0
 Leaves s t y n e = (w : World) → leaves s t y n (planned s w e) ≡ true
 
-resets_leave : (s : Setup) (t y : ℕ) (n : List ℕ) (ps : List Pair) → Each (Leaves s t y n) (resets_of ps)
+pub resets_leave : (s : Setup) (t y : ℕ) (n : List ℕ) (ps : List Pair) → Each (Leaves s t y n) (resets_of ps)
 resets_leave s t y n [] = tt
 resets_leave s t y n (p ∷ ps) = (λ w. reset_leaves s t y n w p.topic p.source p.target, resets_leave s t y n ps)
 

@@ -35,7 +35,7 @@ use Rattle.failover_laws.proofs.AgainTraced.{CachedHere, Does, Traced, event_tra
 abbrev pub Known : Setup → World → Type 0
 Known s = Both (Knowing s) (AllWide s)
 
-known_kept : (s : Setup) → Named s → IsKept s (Known s)
+pub known_kept : (s : Setup) → Named s → IsKept s (Known s)
 known_kept s names =
     both_kept s (Knowing s) (AllWide s) (knowing_kept s names) (kept_over s (Knowing s) (Sized s) (AllWide s) (λ w h. h.0.0.0.0.0.sized) (wide_kept s))
 

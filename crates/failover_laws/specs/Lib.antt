@@ -4,3 +4,9 @@ pub mod Again
 pub mod Behind
 pub mod Run
 pub mod Got
+pub mod Drained
+pub mod Covers
+pub mod Switched
+pub mod Ended
+pub mod Procedure
+pub mod Room

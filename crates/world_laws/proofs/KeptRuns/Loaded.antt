@@ -130,7 +130,7 @@ unused_form zero columns = refl
 unused_form (suc rows) columns =
     ap (λ (r : List (List Packet)). r ∷ form (table rows columns)) (row_unused columns) ∙ ap (λ (W : Waits). map waiting (replicate columns no_link) ∷ W) (unused_form rows columns)
 
-unused_sound : (s : Setup) → IsSound (opening_world s).links
+pub unused_sound : (s : Setup) → IsSound (opening_world s).links
 unused_sound s (Forward n y) = table_has IsLinkSound (length s.topics * length s.clusters) (length s.clusters) n y (omega arith)
 unused_sound s (Back n y) = table_has IsLinkSound (length s.topics * length s.clusters) (length s.clusters) n y (omega arith)
 unused_sound s (ToBroker c x) = table_has IsLinkSound (length s.clients) (length s.clusters) c x (omega arith)

@@ -1,0 +1,4 @@
+-- The procedure of a planned move.
+pub mod NoMessages
+pub mod HandedOver
+pub mod HandedOn

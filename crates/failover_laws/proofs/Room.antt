@@ -1,0 +1,3 @@
+-- There is room for each subscription that a script names.
+pub mod Names
+pub mod RoomRuns
