@@ -2,3 +2,4 @@
 pub mod NoMessages
 pub mod HandedOver
 pub mod HandedOn
+pub mod InRuns

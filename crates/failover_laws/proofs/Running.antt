@@ -10,7 +10,7 @@ use Rattle.world_laws.proofs.Types.step
 use Rattle.world_laws.proofs.Types.write
 use Rattle.geo_base.specs.Broker.{Broker, Site}
 use Rattle.geo_base.specs.Forwarding.{closes, is_remote, receipt, reset, take_packet}
-use Rattle.geo_base.specs.Happening.{happens}
+use Rattle.geo_base.specs.Happening.{halts_planned, happens, stops}
 use Rattle.geo_base.specs.Link.{next_packet}
 use Rattle.geo_base.specs.Moments.{InRound, NotBegun, Resetting, Settling, settling_so_far}
 use Rattle.geo_base.specs.Plan.{Plan, done, quiet_plan}
@@ -138,7 +138,7 @@ part_leaves k s t y n (Some p) h =
 abbrev pub Leaves : Setup → ℕ → ℕ → List ℕ → Event → Type 0
 Leaves s t y n e = (w : World) → leaves s t y n (planned s w e) ≡ true
 
-pub resets_leave : (s : Setup) (t y : ℕ) (n : List ℕ) (ps : List Pair) → Each (Leaves s t y n) (resets_of ps)
+resets_leave : (s : Setup) (t y : ℕ) (n : List ℕ) (ps : List Pair) → Each (Leaves s t y n) (resets_of ps)
 resets_leave s t y n [] = tt
 resets_leave s t y n (p ∷ ps) = (λ w. reset_leaves s t y n w p.topic p.source p.target, resets_leave s t y n ps)
 
@@ -154,6 +154,14 @@ round_leaves s t y n (p ∷ ps) = (
 
 -- ---- the walk
 
+-- what happenings that leave n at y keep
+pub record IsKeptLeaving (s : Setup) (t y : ℕ) (n : List ℕ) (P : World → Type 0) : Type 0 where
+  pub event : (w : World) (e : Event) → leaves s t y n (planned s w e) ≡ true → P w → P (happens s w e)
+  pub halt : (w : World) (k : ℕ) (e : Event) → leaves_behind k s t y n (planned s w e) ≡ true → P w → P (halts_planned s w k (planned s w e))
+  pub stop : (w : World) → P w → P (stops s w)
+  pub idle : (w : World) (k : ℕ) → P w → P (record w { idle = k })
+  pub round : (w : World) (k : ℕ) → P w → P (record w { rounds = k })
+
 ended : (P : World → Type 0) (r : Ran) (w : World) (o : Option ℕ) → P r.world → P w → P (ends_or r w o).world
 ended P r w None p q = q
 ended P r w (Some k) p q = p
@@ -162,41 +170,67 @@ gone_on : (l : Limits) (P : World → Type 0) (r : Ran) (w : World) → P r.worl
 gone_on l P r w p q = on_if (λ (r' : Ran). P r'.world) (is_some r.ended) _ _ p (ended P r w (l w) p q)
 
 -- events of settling, one after another
-pub events_follow : (l : Limits) (s : Setup) (t y : ℕ) (n : List ℕ) (v : World) (r : Ran) (es : List Event) → Each (Leaves s t y n) es → Since s t y n v r.world
-    → Since s t y n v (all_settle l s r es).world
-events_follow l s t y n v r [] h p = p
-events_follow l s t y n v r (e ∷ es) h p =
-    events_follow l s t y n v (settles l s r e) es h.1 (gone_on l (Since s t y n v) r _ p (Idling (happens s r.world e) r.world.idle (AfterEvent r.world e (h.0 r.world) p)))
+events_keep : (l : Limits) (s : Setup) (t y : ℕ) (n : List ℕ) (P : World → Type 0) → IsKeptLeaving s t y n P → (r : Ran) (es : List Event) → Each (Leaves s t y n) es → P r.world
+    → P (all_settle l s r es).world
+events_keep l s t y n P k r [] h p = p
+events_keep l s t y n P k r (e ∷ es) h p =
+    events_keep l s t y n P k (settles l s r e) es h.1 (gone_on l P r _ p (k.idle (happens s r.world e) r.world.idle (k.event r.world e (h.0 r.world) p)))
 
-pub rounds_follow : (k : ℕ) (l : Limits) (s : Setup) (t y : ℕ) (n : List ℕ) (v : World) (r : Ran) → Since s t y n v r.world → Since s t y n v (rounds_of k l s r).world
-rounds_follow zero l s t y n v r h = h
-rounds_follow (suc k) l s t y n v r h =
+rounds_keep : (m : ℕ) (l : Limits) (s : Setup) (t y : ℕ) (n : List ℕ) (P : World → Type 0) → IsKeptLeaving s t y n P → (r : Ran) → P r.world → P (rounds_of m l s r).world
+rounds_keep zero l s t y n P k r h = h
+rounds_keep (suc m) l s t y n P k r h =
     let r' : Ran = all_settle l s r (round_of (pairs s)) in
-    let h' : Since s t y n v r'.world = events_follow l s t y n v r (round_of (pairs s)) (round_leaves s t y n (pairs s)) h in
-    on_elim (λ (q : Ran). Since s t y n v q.world) (is_some r'.ended || (r'.world.events == r.world.events)) r' (rounds_of k l s (counting_round r')) h'
-    (rounds_follow k l s t y n v (counting_round r') (AfterRound r'.world (r'.world.rounds + 1) h'))
+    let h' : P r'.world = events_keep l s t y n P k r (round_of (pairs s)) (round_leaves s t y n (pairs s)) h in
+    on_elim (λ (q : Ran). P q.world) (is_some r'.ended || (r'.world.events == r.world.events)) r' (rounds_of m l s (counting_round r')) h'
+    (rounds_keep m l s t y n P k (counting_round r') (k.round r'.world (r'.world.rounds + 1) h'))
 
-step_follows : (l : Limits) (s : Setup) (t y : ℕ) (n : List ℕ) (v : World) (r : Ran) (e : Step) → step_leaves s t y n r.world e ≡ true → Since s t y n v r.world → Since s t y n v (steps l s r e).world
+step_keeps : (l : Limits) (s : Setup) (t y : ℕ) (n : List ℕ) (P : World → Type 0) → IsKeptLeaving s t y n P → (r : Ran) (e : Step) → step_leaves s t y n r.world e ≡ true → P r.world
+    → P (steps l s r e).world
 unfolding steps settled_world
-step_follows l s t y n v r (step.Plain e) h p = gone_on l (Since s t y n v) r _ p (AfterEvent r.world e h p)
-step_follows l s t y n v r (step.Halt k e) h p = gone_on l (Since s t y n v) r _ p (AfterHalt r.world k e h p)
-step_follows l s t y n v r step.Settle h p =
-    rounds_follow (budget s r.world + 1) l s t y n v (all_settle l s r (resets_of (pairs s))) (events_follow l s t y n v r (resets_of (pairs s)) (resets_leave s t y n (pairs s)) p)
-step_follows l s t y n v r step.Stop h p = gone_on l (Since s t y n v) r _ p (AfterStop r.world p)
+step_keeps l s t y n P k r (step.Plain e) h p = gone_on l P r _ p (k.event r.world e h p)
+step_keeps l s t y n P k r (step.Halt j e) h p = gone_on l P r _ p (k.halt r.world j e h p)
+step_keeps l s t y n P k r step.Settle h p =
+    rounds_keep (budget s r.world + 1) l s t y n P k (all_settle l s r (resets_of (pairs s))) (events_keep l s t y n P k r (resets_of (pairs s)) (resets_leave s t y n (pairs s)) p)
+step_keeps l s t y n P k r step.Stop h p = gone_on l P r _ p (k.stop r.world p)
+
+pub all_keep : (l : Limits) (s : Setup) (t y : ℕ) (n : List ℕ) (P : World → Type 0) → IsKeptLeaving s t y n P → (r : Ran) (es : List Step) → AllLeave l s t y n r es → P r.world
+    → P (run_from l s r es).world
+all_keep l s t y n P k r [] h p = p
+all_keep l s t y n P k r (e ∷ es) h p = all_keep l s t y n P k (steps l s r e) es h.1 (step_keeps l s t y n P k r e h.0 p)
 
 -- as far as settling has come
-pub settling_follows : (l : Limits) (s : Setup) (t y : ℕ) (n : List ℕ) (v : World) (r : Ran) (at : Settling) → Since s t y n v r.world → Since s t y n v (settling_so_far l s r at).world
-settling_follows l s t y n v r NotBegun h = h
-settling_follows l s t y n v r (Resetting k) h =
-    events_follow l s t y n v r (take k (resets_of (pairs s))) (each_take (Leaves s t y n) k (resets_of (pairs s)) (resets_leave s t y n (pairs s))) h
-settling_follows l s t y n v r (InRound m k) h =
+pub settling_keeps : (l : Limits) (s : Setup) (t y : ℕ) (n : List ℕ) (P : World → Type 0) → IsKeptLeaving s t y n P → (r : Ran) (at : Settling) → P r.world → P (settling_so_far l s r at).world
+settling_keeps l s t y n P k r NotBegun h = h
+settling_keeps l s t y n P k r (Resetting j) h =
+    events_keep l s t y n P k r (take j (resets_of (pairs s))) (each_take (Leaves s t y n) j (resets_of (pairs s)) (resets_leave s t y n (pairs s))) h
+settling_keeps l s t y n P k r (InRound m j) h =
     let q = all_settle l s r (resets_of (pairs s)) in
-    events_follow l s t y n v (rounds_of m l s q) (take k (round_of (pairs s))) (each_take (Leaves s t y n) k (round_of (pairs s)) (round_leaves s t y n (pairs s)))
-    (rounds_follow m l s t y n v q (events_follow l s t y n v r (resets_of (pairs s)) (resets_leave s t y n (pairs s)) h))
+    events_keep l s t y n P k (rounds_of m l s q) (take j (round_of (pairs s))) (each_take (Leaves s t y n) j (round_of (pairs s)) (round_leaves s t y n (pairs s)))
+    (rounds_keep m l s t y n P k q (events_keep l s t y n P k r (resets_of (pairs s)) (resets_leave s t y n (pairs s)) h))
+
+-- ---- so what further steps lead to is what follows with n left
+
+since_goes_on : (s : Setup) (t y : ℕ) (n : List ℕ) (v : World) → IsKeptLeaving s t y n (Since s t y n v)
+since_goes_on s t y n v = record {
+  event = λ w e left p. AfterEvent w e left p;
+  halt = λ w k e left p. AfterHalt w k e left p;
+  stop = λ w p. AfterStop w p;
+  idle = λ w k p. Idling w k p;
+  round = λ w k p. AfterRound w k p;
+}
+
+pub events_follow : (l : Limits) (s : Setup) (t y : ℕ) (n : List ℕ) (v : World) (r : Ran) (es : List Event) → Each (Leaves s t y n) es → Since s t y n v r.world
+    → Since s t y n v (all_settle l s r es).world
+events_follow l s t y n v r es h p = events_keep l s t y n (Since s t y n v) (since_goes_on s t y n v) r es h p
+
+pub rounds_follow : (k : ℕ) (l : Limits) (s : Setup) (t y : ℕ) (n : List ℕ) (v : World) (r : Ran) → Since s t y n v r.world → Since s t y n v (rounds_of k l s r).world
+rounds_follow k l s t y n v r h = rounds_keep k l s t y n (Since s t y n v) (since_goes_on s t y n v) r h
+
+pub settling_follows : (l : Limits) (s : Setup) (t y : ℕ) (n : List ℕ) (v : World) (r : Ran) (at : Settling) → Since s t y n v r.world → Since s t y n v (settling_so_far l s r at).world
+settling_follows l s t y n v r at h = settling_keeps l s t y n (Since s t y n v) (since_goes_on s t y n v) r at h
 
 pub all_follow : (l : Limits) (s : Setup) (t y : ℕ) (n : List ℕ) (v : World) (r : Ran) (es : List Step) → AllLeave l s t y n r es → Since s t y n v r.world → Since s t y n v (run_from l s r es).world
-all_follow l s t y n v r [] h p = p
-all_follow l s t y n v r (e ∷ es) h p = all_follow l s t y n v (steps l s r e) es h.1 (step_follows l s t y n v r e h.0 p)
+all_follow l s t y n v r es h p = all_keep l s t y n (Since s t y n v) (since_goes_on s t y n v) r es h p
 
 pub run_follows : LawFollows
 run_follows l s t y n r es h = all_follow l s t y n r.world r es h Starting

@@ -10,3 +10,4 @@ pub mod Switched
 pub mod Ended
 pub mod Procedure
 pub mod Room
+pub mod Moves

@@ -135,7 +135,7 @@ has_snapped s scripted es t x lt small any short = record {
     w1_to_w : Grown s w1 w
     w1_to_w = grown_on s scripted w1 w from_1 one_to_w
 
-snapped : (s : Setup) → IsScripted s → (es : List Step) → IsSnapped s es
+pub snapped : (s : Setup) → IsScripted s → (es : List Step) → IsSnapped s es
 snapped s scripted es t x lt small any short = let h = has_snapped s scripted es t x lt small any short in (h.remote, h.asked)
 
 pub ended_law : LawEnded
