@@ -3,3 +3,4 @@ pub mod NoMessages
 pub mod HandedOver
 pub mod HandedOn
 pub mod InRuns
+mod Sharp

@@ -1,6 +1,6 @@
 -- Covers: a snapshot reaches, in each other cluster, over all that stood there when it was asked for, whoever stored it first (PIP-33 has
 -- each cluster answer a request with its last position). So its update lets a subscription pass over all that stood there then.
-use Rattle.std.specs.Prelude.{◌≡◌, ℕ, ◌+◌, ◌≤◌, true, List, length, Some}
+use Rattle.std.specs.Prelude.{◌≡◌, ℕ, ◌≤◌, true, List, length, Some}
 use Rattle.geo_base.specs.declared.entry.Entry.{Entry}
 use Rattle.geo_base.specs.declared.event.Event.{Event}
 use Rattle.geo_base.specs.declared.marker.ClusterPosition.{ClusterPosition}
@@ -34,10 +34,10 @@ pub record IsAskedSince (s : Setup) (v w : World) (t a : ℕ) (remote : List Clu
   pub asks : MarkerAt (topic_at s w t a) request a (marker.Request id (place.Known a))
   pub since : length (topic_at s v t a).entries ≤ request
 
--- the index that such places name at y is at or above all that stood at y in v
+-- the index that such places name at y is above all that stood at y in v
 abbrev pub Covers : Setup → World → World → Type 0
 Covers s v w = (t a y j : ℕ) (remote : List ClusterPosition) → ArePair s a y → IsAskedSince s v w t a remote
-    → only_index (topic_at s w t y).ledgers (positions_for y remote) ≡ Some j → length (topic_at s v t y).entries ≤ j + 1
+    → only_index (topic_at s w t y).ledgers (positions_for y remote) ≡ Some j → length (topic_at s v t y).entries ≤ j
 
 -- whatever event comes next, it gives no message that stood at y in v, and is meant for a, to a consumer of n at y
 abbrev pub NotOfThen : Setup → World → World → ℕ → ℕ → List ℕ → ℕ → Type 0

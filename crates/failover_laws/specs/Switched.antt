@@ -1,7 +1,7 @@
 -- Switched over: an update that came while all went on is acted on by the time that settling has brought all over, and then nothing that
 -- stood at the other cluster when its snapshot was asked for is given there again (own: PIP-33 tells a subscription's position to the
 -- other clusters, and leaves open when its consumers may be moved).
-use Rattle.std.specs.Prelude.{◌≡◌, ℕ, ◌+◌, ◌≤◌, true, false, List, [], ◌∷◌, ◌++◌, length, Some}
+use Rattle.std.specs.Prelude.{◌≡◌, ℕ, ◌≤◌, true, false, List, [], ◌∷◌, ◌++◌, length, Some}
 use Rattle.geo_base.specs.declared.entry.Entry.{Entry}
 use Rattle.geo_base.specs.declared.event.Event.{Event}
 use Rattle.geo_base.specs.declared.event.Step.TheVariants as step
@@ -62,12 +62,12 @@ abbrev pub LawActs : Type 0
 LawActs = (s : Setup) → IsScripted s → (v w : World) (t y a k : ℕ) (n : List ℕ) (told : List ClusterPosition) → ReachedFrom s (opening_world s) v → LeftFrom s t y n v w → IsShort w
     → ArePair s y a → HasRoomFrom s v t y n → (m : MarkerAt (topic_at s w t a) k a (marker.Update n told)) → IsUnread s v t y a m.entry → ActsBefore s w t y a n told m.entry
 
--- n is at y, and has every message that stood there in v and is meant for a: it has passed over an index at or above all of them (so what
+-- n is at y, and has every message that stood there in v and is meant for a: it has passed over an index above all of them (so what
 -- LawGot says of clients holds of it)
 pub record HasAllOf (s : Setup) (v w : World) (t y a : ℕ) (n : List ℕ) : Type 0 where
   pub index : ℕ
   pub passed : HasPassed (topic_at s w t y) n a index
-  pub high : length (topic_at s v t y).entries ≤ index + 1
+  pub high : length (topic_at s v t y).entries ≤ index
   pub sub : Subscription
   pub here : sub_named (topic_at s w t y).subs n ≡ Some sub
   pub all : (i : ℕ) (f : Entry) → IsEntry (topic_at s v t y) i f → is_data f.content ≡ true → meant_for a f ≡ true → has sub.cursor i ≡ true

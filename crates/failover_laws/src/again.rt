@@ -35,7 +35,8 @@ pub fn law_follows()
 /// there; and of the messages that the update's cluster stored first, an event gives such alone as that cluster stored behind the
 /// request of the snapshot whose update it was. So it is whatever event comes next, also inside settling, in the run of every list of
 /// steps from the opening world, and in a run that goes on from a world that is alike to where such a run came, as one that was kept;
-/// for every setup that a script can declare, where there is room for the subscription, in runs of fewer than 2^62 events.
+/// for every setup that a script can declare, where there is room for the subscription (`law_room`: in a script's run there is), in runs
+/// of fewer than 2^62 events.
 pub fn law_never_again()
     ensures { LawNeverAgain }
 {}

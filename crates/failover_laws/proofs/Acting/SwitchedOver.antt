@@ -1,6 +1,6 @@
--- So an update that came is acted on after a settling; and the index that it names is at or above all that stood at the other cluster
--- when its snapshot was asked for.
-use Rattle.std.proofs.Common.{◌≡◌, ◌+◌, ◌<◌, ◌≤◌, true, List, ◌∷◌, ◌++◌, length, sym, ap, subst, ◌∙◌, append_assoc, ◌==◌, arith, inl, inr, ℕ, []}
+-- So an update that came is acted on after a settling; and the index that it names is above all that stood at the other cluster when its
+-- snapshot was asked for.
+use Rattle.std.proofs.Common.{◌≡◌, ◌<◌, ◌≤◌, true, List, ◌∷◌, ◌++◌, length, sym, ap, subst, ◌∙◌, append_assoc, ◌==◌, arith, inl, inr, ℕ, []}
 use Rattle.std.specs.Prelude.{Option, Some, ◌||◌, is_some, nat_lt, slice_get}
 use Rattle.std.proofs.lemmas.Bool.{eq-eqb, false≢true, ltb-true}
 use Rattle.std.proofs.lemmas.Option.{same_Some, slice_get_within}
@@ -144,7 +144,7 @@ switched s scripted before after t y a k n told pair short asked m goes since le
         acts_on s v t y a n told m.entry
         (record { scripted = scripted; reached = from_v; topic = topic; pair = flip s a y pair; origin = m.origin; is = m.is; room = room; unread = unread }) z path short there.place there.is acked
 
-    -- the index that is named is at or above all that stood at y in v
+    -- the index that is named is above all that stood at y in v
     one : NamesOne s w t y n told
     one = names_stored s w t y a a k n told at_w topic pair pair.0 m
 
@@ -153,7 +153,7 @@ switched s scripted before after t y a k n told pair short asked m goes since le
         let kept = (w_grows t y (topic, pair.1)).index one.position one.index one.stored in
         same_Some _ _ (sym kept ∙ subst (λ (ps : List Position). only_index (topic_at s z t y).ledgers ps ≡ Some acted.index) one.one acted.names)
 
-    high : length (topic_at s v t y).entries ≤ one.index + 1
+    high : length (topic_at s v t y).entries ≤ one.index
     high = covers_run s scripted v w from_v to_w short_w t a y one.index told pair asked one.names
 
     have : HasAllOf s v z t y a n

@@ -1,13 +1,11 @@
--- An answer to a request stands above all that stood at its cluster when the request was made; so the place that it names is at or
--- above that.
-use Rattle.std.proofs.Common.{◌≡◌, ◌+◌, ◌-◌, ◌^◌, ◌<◌, ◌≤◌, true, List, length, sym, ap, subst, ◌∙◌, arith, inl, inr, ℕ}
+-- An answer to a request names a place at or above that of the request, which stands above all that stood at its cluster when it was made.
+use Rattle.std.proofs.Common.{◌≡◌, ◌-◌, ◌<◌, ◌≤◌, true, List, length, sym, ap, subst, ◌∙◌, arith, inl, inr, ℕ}
 use Rattle.std.specs.Prelude.{Some, None, nat_lt, slice_index_or}
 use Rattle.std.proofs.lemmas.Bool.{eq-eqb, false≢true, ltb-true}
 use Rattle.std.proofs.lemmas.Option.{same_Some, slice_get_within}
 use Rattle.world_laws.proofs.Types.{ClusterPosition, Entry, Position, Targets}
 use Rattle.world_laws.proofs.Types.marker
 use Rattle.world_laws.proofs.Types.place
-use Rattle.world_laws.proofs.Types.targets
 use Rattle.geo_base.specs.Broker.{Broker}
 use Rattle.geo_base.specs.Cache.{cut_of}
 use Rattle.geo_base.specs.Cuts.{CoversCluster, IsCut}
@@ -32,17 +30,17 @@ use Rattle.world_laws.proofs.TopicOrder.Order.{of_source}
 use Rattle.world_laws.proofs.Walks.Walk.{by_test, right}
 use Rattle.failover_laws.specs.Covers.{Covers, CoveredNotAgain, IsAskedSince, LawCovers}
 use Rattle.failover_laws.proofs.AgainTraced.{AnsweredWith, AskedFor}
-use Rattle.failover_laws.proofs.Behind.{absent, asked_at, begins, flip, one_bit}
+use Rattle.failover_laws.proofs.Behind.{absent, asked_at, begins, flip}
 use Rattle.failover_laws.proofs.Covers.Known.{fewer_before, grown_on, known_at, reached_then, Standing}
 use Rattle.failover_laws.proofs.Given.{not_again}
 use Rattle.failover_laws.proofs.Lasting.{since_keeps, still_passed}
 
--- an answer to a request of a that stands above all that stood at a in v stands above all that stood at y in v
-answered_since : (s : Setup) (v w : World) → Knows s v → Standing s w → Grown s v w → (t a y r l : ℕ) (id : List ℕ) (answer : ClusterPosition) (e : Entry) → t < length s.topics
-    → ArePair s a y → MarkerAt (topic_at s w t a) r a (marker.Request id (place.Known a)) → AnswerAt y (topic_at s w t y).entries l id answer e → e.to ≡ targets.Only (2 ^ a)
-    → length (topic_at s v t a).entries ≤ r → length (topic_at s v t y).entries ≤ l
-answered_since s v w kv h grown t a y r l id answer e lt pair request at to since =
-    elim (below_or l (length then_y.entries)) [
+-- a request of a that stands above all that stood at a in v stands above all that stood at y in v, too
+asked_since : (s : Setup) (v w : World) → Knows s v → Standing s w → Grown s v w → (t a y r i : ℕ) (id : List ℕ) → t < length s.topics → ArePair s a y
+    → MarkerAt (topic_at s w t a) r a (marker.Request id (place.Known a)) → RequestAt a (topic_at s w t y).entries i id → length (topic_at s v t a).entries ≤ r
+    → length (topic_at s v t y).entries ≤ i
+asked_since s v w kv h grown t a y r i id lt pair request asked since =
+    elim (below_or i (length then_y.entries)) [
       | inl less ↦ absurd (not_then less)
       | inr le ↦ le
     ]
@@ -56,28 +54,20 @@ answered_since s v w kv h grown t a y r l id answer e lt pair request at to sinc
     now_a : Broker
     now_a = topic_at s w t a
 
-    not_then : l < length then_y.entries → ⊥
+    not_then : i < length then_y.entries → ⊥
     not_then less =
-        let old = grown_old then_y.entries (topic_at s w t y).entries then_y.ledgers (topic_at s w t y).ledgers (grown t y (lt, pair.1)) l e less at.at in
-        let was : Answers (length s.clusters) y then_y.entries then_y.ledgers l id answer e = (kv.answers t y (lt, pair.1)).answers l id answer e (record { at = old; of = at.of; is = at.is }) in
-        let mine : was.asker ≡ a = one_bit a was.asker (sym was.to ∙ to) in
-        let asked : RequestAt a then_y.entries was.index id = subst (λ (z : ℕ). RequestAt z then_y.entries was.index id) mine was.request in
-        let source : Stands then_a.entries asked.entry = of_source a y then_a.entries then_y.entries (begins s v t a y kv pair) asked_index asked.entry asked.at asked.of in
+        let old = grown_old then_y.entries (topic_at s w t y).entries then_y.ledgers (topic_at s w t y).ledgers (grown t y (lt, pair.1)) i asked.entry less asked.at in
+        let source : Stands then_a.entries asked.entry = of_source a y then_a.entries then_y.entries (begins s v t a y kv pair) i asked.entry old asked.of in
         let within = slice_get_within then_a.entries source.place asked.entry source.is in
         let same : source.place ≡ r =
         (h.traced t a (lt, pair.0)).ids source.place r id
         (record { entry = asked.entry; at = grown_get then_a.entries now_a.entries then_a.ledgers now_a.ledgers (grown t a (lt, pair.0)) source.place asked.entry source.is; of = asked.of; asks = asked.asks })
         (asked_at a r now_a id request) in
         omega (arith, within, same, since)
-      where
-        asked_index : ℕ
-        asked_index =
-            let old = grown_old then_y.entries (topic_at s w t y).entries then_y.ledgers (topic_at s w t y).ledgers (grown t y (lt, pair.1)) l e less at.at in
-            ((kv.answers t y (lt, pair.1)).answers l id answer e (record { at = old; of = at.of; is = at.is })).index
 
--- so the place that a snapshot keeps of y is at or above that
+-- so the index of the place that a snapshot keeps of y is above all that: the answer names the entry before itself, and the request stands before it
 covered : (s : Setup) (v w : World) → Knows s v → Standing s w → Grown s v w → (t a y j : ℕ) (remote : List ClusterPosition) → t < length s.topics → ArePair s a y
-    → IsAskedSince s v w t a remote → only_index (topic_at s w t y).ledgers (positions_for y remote) ≡ Some j → length (topic_at s v t y).entries ≤ j + 1
+    → IsAskedSince s v w t a remote → only_index (topic_at s w t y).ledgers (positions_for y remote) ≡ Some j → length (topic_at s v t y).entries ≤ j
 covered s v w kv h grown t a y j remote lt pair q names = omega (arith, behind, last, below)
   where
     cut : IsCut s w t a (cut_of a (length s.clusters) q.local q.listed)
@@ -120,10 +110,11 @@ covered s v w kv h grown t a y j remote lt pair q names = omega (arith, behind, 
         let out = out_there a y near far from answered.index answered.entry answered.heard.at answered.heard.of in
         goes_only a is.asker (subst (λ (to : Targets). goes_to a to ≡ true) is.to (right (is_of y answered.entry) (goes_to a answered.entry.to) out))
 
-    behind : length (topic_at s v t y).entries ≤ there.place
-    behind =
-        answered_since s v w kv h grown t a y q.request there.place q.id answered.answer answered.entry lt pair q.asks at
-        (is.to ∙ ap (λ (z : ℕ). targets.Only (2 ^ z)) mine) q.since
+    request : RequestAt a near is.index q.id
+    request = subst (λ (z : ℕ). RequestAt z near is.index q.id) mine is.request
+
+    behind : length (topic_at s v t y).entries ≤ is.index
+    behind = asked_since s v w kv h grown t a y q.request is.index q.id lt pair q.asks request q.since
 
     last : there.place - 1 ≡ j
     last = same_Some _ _ (sym is.names ∙ ap (index_of (topic_at s w t y).ledgers) answered.names ∙ stored)

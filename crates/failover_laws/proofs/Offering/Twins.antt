@@ -1,5 +1,5 @@
 -- What follows one world follows each that is alike, so what is claimed of the one holds of the other.
-use Rattle.std.proofs.Common.{◌≡◌, ℕ, ◌+◌, ◌≤◌, true, List, length, refl, sym, ap, subst}
+use Rattle.std.proofs.Common.{◌≡◌, ℕ, ◌≤◌, true, List, length, refl, sym, ap, subst}
 use Rattle.std.specs.Prelude.{Option, Some}
 use Rattle.geo_base.specs.Broker.{Broker, sub_named}
 use Rattle.geo_base.specs.Happening.{halts_planned, happens, stops}
@@ -96,7 +96,7 @@ have_alike s v v' z z' t y x n av az h =
     let bv = same_at s v v' t y av in let bz = same_at s z z' t y az in record {
       index = h.index;
       passed = subst (λ (b : Broker). HasPassed b n x h.index) bz h.passed;
-      high = subst (λ (b : Broker). length b.entries ≤ h.index + 1) bv h.high;
+      high = subst (λ (b : Broker). length b.entries ≤ h.index) bv h.high;
       sub = h.sub;
       here = subst (λ (b : Broker). sub_named b.subs n ≡ Some h.sub) bz h.here;
       all = λ i f at. h.all i f (subst (λ (b : Broker). IsEntry b i f) (sym bv) at);
