@@ -1,7 +1,6 @@
 -- What a get adds to what a client got is the message of the packet that it takes.
 use Rattle.std.proofs.Common.{◌≡◌, ℕ, ◌+◌, ◌<◌, Bool, true, false, List, [], ◌∷◌, ◌++◌, length, refl, sym, ap, subst, ◌∙◌, ◌==◌, arith, append_assoc}
 use Rattle.std.specs.Prelude.{Option, Some, None, if◌then◌else◌, slice_get}
-use Rattle.std.specs.List.{list_any}
 use Rattle.std.proofs.lemmas.Bool.{eqb-true, ltb-true}
 use Rattle.std.proofs.lemmas.List.{get_or-set_same}
 use Rattle.std.proofs.lemmas.Option.{same_Some}
@@ -12,7 +11,7 @@ use Rattle.world_laws.proofs.Types.place
 use Rattle.geo_base.specs.Broker.{Broker}
 use Rattle.geo_base.specs.Client.{Acted, Client, new_client}
 use Rattle.geo_base.specs.Entry.{with_origin}
-use Rattle.geo_base.specs.Getting.{answered, get, got_frame, is_duplicate, is_number, publishes, received, with_error, with_receipt}
+use Rattle.geo_base.specs.Getting.{get, got_frame, is_duplicate, is_number, received, with_error, with_receipt}
 use Rattle.geo_base.specs.Happening.{client_acted, client_does, happens, idles}
 use Rattle.geo_base.specs.Link.{next_packet}
 use Rattle.geo_base.specs.Laws.{begun}
@@ -27,8 +26,9 @@ use Rattle.world_laws.specs.Starts.{resumed_world}
 use Rattle.world_laws.proofs.Induction.Reaching.{goes_on as reached_on, reached_has}
 use Rattle.world_laws.proofs.KeptRuns.ResumedRuns.{run_parts}
 use Rattle.world_laws.proofs.Dispatching.SubFrames.{each_at_place}
-use Rattle.world_laws.proofs.Walks.Walk.{on_false, on_if, on_test, on_true}
+use Rattle.world_laws.proofs.Walks.Walk.{on_false, on_test, on_true}
 use Rattle.world_laws.specs.SubLines.{IsSubLine}
+use Rattle.world_laws.proofs.Published.GotMessages.{SameGot, answered_got, receipt_got}
 use Rattle.failover_laws.specs.Got.{CameTo, GetsBehind, IsNeverGotAgain, LawGot}
 use Rattle.failover_laws.specs.Run.{IsNeverAgain}
 use Rattle.failover_laws.specs.Since.{Since}
@@ -74,16 +74,6 @@ pub record IsGot (k : Client) (f : Frame) (ident : Ident) : Type 0 where
   pub same : ident ≡ (with_origin origin entry).ident
 
 -- what adds nothing
-record SameGot (k j : Client) : Type 0 where
-  is : j.got ≡ k.got
-
-answered_got : (d : Declared) (k : Client) (n : ℕ) (counted : Client) → SameGot k counted → SameGot k (answered d k n counted)
-answered_got d k n counted h = on_if (SameGot k) (list_any (publishes d n) k.unanswered) _ _ (record { is = h.is }) (record { is = refl })
-
-receipt_got : (k : Client) (t : Bool) → SameGot k (with_receipt k t)
-receipt_got k true = record { is = refl }
-receipt_got k false = record { is = refl }
-
 none_got : {X : Type 0} (k j : Client) (i : Ident) → SameGot k j → j.got ≡ k.got ++ i ∷ [] → X
 none_got k j i h is = absurd (not_longer k.got i (sym h.is ∙ is))
 

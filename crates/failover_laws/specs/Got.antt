@@ -1,6 +1,5 @@
 -- What a client gets behind a move: the messages that the got lines of a report name.
-use Rattle.std.specs.Prelude.{◌≡◌, ℕ, ◌<◌, ◌⊎◌, false, List, [], ◌∷◌, ◌++◌, Option, Some, None, slice_get}
-use Rattle.geo_base.specs.declared.client.Line.{Line}
+use Rattle.std.specs.Prelude.{◌≡◌, ℕ, ◌<◌, ◌⊎◌, false, List, [], ◌∷◌, ◌++◌, Some}
 use Rattle.geo_base.specs.declared.entry.Entry.{Entry}
 use Rattle.geo_base.specs.declared.entry.Ident.{Ident}
 use Rattle.geo_base.specs.declared.event.Event.TheVariants as event
@@ -13,7 +12,7 @@ use Rattle.geo_base.specs.Moments.{Settling}
 use Rattle.geo_base.specs.Run.{no_limits, run, run_from}
 use Rattle.geo_base.specs.Safe.{IsEntry}
 use Rattle.geo_base.specs.Scripted.{IsScripted}
-use Rattle.geo_base.specs.Setup.{Declared, Setup, declared_at}
+use Rattle.geo_base.specs.Setup.{Setup, declared_at}
 use Rattle.geo_base.specs.World.{World, client_at, opening_world, topic_at}
 use Rattle.world_laws.specs.AlikeWorlds.{AreAlike, world_on}
 use Rattle.world_laws.specs.Reached.{ReachedFrom}

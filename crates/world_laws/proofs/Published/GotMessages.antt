@@ -40,13 +40,13 @@ source_known y x e from = by (e.ident.origin == y) refl from
     by false is from = ap (λ (z : ℕ). (with_origin z e).ident) (sym (ap known_origin (same_Some _ _ from)))
 
 -- what adds nothing
-record SameGot (k j : Client) : Type 0 where
-  is : j.got ≡ k.got
+pub record SameGot (k j : Client) : Type 0 where
+  pub is : j.got ≡ k.got
 
-answered_got : (d : Declared) (k : Client) (n : ℕ) (counted : Client) → SameGot k counted → SameGot k (answered d k n counted)
+pub answered_got : (d : Declared) (k : Client) (n : ℕ) (counted : Client) → SameGot k counted → SameGot k (answered d k n counted)
 answered_got d k n counted h = on_if (SameGot k) (list_any (publishes d n) k.unanswered) _ _ (record { is = h.is }) (record { is = refl })
 
-receipt_got : (k : Client) (t : Bool) → SameGot k (with_receipt k t)
+pub receipt_got : (k : Client) (t : Bool) → SameGot k (with_receipt k t)
 receipt_got k true = record { is = refl }
 receipt_got k false = record { is = refl }
 
