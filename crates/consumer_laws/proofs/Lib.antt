@@ -8,3 +8,5 @@ pub mod Clients
 pub mod Worlds
 -- Runs: what is handed out so far, and the laws.
 pub mod Runs
+-- A subscription that is sought or deleted everywhere begins anew.
+pub mod Fences

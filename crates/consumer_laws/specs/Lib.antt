@@ -3,3 +3,4 @@ pub mod Handed
 pub mod InOrder
 pub mod Got
 pub mod Laws
+pub mod Anew

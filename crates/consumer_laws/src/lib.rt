@@ -4,6 +4,8 @@
 //! the definitions, and its proof stands in `proofs/`.
 #![tactic(auto)]
 
+pub mod anew;
 pub mod handed;
 
+pub use anew::law_anew;
 pub use handed::{law_handed, law_still_handed};

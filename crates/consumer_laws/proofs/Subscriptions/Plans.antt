@@ -203,7 +203,7 @@ altered_done mine es num sent per b n kind replicated k v os made apart named fr
         (λ is. (subst (λ (x : Subscription). SubFact mine es num sent (alter x)) (sym (f.1 is)) (alter_fact mine es num sent kind replicated v free (subst (SubFact mine es num sent) (f.1 is) f.0)), λ e. refl))
         (λ other. (f.0, λ e. absurd (false≢true (sym other ∙ subst (λ (m : List ℕ). bytes_eq u.name m ≡ true) (sym (named_n b n v named)) e))))
 
-none_named : (vs : List Subscription) (n : List ℕ) → sub_named vs n ≡ None → Each (λ (u : Subscription). bytes_eq u.name n ≡ false) vs
+pub none_named : (vs : List Subscription) (n : List ℕ) → sub_named vs n ≡ None → Each (λ (u : Subscription). bytes_eq u.name n ≡ false) vs
 none_named [] n h = tt
 none_named (v ∷ vs) n h = by (bytes_eq v.name n) refl h (none_named vs n)
   where
