@@ -6,7 +6,7 @@ use geo_base::limits::SUBSCRIPTIONS;
 use script_text::Scenario;
 
 /// How many topics a scenario has.
-#[tactic(auto, using(world_laws::proofs::FewNodes::few_topics))]
+#[tactic(auto, using(world_laws::proofs::Merges::FewNodes::few_topics))]
 pub fn topic_count(scenario: &Scenario) -> u32
     ensures { result ≡ length scenario.now.setup.topics }
 {
@@ -14,7 +14,7 @@ pub fn topic_count(scenario: &Scenario) -> u32
 }
 
 /// How many clusters it has.
-#[tactic(auto, using(world_laws::proofs::FewNodes::few_clusters))]
+#[tactic(auto, using(world_laws::proofs::Merges::FewNodes::few_clusters))]
 pub fn cluster_count(scenario: &Scenario) -> u32
     ensures { result ≡ length scenario.now.setup.clusters }
 {
@@ -22,7 +22,7 @@ pub fn cluster_count(scenario: &Scenario) -> u32
 }
 
 /// How many clients it has.
-#[tactic(auto, using(world_laws::proofs::FewNodes::few_clients))]
+#[tactic(auto, using(world_laws::proofs::Merges::FewNodes::few_clients))]
 pub fn client_count(scenario: &Scenario) -> u32
     ensures { result ≡ length scenario.now.setup.clients }
 {
@@ -52,7 +52,7 @@ fn has_sub(scenario: &Scenario, topic: u32, sub: u32) -> bool
 }
 
 /// The topic of a client.
-#[tactic(auto, using(world_laws::proofs::FewNodes::topic_there))]
+#[tactic(auto, using(world_laws::proofs::Merges::FewNodes::topic_there))]
 pub fn topic_of(scenario: &Scenario, client: u32) -> u32
     requires { client < length scenario.now.setup.clients }
     ensures topic { result ≡ (declared_at scenario.now.setup client).topic }

@@ -6,7 +6,7 @@ use crate::counts::{client_count, cluster_count, topic_count};
 use script_text::Scenario;
 
 /// How many brokers a scenario has: one of each topic at each cluster.
-#[tactic(auto, using(world_laws::proofs::FewNodes::few_brokers))]
+#[tactic(auto, using(world_laws::proofs::Merges::FewNodes::few_brokers))]
 pub fn broker_count(scenario: &Scenario) -> u32
     ensures { result ≡ broker_count scenario.now.setup }
 {
@@ -15,7 +15,7 @@ pub fn broker_count(scenario: &Scenario) -> u32
 }
 
 /// How many nodes a scenario has: its brokers and its clients.
-#[tactic(auto, using(world_laws::proofs::FewNodes::few_brokers, world_laws::proofs::FewNodes::few_clients))]
+#[tactic(auto, using(world_laws::proofs::Merges::FewNodes::few_brokers, world_laws::proofs::Merges::FewNodes::few_clients))]
 pub fn node_count(scenario: &Scenario) -> u32
     ensures { result ≡ node_count scenario.now.setup }
 {
@@ -24,7 +24,7 @@ pub fn node_count(scenario: &Scenario) -> u32
 }
 
 /// The number of the broker of a topic at a cluster.
-#[tactic(auto, using(world_laws::proofs::FewNodes::broker_fits))]
+#[tactic(auto, using(world_laws::proofs::Merges::FewNodes::broker_fits))]
 pub fn broker_number(scenario: &Scenario, topic: u32, cluster: u32) -> usize
     ensures { result ≡ node_number scenario.now.setup (BrokerNode topic cluster) }
 {

@@ -56,7 +56,7 @@ impl NodeRings {
 
     /// The ends of the broker of a topic at a cluster: of the links to and from the topic's brokers at the other clusters, and then
     /// its clients. An `Err` is want of memory.
-    #[tactic(auto, using(world_laws::proofs::FewNodes::broker_there))]
+    #[tactic(auto, using(world_laws::proofs::Merges::FewNodes::broker_there))]
     pub fn broker(
         &mut self,
         alloc: Global,
@@ -78,7 +78,7 @@ impl NodeRings {
     }
 
     /// Links a broker with those of its topic at the other clusters.
-    #[tactic(auto, using(crate::proofs::Links::no_brokers, crate::proofs::Links::brokers_done, world_laws::proofs::FewNodes::broker_there))]
+    #[tactic(auto, using(crate::proofs::Links::no_brokers, crate::proofs::Links::brokers_done, world_laws::proofs::Merges::FewNodes::broker_there))]
     fn link_brokers(
         &mut self,
         alloc: Global,
@@ -179,7 +179,7 @@ impl NodeRings {
     }
 
     /// Links a broker with the next client, where that is of its topic.
-    #[tactic(auto, using(crate::proofs::Links::clients_next, crate::proofs::Links::clients_same, world_laws::proofs::FewNodes::client_there))]
+    #[tactic(auto, using(crate::proofs::Links::clients_next, crate::proofs::Links::clients_same, world_laws::proofs::Merges::FewNodes::client_there))]
     fn link_client(
         &mut self,
         alloc: Global,
@@ -211,7 +211,7 @@ impl NodeRings {
     }
 
     /// The ends of a client: of the links to and from its topic's brokers. An `Err` is want of memory.
-    #[tactic(auto, using(crate::proofs::Links::no_sites, crate::proofs::Links::sites_done, world_laws::proofs::FewNodes::broker_there, world_laws::proofs::FewNodes::client_there))]
+    #[tactic(auto, using(crate::proofs::Links::no_sites, crate::proofs::Links::sites_done, world_laws::proofs::Merges::FewNodes::broker_there, world_laws::proofs::Merges::FewNodes::client_there))]
     pub fn client(
         &mut self,
         alloc: Global,

@@ -327,7 +327,7 @@ fn merged(alloc: Global, scenario: &Arc<Scenario>, books: &[Book<'_>]) -> Result
 }
 
 /// How many nodes a scenario has.
-#[tactic(auto, using(merge_history::proofs::FewNodes::few_nodes, world_laws::proofs::FewNodes::few_brokers))]
+#[tactic(auto, using(merge_history::proofs::FewNodes::few_nodes, world_laws::proofs::Merges::FewNodes::few_brokers))]
 fn nodes_of(scenario: &Scenario) -> usize
     ensures { result ≡ node_count scenario.now.setup }
 {

@@ -9,7 +9,7 @@ use script_text::Scenario;
 use std::alloc::Global;
 
 /// The layout of a scenario.
-#[tactic(auto, using(world_laws::proofs::FewNodes::few_brokers, crate::proofs::FewNodes::is_layout))]
+#[tactic(auto, using(world_laws::proofs::Merges::FewNodes::few_brokers, crate::proofs::FewNodes::is_layout))]
 pub(crate) fn layout_of(alloc: Global, scenario: &Scenario) -> Result<Layout, Memory>
     ensures layout { IfOk result (λ l. l ≡ layout_of scenario.now.setup) }
     ensures known { OnOk result (IsScripted scenario.now.setup) }

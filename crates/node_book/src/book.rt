@@ -119,7 +119,7 @@ fn broker_number(scenario: &Scenario, topic: u32, cluster: u32) -> u32
 }
 
 /// The number of a client among all nodes.
-#[tactic(auto, using(world_laws::proofs::FewNodes::few_brokers))]
+#[tactic(auto, using(world_laws::proofs::Merges::FewNodes::few_brokers))]
 fn client_number(scenario: &Scenario, client: u32) -> u32
     requires { client < length scenario.now.setup.clients }
     ensures { result ≡ broker_count scenario.now.setup + client }
