@@ -15,12 +15,12 @@ use Rattle.geo_base.specs.World.{Forward, World, link_at, node, topic_at}
 
 -- RESIDENCY
 
--- what stands at y was stored there first, or its list names y
+-- what stands at y was stored there first, or goes there: its list is empty, which means all clusters, or names y
 abbrev pub OnlyMeant : Setup → World → Type 0
 OnlyMeant s w = (t y i : ℕ) (e : Entry) → y < length s.clusters → IsEntry (topic_at s w t y) i e → meant_for y e ≡ true
 
--- and what was ever sent on the forward link from x to y, taken or not, is an entry that stands at x, which x stored first, and whose list
--- names y
+-- and what was ever sent on the forward link from x to y, taken or not, is an entry that stands at x, which x stored first, and which goes
+-- to y
 abbrev pub OnlySent : Setup → World → Type 0
 OnlySent s w = (t x y i : ℕ) (p : Packet) (id seq : ℕ) (source : Option Place) (e : Entry) → t < length s.topics → ArePair s x y
     → slice_get (link_at w.links (Forward (node s t x) y)).sent i ≡ Some p → p.frame ≡ frame.Send id seq source e

@@ -2,9 +2,9 @@
 ghost use Rattle.world_laws.specs.InRun.{LawInRun};
 ghost use Rattle.world_laws.specs.Residency.{LawMarked, LawResident};
 
-/// What stands at a cluster was stored there first, or its list names the cluster. What was ever sent on the forward link
-/// from x to y, taken or not, is an entry that stands at x, which x stored first, and whose list names y. At the same moments
-/// as `law_prefix`, for every setup and every list of steps.
+/// What stands at a cluster was stored there first, or its list is empty or names the cluster. What was ever sent on the
+/// forward link from x to y, taken or not, is an entry that stands at x, which x stored first, and whose list is empty or
+/// names y. At the same moments as `law_prefix`, for every setup and every list of steps.
 pub fn law_resident()
     ensures always { LawResident }
 {}
