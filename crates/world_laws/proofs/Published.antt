@@ -16,3 +16,16 @@ pub mod ReceiptCounts
 pub mod PaidReceipts
 pub mod ClientCounts
 pub mod CountedLaw
+pub mod InTurn
+pub mod TurnHands
+pub mod TurnConnects
+pub mod TurnLines
+pub mod TurnAsides
+pub mod TurnServes
+pub mod ClientCells
+pub mod TurnCore
+pub mod TurnShapes
+pub mod TurnEvents
+pub mod TurnHalts
+pub mod TurnActs
+pub mod RepeatedLaw

@@ -12,6 +12,7 @@ use Rattle.geo_base.specs.declared.position.Position.{Position}
 use Rattle.geo_base.specs.Broker.{Broker}
 use Rattle.geo_base.specs.Client.{new_client, published}
 use Rattle.geo_base.specs.Entry.{is_data, same_stream}
+use Rattle.geo_base.specs.Getting.{seq_of}
 use Rattle.geo_base.specs.Laws.{Always}
 use Rattle.geo_base.specs.Offering.{source_of}
 use Rattle.geo_base.specs.Position.{nowhere, same_position}
@@ -153,3 +154,23 @@ FewReceipts s w = (c : ℕ) → c < length s.clients → let d = declared_at s c
 
 abbrev pub LawCounted : Type 0
 LawCounted = (s : Setup) → IsScripted s → Always s (λ w settled. FewReceipts s w)
+
+-- WHAT A DUPLICATE'S RECEIPT MEANS WHERE IDS RISE
+
+-- the sequence ids of a client's pub lines rise from line to line
+abbrev pub PubsRise : Declared → Type 0
+PubsRise d = (i j m n : ℕ) → i < j → seq_of (slice_get d.lines i) ≡ Some m → seq_of (slice_get d.lines j) ≡ Some n → m < n
+
+-- no publish of it was ever refused: no SEND_ERROR came from its cluster
+abbrev pub NoneRefused : Setup → World → ℕ → Type 0
+NoneRefused s w c = (i : ℕ) (p : Packet) (id seq code : ℕ) → slice_get (link_at w.links (ToClient c (declared_at s c).cluster)).sent i ≡ Some p
+    → p.frame ≡ frame.SendError id seq code → ⊥
+
+-- each SEND_RECEIPT that such a client was ever sent from its cluster, -1:-1 too, is of a message that stands there
+abbrev pub RepeatsStand : Setup → World → Type 0
+RepeatsStand s w = (c i : ℕ) (p : Packet) (id seq : ℕ) (o : Option Position) → c < length s.clients → PubsRise (declared_at s c) → NoneRefused s w c
+    → let d = declared_at s c in slice_get (link_at w.links (ToClient c d.cluster)).sent i ≡ Some p → p.frame ≡ frame.SendReceipt id seq o
+    → (q : Position) × StandsAt (topic_at s w d.topic d.cluster) (ident_of d seq) q
+
+abbrev pub LawRepeated : Type 0
+LawRepeated = (s : Setup) → IsScripted s → Always s (λ w settled. RepeatsStand s w)

@@ -20,7 +20,7 @@ pub mod topics;
 pub use histories::{law_alike, law_merge};
 pub use links::{law_fits, law_plain};
 pub use numbers::{law_markers, law_numbers, law_reached};
-pub use publishing::{law_answered, law_counted, law_published};
+pub use publishing::{law_answered, law_counted, law_published, law_repeated};
 pub use replication::{law_prefix, law_receipt};
 pub use residency::{law_in_run, law_marked, law_resident};
 pub use resuming::law_resumed;

@@ -1,5 +1,5 @@
 //! What is published, stored, receipted and got.
-ghost use Rattle.world_laws.specs.Publishing.{LawAnswered, LawCounted, LawPublished};
+ghost use Rattle.world_laws.specs.Publishing.{LawAnswered, LawCounted, LawPublished, LawRepeated};
 
 /// Each message that stands anywhere is that of a `pub` line of a client of its topic, declared at the cluster that the
 /// message names as its origin: producer, sequence id, list, key and text, and nothing else. Each SEND_RECEIPT that a client
@@ -23,4 +23,11 @@ pub fn law_answered()
 /// `law_published`.
 pub fn law_counted()
     ensures always { LawCounted }
+{}
+
+/// Of a client whose `pub` lines rise in their sequence ids, and to which its cluster never sent a SEND_ERROR: each
+/// SEND_RECEIPT that it was ever sent from there, one of -1:-1 too, is of a message that stands there. At the same moments as
+/// `law_published`.
+pub fn law_repeated()
+    ensures always { LawRepeated }
 {}

@@ -17,7 +17,7 @@ pub fn law_marked()
 {}
 
 /// In the run of any steps of a setup all this holds always: `law_prefix`, `law_receipt`, `law_resident` and `law_marked`, and
-/// `law_published`, `law_answered` and `law_counted` where a script can declare the setup.
+/// `law_published`, `law_answered`, `law_counted` and `law_repeated` where a script can declare the setup.
 pub fn law_in_run()
     ensures { LawInRun }
 {}

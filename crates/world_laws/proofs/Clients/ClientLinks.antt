@@ -76,7 +76,7 @@ one_up s t x (peer.Back z) l ls = refl
 one_up s t x (peer.Broker z) l ls = refl
 one_up s t x (peer.Client z) l ls = refl
 
-broker_up : (s : Setup) (t x stamp : ℕ) (os : List Out) (ls : Links) → (delivered (from_broker s t x) stamp os ls).to_broker ≡ ls.to_broker
+pub broker_up : (s : Setup) (t x stamp : ℕ) (os : List Out) (ls : Links) → (delivered (from_broker s t x) stamp os ls).to_broker ≡ ls.to_broker
 broker_up s t x stamp [] ls = refl
 broker_up s t x stamp (o ∷ os) ls = broker_up s t x stamp os _ ∙ one_up s t x o.to (sent_on (link_at ls (from_broker s t x o.to)) (stamped stamp o)) ls
 

@@ -112,7 +112,7 @@ NamedFrame f = Unit {0}
 abbrev pub FromClients : World → Type 0
 FromClients w = (c x : ℕ) → Each (λ (p : Packet). NamedFrame p.frame) (link_at w.links (ToBroker c x)).sent
 
-no_name : (n : List ℕ) → is_name n ≡ true → bytes_eq n marker_producer ≡ false
+pub no_name : (n : List ℕ) → is_name n ≡ true → bytes_eq n marker_producer ≡ false
 no_name n named =
     by_test (bytes_eq n marker_producer)
     (λ same. let is : n ≡ marker_producer = (bytes_eq-Decides n marker_producer).0 same in absurd (false≢true (subst (λ (m : List ℕ). is_name m ≡ true) is named)))

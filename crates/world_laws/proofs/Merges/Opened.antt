@@ -25,7 +25,7 @@ use Rattle.world_laws.proofs.Merges.NodeEvents.{Fits}
 use Rattle.world_laws.proofs.Merges.Roles.{Role, opening_role}
 use Rattle.world_laws.proofs.Walks.Walk.{left, right}
 
-table_has : (rows columns i j : ℕ) → i < rows → j < columns → HasCell (table rows columns) i j
+pub table_has : (rows columns i j : ℕ) → i < rows → j < columns → HasCell (table rows columns) i j
 table_has rows columns i j lt lt' = record {
   row = let e = length-replicate rows (replicate columns no_link) in omega (arith, e, lt);
   column =

@@ -23,7 +23,7 @@ use Rattle.world_laws.proofs.Snapshotting.Grows.{Lengthened}
 use Rattle.world_laws.proofs.Walks.Walk.{on_if}
 
 -- the first publish of a sequence id is no more awaited; each other one still is
-still_or_first : (d : Declared) (is : List ℕ) (n i : ℕ) → is_awaited i is ≡ true → (is_awaited i (without_seq d is n) ≡ true) ⊎ (publishes d n i ≡ true)
+pub still_or_first : (d : Declared) (is : List ℕ) (n i : ℕ) → is_awaited i is ≡ true → (is_awaited i (without_seq d is n) ≡ true) ⊎ (publishes d n i ≡ true)
 still_or_first d [] n i h = absurd (false≢true h)
 still_or_first d (j ∷ is) n i h = by (publishes d n j) refl (j == i) refl (still_or_first d is n i) h
   where
@@ -121,7 +121,7 @@ reconnect_awaits s d b k h = h
 -- ---- what comes
 
 -- a sequence id is that of the line
-its_seq : (d : Declared) (n i seq : ℕ) → publishes d n i ≡ true → seq_of (slice_get d.lines i) ≡ Some seq → seq ≡ n
+pub its_seq : (d : Declared) (n i seq : ℕ) → publishes d n i ≡ true → seq_of (slice_get d.lines i) ≡ Some seq → seq ≡ n
 its_seq d n i seq h is = eqb-true seq n (subst (λ (o : Option ℕ). is_number n o ≡ true) is h)
 
 -- an answer to sequence id n, after which these are the counts

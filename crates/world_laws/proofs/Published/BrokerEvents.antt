@@ -34,7 +34,7 @@ use Rattle.world_laws.proofs.Walks.Shapes.{Shape}
 use Rattle.world_laws.proofs.Walks.Walk.{on_if}
 
 -- what an event sends holds
-event_receipts : (s : Setup) (w : World) (p : Planned) → IsScripted s → Shape s w p → Chained s w → ReceiptsOut s p.topic p.cluster (done s.per_ledger (topic_at s w p.topic p.cluster) p.plan) p.plan.sent
+pub event_receipts : (s : Setup) (w : World) (p : Planned) → IsScripted s → Shape s w p → Chained s w → ReceiptsOut s p.topic p.cluster (done s.per_ledger (topic_at s w p.topic p.cluster) p.plan) p.plan.sent
 event_receipts s w p scripted shape h =
     shape_receipts s w p shape (λ c x. (h.clients c).up x)
     (λ c lt topic. numbered_at s w p.topic p.cluster h.ground

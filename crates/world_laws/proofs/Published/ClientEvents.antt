@@ -95,7 +95,7 @@ chained_client s w z takes a acts ground meets h = by a.idle refl
 
 -- ---- each event of a client
 
-good_lines : (s : Setup) (c : ℕ) → IsScripted s → c < length s.clients → stays_or_is_silent (declared_at s c).lines ≡ true
+pub good_lines : (s : Setup) (c : ℕ) → IsScripted s → c < length s.clients → stays_or_is_silent (declared_at s c).lines ≡ true
 good_lines s c scripted lt =
     let all : is_declared s (declared_at s c) ≡ true = all_index (is_declared s) s.clients c nobody scripted.clients.0 lt in right _ _ all
 

@@ -57,7 +57,7 @@ any_at p xs i x at h = list_any_at p xs i x (slice_get_within xs i x at) (ap p (
 by_both : (a b : Bool) → not (a && b) ≡ true → a ≡ true → b ≡ false
 by_both a b h k = grind (arith, h, k)
 
-some_home : (d : Declared) (k : Client) → stays_or_is_silent d.lines ≡ true → IsHome d k → (list_any is_produce d.lines ≡ false → ⊥) → k.cluster ≡ d.cluster
+pub some_home : (d : Declared) (k : Client) → stays_or_is_silent d.lines ≡ true → IsHome d k → (list_any is_produce d.lines ≡ false → ⊥) → k.cluster ≡ d.cluster
 some_home d k ok h talks = h.stays (by_both (list_any is_produce d.lines) (list_any is_move d.lines) ok (by (list_any is_produce d.lines) refl))
   where
     by : (b : Bool) → list_any is_produce d.lines ≡ b → list_any is_produce d.lines ≡ true
@@ -137,7 +137,7 @@ ends_home s d k f q h =
     (record { home = record { stays = h.stays; silent = h.silent; produce = h.produce; sub = tt; flow = tt }; sent = (quiet_home s d k.cluster f q, tt); got = refl })
     (stays_home s d k h)
 
-some_none : {X : Type 0} (o : Option X) → is_some o ≡ true → o ≡ None → ⊥
+pub some_none : {X : Type 0} (o : Option X) → is_some o ≡ true → o ≡ None → ⊥
 some_none o some none = false≢true (sym (ap is_some none) ∙ some)
 
 line_home : (s : Setup) (d : Declared) (k : Client) (l : Option Line) → stays_or_is_silent d.lines ≡ true → slice_get d.lines k.done ≡ l → IsHome d k → ActsHome s d k (go_line s d k l)

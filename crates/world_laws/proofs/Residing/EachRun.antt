@@ -1,12 +1,13 @@
 -- Always, and so always in each run.
 use Rattle.geo_base.specs.Laws.{IsPrefix, IsReceived}
 use Rattle.world_laws.specs.InRun.{LawInRun}
-use Rattle.world_laws.specs.Publishing.{AllAnswered, FewReceipts, IsChain}
+use Rattle.world_laws.specs.Publishing.{AllAnswered, FewReceipts, IsChain, RepeatsStand}
 use Rattle.world_laws.specs.Residency.{IsMarked, IsResident}
 use Rattle.world_laws.proofs.Induction.Runs.{always_in}
 use Rattle.world_laws.proofs.Published.AnsweredLaw.{answered_always}
 use Rattle.world_laws.proofs.Published.CountedLaw.{counted_always}
 use Rattle.world_laws.proofs.Published.PublishedLaw.{published_always}
+use Rattle.world_laws.proofs.Published.RepeatedLaw.{repeated_always}
 use Rattle.world_laws.proofs.Replicating.Pairs.{prefix_always, receipt_always}
 use Rattle.world_laws.proofs.Residing.Marked.{marked_always}
 use Rattle.world_laws.proofs.Residing.Resident.{resident_always}
@@ -20,4 +21,5 @@ in_each_run s es = record {
   chain = λ scripted. always_in s es (λ w settled. IsChain s w) (published_always s scripted);
   answered = λ scripted. always_in s es (λ w settled. AllAnswered s w) (answered_always s scripted);
   counted = λ scripted. always_in s es (λ w settled. FewReceipts s w) (counted_always s scripted);
+  repeated = λ scripted. always_in s es (λ w settled. RepeatsStand s w) (repeated_always s scripted);
 }
