@@ -10,3 +10,5 @@ pub mod Worlds
 pub mod Runs
 -- A subscription that is sought or deleted everywhere begins anew.
 pub mod Fences
+-- What is sent to one consumer rises.
+pub mod Rising

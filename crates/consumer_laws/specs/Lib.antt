@@ -4,3 +4,4 @@ pub mod InOrder
 pub mod Got
 pub mod Laws
 pub mod Anew
+pub mod Rising

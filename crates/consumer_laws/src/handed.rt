@@ -1,6 +1,7 @@
 //! What is handed out: a cursor passes nothing that nobody was given, and where one consumer at a time is served, nothing comes before
 //! what stands before it.
 ghost use Rattle.consumer_laws.specs.Laws.{LawHanded, LawStillHanded};
+ghost use Rattle.consumer_laws.specs.Rising.{LawRising};
 
 /// Nothing is skipped unseen. Each message that the cursor of a subscription has, at whatever cluster, is handed out on that subscription
 /// by then: some client took it by a get while its sub line in force named the subscription, at whatever cluster; or it was passed over
@@ -25,4 +26,12 @@ pub fn law_handed()
 /// file is; what the other steps handed out counts.
 pub fn law_still_handed()
     ensures { LawStillHanded }
+{}
+
+/// Of two messages that were ever sent on a client's link from a cluster, in one session, to the consumer of one of its lines, of kind
+/// Exclusive or Failover, the later one stands at the greater index of the topic there: so on one connection such a consumer gets each
+/// message once at most, and in the order of the topic. Between any two events of every run, also of one that a limit ends and inside
+/// settling, for every setup that a script can declare, in worlds of fewer than 2^62 events.
+pub fn law_rising()
+    ensures { LawRising }
 {}

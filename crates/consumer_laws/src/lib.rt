@@ -8,4 +8,4 @@ pub mod anew;
 pub mod handed;
 
 pub use anew::law_anew;
-pub use handed::{law_handed, law_still_handed};
+pub use handed::{law_handed, law_rising, law_still_handed};

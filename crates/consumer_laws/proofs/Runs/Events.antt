@@ -48,7 +48,7 @@ pub record HandedOver (s : Setup) (told : SettledSoFar) (w : World) : Type 0 whe
   pub hands : IsShort w → Hands s told w
   pub remembers : Remembering w
 
-around : (s : Setup) (told more : SettledSoFar) (w : World) → Includes told more → ToldOver s more w → HandedOver s told w → IsShort w → Around s more w
+pub around : (s : Setup) (told more : SettledSoFar) (w : World) → Includes told more → ToldOver s more w → HandedOver s told w → IsShort w → Around s more w
 around s told more w inc over h short = record { hands = hands_more s told more w inc (h.hands short); now = told_now s more w over short; remembers = h.remembers }
 
 skipping_after : (s : Setup) (told : SettledSoFar) (w : World) (e : Event) → Includes (Skipping s told w e) (after_event (handing s) told w e)

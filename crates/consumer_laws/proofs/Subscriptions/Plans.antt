@@ -36,10 +36,28 @@ EasyWrite (write.Alter n kind replicated) = ⊥
 EasyWrite (write.Create n kind replicated latest) = ⊥
 EasyWrite w = Unit {0}
 
-named_fact : (F : Subscription → Type 0) (n : List ℕ) (f : Subscription → Subscription) (v : Subscription) → (F v → F (f v)) → F v → F (at_name n f v)
+-- a write that creates nothing, changes no kind and seeks nowhere
+abbrev pub CalmWrite : Write → Type 0
+CalmWrite (write.Alter n kind replicated) = ⊥
+CalmWrite (write.Create n kind replicated latest) = ⊥
+CalmWrite (write.Seek n i) = ⊥
+CalmWrite w = Unit {0}
+
+pub calm_easy : (w : Write) → CalmWrite w → EasyWrite w
+calm_easy (write.Alter n kind replicated) h = absurd h
+calm_easy (write.Create n kind replicated latest) h = absurd h
+calm_easy (write.Seek n i) h = absurd h
+calm_easy (write.Append e) h = tt
+calm_easy (write.Delete n) h = tt
+calm_easy (write.Acks n is) h = tt
+calm_easy (write.SenderAck y i) h = tt
+calm_easy (write.SessionNumber y n) h = tt
+calm_easy write.Ledger h = tt
+
+pub named_fact : (F : Subscription → Type 0) (n : List ℕ) (f : Subscription → Subscription) (v : Subscription) → (F v → F (f v)) → F v → F (at_name n f v)
 named_fact F n f v k h = on_if F (bytes_eq v.name n) (f v) v (k h) h
 
-easy_written : (mine : Makes) (es : List Entry) (num : ℕ → ℕ) (sent : ℕ → List Packet) (v : Subscription) (w : Write) → EasyWrite w → SubFact mine es num sent v
+pub easy_written : (mine : Makes) (es : List Entry) (num : ℕ → ℕ) (sent : ℕ → List Packet) (v : Subscription) (w : Write) → EasyWrite w → SubFact mine es num sent v
     → SubFact mine es num sent (sub_written v w)
 easy_written mine es num sent v (write.Alter n kind replicated) e h = absurd e
 easy_written mine es num sent v (write.Create n kind replicated latest) e h = absurd e
@@ -53,12 +71,12 @@ easy_written mine es num sent v (write.SenderAck y i) e h = h
 easy_written mine es num sent v (write.SessionNumber y n) e h = h
 easy_written mine es num sent v write.Ledger e h = h
 
-easy_after : (mine : Makes) (es : List Entry) (num : ℕ → ℕ) (sent : ℕ → List Packet) (v : Subscription) (ws : List Write) → Each EasyWrite ws → SubFact mine es num sent v
+pub easy_after : (mine : Makes) (es : List Entry) (num : ℕ → ℕ) (sent : ℕ → List Packet) (v : Subscription) (ws : List Write) → Each EasyWrite ws → SubFact mine es num sent v
     → SubFact mine es num sent (sub_after v ws)
 easy_after mine es num sent v [] e h = h
 easy_after mine es num sent v (w ∷ ws) e h = easy_after mine es num sent (sub_written v w) ws e.1 (easy_written mine es num sent v w e.0 h)
 
-easy_changed : (mine : Makes) (es : List Entry) (num : ℕ → ℕ) (sent : ℕ → List Packet) (v : Subscription) (ch : Change) → EasyChange ch → SubFact mine es num sent v
+pub easy_changed : (mine : Makes) (es : List Entry) (num : ℕ → ℕ) (sent : ℕ → List Packet) (v : Subscription) (ch : Change) → EasyChange ch → SubFact mine es num sent v
     → SubFact mine es num sent (sub_changed v ch)
 easy_changed mine es num sent v (change.Attach n k) e h = absurd e
 easy_changed mine es num sent v (change.Given n i at) e h = absurd e
@@ -79,7 +97,7 @@ easy_changed mine es num sent v (change.ReadTo y i) e h = h
 easy_changed mine es num sent v (change.Unpend y n) e h = h
 easy_changed mine es num sent v (change.Building u) e h = h
 
-easy_then : (mine : Makes) (es : List Entry) (num : ℕ → ℕ) (sent : ℕ → List Packet) (v : Subscription) (cs : List Change) → Each EasyChange cs → SubFact mine es num sent v
+pub easy_then : (mine : Makes) (es : List Entry) (num : ℕ → ℕ) (sent : ℕ → List Packet) (v : Subscription) (cs : List Change) → Each EasyChange cs → SubFact mine es num sent v
     → SubFact mine es num sent (sub_then v cs)
 easy_then mine es num sent v [] e h = h
 easy_then mine es num sent v (c ∷ cs) e h = easy_then mine es num sent (sub_changed v c) cs e.1 (easy_changed mine es num sent v c e.0 h)
@@ -88,7 +106,7 @@ pub record IsEasy (p : Plan) : Type 0 where
   pub writes : Each EasyWrite p.writes
   pub changes : Each EasyChange p.changes
 
-easy_creates : (ws : List Write) → Each EasyWrite ws → Each CreatesNone ws
+pub easy_creates : (ws : List Write) → Each EasyWrite ws → Each CreatesNone ws
 easy_creates [] h = tt
 easy_creates (write.Alter n kind replicated ∷ ws) h = absurd h.0
 easy_creates (write.Create n kind replicated latest ∷ ws) h = absurd h.0
@@ -107,7 +125,7 @@ easy_done mine es num sent per b p e h =
     (λ v f. easy_then mine es num sent (sub_after v p.writes) p.changes e.changes (easy_after mine es num sent v p.writes e.writes f)) h
 
 -- a new subscription has nobody
-new_fact : (mine : Makes) (es : List Entry) (num : ℕ → ℕ) (sent : ℕ → List Packet) (n : List ℕ) (kind : SubKind) (replicated : Bool) (cursor : List ℕ)
+pub new_fact : (mine : Makes) (es : List Entry) (num : ℕ → ℕ) (sent : ℕ → List Packet) (n : List ℕ) (kind : SubKind) (replicated : Bool) (cursor : List ℕ)
     → SubFact mine es num sent (new_subscription n kind replicated cursor)
 new_fact mine es num sent n kind replicated cursor = record { consumers = tt; out = tt }
 
@@ -157,7 +175,7 @@ none_out mine es num sent v P none h =
     each_map (OutFact es num sent v.kind v.consumers) P
     (λ o f. absurd (false≢true (subst (λ (ks : List Consumer). list_any (is_of o.client) ks ≡ true) none f.attached))) v.out h.out
 
-alter_fact : (mine : Makes) (es : List Entry) (num : ℕ → ℕ) (sent : ℕ → List Packet) (kind : SubKind) (replicated : Bool) (v : Subscription) → Free kind v → SubFact mine es num sent v
+pub alter_fact : (mine : Makes) (es : List Entry) (num : ℕ → ℕ) (sent : ℕ → List Packet) (kind : SubKind) (replicated : Bool) (v : Subscription) → Free kind v → SubFact mine es num sent v
     → SubFact mine es num sent (record v { kind = kind; replicated = replicated })
 alter_fact mine es num sent kind replicated v (Free.Nobody none) h = record {
   consumers = subst (λ (ks : List Consumer). Each (IsMade mine v.name kind) ks) (sym none) tt;
@@ -169,7 +187,7 @@ alter_fact mine es num sent kind replicated v (Free.OneKind same) h = record {
 }
 
 -- the subscription that a name finds has that name
-named_n : (b : Broker) (n : List ℕ) (v : Subscription) → sub_named b.subs n ≡ Some v → v.name ≡ n
+pub named_n : (b : Broker) (n : List ℕ) (v : Subscription) → sub_named b.subs n ≡ Some v → v.name ≡ n
 named_n b n v named = (bytes_eq-Decides v.name n).0 (named_is b.subs n v named)
 
 pub joined_done : (mine : Makes) (es : List Entry) (num : ℕ → ℕ) (sent : ℕ → List Packet) (per : ℕ) (b : Broker) (n : List ℕ) (kind : SubKind) (k : Consumer) (v : Subscription) (os : List Out)
@@ -250,7 +268,7 @@ written_sessions : (per : ℕ) (b : Broker) (w : Write) → (written per b w).se
 written_sessions per b (write.Create n kind replicated latest) = on_if (λ (c : Broker). c.sessions ≡ b.sessions) (is_some (sub_named b.subs n)) _ _ refl refl
 written_sessions per b w = refl
 
-all_written_sessions : (per : ℕ) (b : Broker) (ws : List Write) → (all_written per b ws).sessions ≡ b.sessions
+pub all_written_sessions : (per : ℕ) (b : Broker) (ws : List Write) → (all_written per b ws).sessions ≡ b.sessions
 all_written_sessions per b [] = refl
 all_written_sessions per b (w ∷ ws) = all_written_sessions per (written per b w) ws ∙ written_sessions per b w
 
@@ -260,7 +278,7 @@ changed_sessions b change.Forget k = absurd k
 changed_sessions b (change.Attach n x) k = refl
 changed_sessions b ch k = refl
 
-all_changed_sessions : (b : Broker) (cs : List Change) → Each KeepsSessions cs → (all_changed b cs).sessions ≡ b.sessions
+pub all_changed_sessions : (b : Broker) (cs : List Change) → Each KeepsSessions cs → (all_changed b cs).sessions ≡ b.sessions
 all_changed_sessions b [] k = refl
 all_changed_sessions b (c ∷ cs) k = all_changed_sessions (changed b c) cs k.1 ∙ changed_sessions b c k.0
 

@@ -20,11 +20,11 @@ use Rattle.geo_base.specs.Updating.{passed_over}
 use Rattle.geo_base.specs.Link.{next_packet}
 use Rattle.geo_base.specs.Offering.{message}
 use Rattle.geo_base.specs.World.{ToBroker, World, link_at, site, topic_at}
-use Rattle.world_laws.proofs.Replicating.Effects.{Each, each_both}
+use Rattle.world_laws.proofs.Replicating.Effects.{Each, each_both, each_map}
 use Rattle.world_laws.proofs.Walks.Shapes.{Answered, Fated, IsLeastDue, Offers, Reads, Seeks, Served, Shape, Snaps, Taken, Updates}
 use Rattle.world_laws.proofs.Dispatching.SubFrames.{AllSubs, NamesApart}
 use Rattle.world_laws.proofs.Walks.Walk.{left}
-use Rattle.consumer_laws.proofs.Subscriptions.Plans.{EasyChange, EasyWrite, KeepsSessions, altered_done, created_done, easy_done, forgotten_numbers, free_is, gave_done, joined_done, kept_numbers, left_numbers, made_done, numbers, producer_numbers}
+use Rattle.consumer_laws.proofs.Subscriptions.Plans.{CalmWrite, EasyChange, EasyWrite, KeepsSessions, altered_done, calm_easy, created_done, easy_done, forgotten_numbers, free_is, gave_done, joined_done, kept_numbers, left_numbers, made_done, numbers, producer_numbers}
 use Rattle.consumer_laws.proofs.Subscriptions.WhatIsOut.{GivenTo, Makes, SameNumbers, SubFact, kind_is}
 
 -- what a plan leaves: the facts in the sessions before, and as many sessions of those to whom something is out
@@ -39,7 +39,7 @@ easy : (mine : Makes) (es : List Entry) (sent : ℕ → List Packet) (per : ℕ)
     → Before mine es sent b → HeadsDone mine es sent per b p
 easy mine es sent per b p ws cs ks h = record { facts = easy_done mine es (numbers b) sent per b p (record { writes = ws; changes = cs }) h; numbers_same = kept_numbers per b p ks }
 
-updates_easy : (h : Site) (b : Broker) (v : Subscription) (ws : List Write) → Updates h b v ws → Each EasyWrite ws
+pub updates_easy : (h : Site) (b : Broker) (v : Subscription) (ws : List Write) → Updates h b v ws → Each EasyWrite ws
 updates_easy h b v ws Updates.NoUpdate = tt
 updates_easy h b v ws (Updates.Update cut replicated passed) = (tt, tt)
 
@@ -85,11 +85,11 @@ served_heads mine es sent per h b c p q (Served.ClosesConsumer s id request v at
 
 -- plans that touch no subscription and no session
 pub record IsApart (p : Plan) : Type 0 where
-  pub writes : Each EasyWrite p.writes
+  pub writes : Each CalmWrite p.writes
   pub changes : Each EasyChange p.changes
   pub sessions : Each KeepsSessions p.changes
 
-taken_apart : (h : Site) (b : Broker) (x : ℕ) (p : Packet) (q : Plan) → Taken h b x p q → IsApart q
+pub taken_apart : (h : Site) (b : Broker) (x : ℕ) (p : Packet) (q : Plan) → Taken h b x p q → IsApart q
 taken_apart h b x p q (Taken.Unreadable is) = record { writes = tt; changes = (tt, tt); sessions = (tt, tt) }
 taken_apart h b x p q (Taken.Opens topic id request name is opening) = record { writes = tt; changes = (tt, tt); sessions = (tt, tt) }
 taken_apart h b x p q (Taken.Discards other shut) = record { writes = tt; changes = tt; sessions = tt }
@@ -97,7 +97,7 @@ taken_apart h b x p q (Taken.Refuses other at may) = record { writes = tt; chang
 taken_apart h b x p q (Taken.Stores id seq source e is at may new) = record { writes = (tt, tt); changes = tt; sessions = tt }
 taken_apart h b x p q (Taken.Repeats id seq source e is at may old) = record { writes = tt; changes = tt; sessions = tt }
 
-answered_apart : (b : Broker) (y : ℕ) (p : Packet) (q : Plan) → Answered b y p q → IsApart q
+pub answered_apart : (b : Broker) (y : ℕ) (p : Packet) (q : Plan) → Answered b y p q → IsApart q
 answered_apart b y p q (Answered.Stale other) = record { writes = tt; changes = tt; sessions = tt }
 answered_apart b y p q (Answered.Other at other) = record { writes = tt; changes = tt; sessions = tt }
 answered_apart b y p q (Answered.Opened request name at is state) = record { writes = tt; changes = (tt, tt); sessions = (tt, tt) }
@@ -106,19 +106,19 @@ answered_apart b y p q (Answered.ClosedBefore request name at is state) = record
 answered_apart b y p q (Answered.Received id n i position at is pending) = record { writes = (tt, tt); changes = (tt, tt); sessions = (tt, tt) }
 answered_apart b y p q (Answered.ReceivedBefore id n position at is pending) = record { writes = tt; changes = tt; sessions = tt }
 
-fated_apart : (per : ℕ) (b : Broker) (Acts : Broker → Plan → Type 0) (lost q : Plan) → ((c : Broker) (p : Plan) → Acts c p → IsApart p) → IsApart lost → Fated per b Acts lost q → IsApart q
+pub fated_apart : (per : ℕ) (b : Broker) (Acts : Broker → Plan → Type 0) (lost q : Plan) → ((c : Broker) (p : Plan) → Acts c p → IsApart p) → IsApart lost → Fated per b Acts lost q → IsApart q
 fated_apart per b Acts lost q f l (Fated.Once p a) = f b p a
 fated_apart per b Acts lost q f l Fated.Lost = l
 fated_apart per b Acts lost q f l (Fated.Twice p p' a a') =
     let one = f b p a in let two = f (done per b p) p' a' in
     record {
-      writes = each_both EasyWrite p.writes p'.writes one.writes two.writes;
+      writes = each_both CalmWrite p.writes p'.writes one.writes two.writes;
       changes = each_both EasyChange p.changes p'.changes one.changes two.changes;
       sessions = each_both KeepsSessions p.changes p'.changes one.sessions two.sessions;
     }
 
 apart_heads : (mine : Makes) (es : List Entry) (sent : ℕ → List Packet) (per : ℕ) (b : Broker) (q : Plan) → IsApart q → Before mine es sent b → HeadsDone mine es sent per b q
-apart_heads mine es sent per b q a f = easy mine es sent per b q a.writes a.changes a.sessions f
+apart_heads mine es sent per b q a f = easy mine es sent per b q (each_map CalmWrite EasyWrite (λ w c. calm_easy w c) q.writes a.writes) a.changes a.sessions f
 
 reads_heads : (mine : Makes) (es : List Entry) (sent : ℕ → List Packet) (per : ℕ) (h : Site) (b : Broker) (y : ℕ) (q : Plan) → Reads h b y q → Before mine es sent b → HeadsDone mine es sent per b q
 reads_heads mine es sent per h b y q Reads.NothingToRead f = easy mine es sent per b q tt tt tt f

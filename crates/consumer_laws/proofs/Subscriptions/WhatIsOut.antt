@@ -246,7 +246,7 @@ served_head es num sent sub_kind.Failover ks at o one is h = subst (λ (a : ℕ)
     by (k ∷ js) g = g
 
 -- the consumers who are served keep who made them
-served_made : (mine : Makes) (n : List ℕ) (kind : SubKind) (ks : List Consumer) (at : ℕ) → 0 < (consumer_at ks at).permits → Each (IsMade mine n kind) ks → Each (IsMade mine n kind) (served kind ks at)
+pub served_made : (mine : Makes) (n : List ℕ) (kind : SubKind) (ks : List Consumer) (at : ℕ) → 0 < (consumer_at ks at).permits → Each (IsMade mine n kind) ks → Each (IsMade mine n kind) (served kind ks at)
 served_made mine n kind ks at permit h = served_own kind
   where
     P : Consumer → Type 0

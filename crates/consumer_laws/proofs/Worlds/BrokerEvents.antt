@@ -60,7 +60,7 @@ pub record Around (s : Setup) (told : SettledSoFar) (w : World) : Type 0 where
   pub remembers : Remembering w
 
 -- a topic that is not there has no subscription
-sub_there : (s : Setup) (w : World) (t x : ℕ) (n : List ℕ) (v : Subscription) → Knows s w → sub_named (topic_at s w t x).subs n ≡ Some v → t < length s.topics
+pub sub_there : (s : Setup) (w : World) (t x : ℕ) (n : List ℕ) (v : Subscription) → Knows s w → sub_named (topic_at s w t x).subs n ≡ Some v → t < length s.topics
 sub_there s w t x n v k named =
     elim (below_or t (length s.topics)) [
       | inl lt ↦ lt
@@ -68,7 +68,7 @@ sub_there s w t x n v k named =
     ]
 
 -- what the broker knows when it gives
-may_give : (s : Setup) (told : SettledSoFar) (w : World) (t x : ℕ) (n : List ℕ) (v : Subscription) (i at : ℕ) (e : Entry) → Around s told w → IsThere s t x
+pub may_give : (s : Setup) (told : SettledSoFar) (w : World) (t x : ℕ) (n : List ℕ) (v : Subscription) (i at : ℕ) (e : Entry) → Around s told w → IsThere s t x
     → sub_named (topic_at s w t x).subs n ≡ Some v → least_due v (length (topic_at s w t x).entries) ≡ Some i → IsEntry (topic_at s w t x) i e
     → pick v.kind v.consumers (key_bytes e.meta.key) ≡ Some at → MayGive s told w t x (topic_at s w t x) v i at e
 may_give s told w t x n v i at e a there named due stands picked =
@@ -138,7 +138,7 @@ acts_push s told w t y c x stamp m p a lt (Acts.Giving n v i at e named least la
 -- ---- an event that is done
 
 -- the links behind it
-abbrev DoneLinks : Setup → World → Planned → ℕ → Links
+abbrev pub DoneLinks : Setup → World → Planned → ℕ → Links
 DoneLinks s w p stamp = taken_from p.takes (delivered (from_broker s p.topic p.cluster) stamp p.plan.sent w.links)
 
 link_done : (s : Setup) (told : SettledSoFar) (w : World) (p : Planned) (stamp c x : ℕ) → Shape s w p → p.plan.idle ≡ false → Around s told w → IsThere s (declared_at s c).topic x
@@ -160,7 +160,7 @@ any_pushes c x y stamp session id e (o ∷ os) = (by o.to, any_pushes c x y stam
     by (peer.Back z) = tt
     by (peer.Broker z) = tt
 
-sent_stays : (s : Setup) (w : World) (p : Planned) (stamp c x session id : ℕ) (e : Entry) → NotDown p.takes → Carried (SentDown w.links c x) session id e
+pub sent_stays : (s : Setup) (w : World) (p : Planned) (stamp c x session id : ℕ) (e : Entry) → NotDown p.takes → Carried (SentDown w.links c x) session id e
     → Carried (SentDown (DoneLinks s w p stamp) c x) session id e
 sent_stays s w p stamp c x session id e off h =
     subst (λ (m : List (List Link)). Carried (cell m c x).sent session id e) (sym (not_down p.takes (delivered (from_broker s p.topic p.cluster) stamp p.plan.sent w.links) off))
@@ -180,7 +180,7 @@ subs_grow s w t es es' num num' sent sent' vs es_grow sent_grow same h =
     (λ v f e. fact_grows (MadeBy s w t) (MadeBy s w t) es es' num num' sent sent' (same_grows s w t es es' num num' sent sent' es_grow sent_grow) v e f) vs h same
 
 -- who subscribes was made so
-up_joins : (s : Setup) (told : SettledSoFar) (w : World) (t y : ℕ) → Hands s told w → IsThere s t y → (x c : ℕ) (q : Packet) → t ≡ (declared_at s c).topic → y ≡ x
+pub up_joins : (s : Setup) (told : SettledSoFar) (w : World) (t y : ℕ) → Hands s told w → IsThere s t y → (x c : ℕ) (q : Packet) → t ≡ (declared_at s c).topic → y ≡ x
     → next_packet (link_at w.links (ToBroker c x)) ≡ Some q → Joins (MadeBy s w t) c q
 up_joins s told w t y h there x c q topic here next name n kind id request consumer earliest replicated is =
     let d = declared_at s c in let k = client_at s w c in
@@ -189,7 +189,7 @@ up_joins s told w t y h there x c q topic here next name n kind id request consu
     let made = subst (UpFact told d.topic (topic_at s w d.topic x) d k.done q.session) is fact in (sym topic, made.0, made.1)
 
 -- what is given was sent
-gives_there : (s : Setup) (told : SettledSoFar) (w : World) (p : Planned) (stamp : ℕ) → Around s told w → NotDown p.takes → IsThere s p.topic p.cluster
+pub gives_there : (s : Setup) (told : SettledSoFar) (w : World) (p : Planned) (stamp : ℕ) → Around s told w → NotDown p.takes → IsThere s p.topic p.cluster
     → GivesSent (topic_at s w p.topic p.cluster).entries (λ c. SentDown (DoneLinks s w p stamp) c p.cluster) (site s p.topic p.cluster) (topic_at s w p.topic p.cluster) p.plan
 gives_there s told w p stamp a off there n v i at e due picked is =
     let b = topic_at s w p.topic p.cluster in let k = consumer_at v.consumers at in let h = site s p.topic p.cluster in
@@ -204,7 +204,7 @@ gives_there s told w p stamp a off there n v i at e due picked is =
           (one_carried s p.topic p.cluster stamp i h b e k w.links refl has));
     }
 
-done_lengthens : (per : ℕ) (b : Broker) (p : Plan) → Numbered b.entries b.ledgers → Lengthened b (done per b p)
+pub done_lengthens : (per : ℕ) (b : Broker) (p : Plan) → Numbered b.entries b.ledgers → Lengthened b (done per b p)
 done_lengthens per b p numbered =
     let c = all_written per b p.writes in let d = done per b p in
     subst (λ (ls : List ℕ). Stays b.entries d.entries b.ledgers ls) (sym (all_changed_ledgers c p.changes))
