@@ -2,21 +2,21 @@
 use Rattle.std.proofs.Common.{◌≡◌, ℕ, ◌<◌, ◌≤◌, Bool, true, false, List, [], take, length, refl, ap, subst, sym, ◌∙◌, inl, inr, arith, if◌then◌else◌}
 use Rattle.std.proofs.lemmas.Bool.{lt-ltb, ltb-true}
 use Rattle.std.proofs.lemmas.Bool.Decides.{nat_tests}
-use Rattle.std.specs.Prelude.{Option, Some, None, Result, Ok, Err, IsOkAnd, nat_lt}
+use Rattle.std.specs.Prelude.{Option, Some, None, Result, Ok, Err, IfOk, IsOkAnd, nat_lt}
+use Rattle.geo_base.specs.declared.memory.Memory.{Memory}
 use Rattle.geo_io.specs.Faults.{Rose, Stood}
 use Rattle.script_text.specs.Rules.{script_of}
 use Rattle.script_text.specs.Script.{Fault, Script}
 use Rattle.geo_top.specs.declared.top.answer.Answer.{Answer}
 use Rattle.geo_top.specs.declared.top.status.Status.{Status}
 use Rattle.geo_top.specs.declared.top.status.Status.TheVariants as status
-use Rattle.geo_top.specs.Answered.{FaultCounts}
+use Rattle.geo_top.specs.Answered.{FaultCounts, WritesLine}
 use Rattle.geo_top.specs.Founded.{IsSent}
 use Rattle.geo_top.specs.Outputs.{refused}
-use Rattle.geo_top.specs.Statuses.{IsDue}
 use Rattle.geo_top.proofs.GoingOut.{same_due}
 use Rattle.live_output.specs.LiveRuns.{TellsRun}
 use Rattle.geo_live.proofs.Replaying.{replays}
-use Rattle.geo_live.specs.LiveAnswers.{IsLiveAnswer, IsLiveAnswered, IsLiveReady, IsTextOf, live_status, status_to, unless_scheduled}
+use Rattle.geo_live.specs.LiveAnswers.{HasLiveCause, IsLiveAnswer, IsLiveAnswered, IsLiveReady, IsTextOf, RanLive, live_status, status_to, unless_scheduled}
 
 -- ---- what an input comes to
 data Case (input : List ℕ) : Status → Type 0 where
@@ -47,91 +47,41 @@ sent_as input s (Case.Scheduled n line is first) = tt
 sent_as input s (Case.Runs n is first) = tt
 
 -- ---- an answer that was made
-abbrev fault_at : ℕ → ℕ → Fault
-fault_at line rule = record { line = line; rule = rule }
+cause_of : (input : List ℕ) (f : FaultCounts) (s : Status) → Case input s → HasLiveCause input f s
+cause_of input f s (Case.Long long) = (refl, long)
+cause_of input f s (Case.Refused e said) = inl said
+cause_of input f s (Case.Scheduled n line said first) =
+    inr (refl, subst (λ (x : Result Script Fault). IsOkAnd x (λ n. n.first_event ≡ Some line)) (sym said) first)
+cause_of input f s (Case.Runs n said first) = tt
 
-answered_as : (input bytes : List ℕ) (f : FaultCounts) (s : Status) → Case input s → IsTextOf s input bytes → IsDue (live_status input) s → IsLiveAnswered input bytes f s
-answered_as input bytes f s (Case.Long long) text due = record {
-  live = λ is. absurd (cc is);
-  replayed = λ is. absurd (cc is);
-  usage = λ is. absurd (cc is);
-  read = λ is. absurd (cc is);
-  large = λ limit is. (cc is, long);
-  script = λ line rule is. absurd (cc is);
-  state = λ offset rule is. absurd (cc is);
-  version = λ number is. absurd (cc is);
-  judged = λ event rule is. absurd (cc is);
-  write = λ is. absurd (cc is);
-  memory = λ is. absurd (cc is);
-  due = due;
-  line = text;
-  part = λ is. absurd (cc is);
-}
-answered_as input bytes f s (Case.Refused e said) text due = record {
-  live = λ is. absurd (cc is);
-  replayed = λ is. absurd (cc is);
-  usage = λ is. absurd (cc is);
-  read = λ is. absurd (cc is);
-  large = λ limit is. absurd (cc is);
-  script = λ line rule is.
-      let l : e.line ≡ line = cc is in
-      let r : e.rule ≡ rule = cc is in
-      inl (said ∙ (ap (λ (n : ℕ). Err (fault_at n e.rule)) l ∙ ap (λ (n : ℕ). Err (fault_at line n)) r));
-  state = λ offset rule is. absurd (cc is);
-  version = λ number is. absurd (cc is);
-  judged = λ event rule is. absurd (cc is);
-  write = λ is. absurd (cc is);
-  memory = λ is. absurd (cc is);
-  due = due;
-  line = text;
-  part = λ is. absurd (cc is);
-}
-answered_as input bytes f s (Case.Scheduled n line said first) text due = record {
-  live = λ is. absurd (cc is);
-  replayed = λ is. absurd (cc is);
-  usage = λ is. absurd (cc is);
-  read = λ is. absurd (cc is);
-  large = λ limit is. absurd (cc is);
-  script = λ at rule is.
-      let l : line ≡ at = cc is in
-      let r : rule ≡ 20 = cc is in
-      inr (r, subst (λ (x : Result Script Fault). IsOkAnd x (λ n. n.first_event ≡ Some at)) (sym said) (first ∙ ap (λ (n : ℕ). Some n) l));
-  state = λ offset rule is. absurd (cc is);
-  version = λ number is. absurd (cc is);
-  judged = λ event rule is. absurd (cc is);
-  write = λ is. absurd (cc is);
-  memory = λ is. absurd (cc is);
-  due = due;
-  line = text;
-  part = λ is. absurd (cc is);
-}
-answered_as input bytes f s (Case.Runs n said first) text due = record {
-  live = λ is. text;
-  replayed = λ is. replays input bytes text;
-  usage = λ is. absurd (cc is);
-  read = λ is. absurd (cc is);
-  large = λ limit is. absurd (cc is);
-  script = λ line rule is. absurd (cc is);
-  state = λ offset rule is. absurd (cc is);
-  version = λ number is. absurd (cc is);
-  judged = λ event rule is. absurd (cc is);
-  write = λ is. absurd (cc is);
-  memory = λ is. absurd (cc is);
-  due = due;
-  line = tt;
-  part = λ is. absurd (cc is);
-}
+line_of : (input bytes : List ℕ) (s : Status) → Case input s → IsTextOf s input bytes → WritesLine s bytes
+line_of input bytes s (Case.Long long) text = text
+line_of input bytes s (Case.Refused e said) text = text
+line_of input bytes s (Case.Scheduled n line said first) text = text
+line_of input bytes s (Case.Runs n said first) text = tt
 
-answered : (input : List ℕ) (a : Answer) (f : FaultCounts) → IsLiveAnswer input a → IsLiveAnswered input a.bytes f a.status
-answered input a f h =
-    subst (λ (s : Status). IsLiveAnswered input a.bytes f s) (sym h.status)
-    (answered_as input a.bytes f (live_status input) (case_of input) h.bytes (same_due (live_status input) (live_status input) refl))
+no_write : (input : List ℕ) (s : Status) → Case input s → s ≡ status.WriteFault → ⊥
+no_write input s (Case.Long long) is = cc is
+no_write input s (Case.Refused e said) is = cc is
+no_write input s (Case.Scheduled n line said first) is = cc is
+no_write input s (Case.Runs n said first) is = cc is
 
-pub ready_made : (input : List ℕ) (before now : ℕ) (a : Answer) → IsLiveAnswer input a → IsLiveReady input before now a
-ready_made input before now a h = record {
+answered : (input : List ℕ) (a : Answer) (f : FaultCounts) → IsLiveAnswer input a → Stood f.source f.source_now → IsLiveAnswered input a.bytes f a.status
+answered input a f h stood =
+    subst (λ (s : Status). IsLiveAnswered input a.bytes f s) (sym h.status) (record {
+      live = λ ok. subst (λ (s : Status). IsTextOf s input a.bytes) ok h.bytes;
+      cause = cause_of input f (live_status input) (case_of input);
+      read_well = λ made. stood;
+      due = same_due (live_status input) (live_status input) refl;
+      line = line_of input a.bytes (live_status input) (case_of input) h.bytes;
+      part = λ is. absurd (no_write input (live_status input) (case_of input) is);
+    })
+
+pub ready_made : (input : List ℕ) (before now : ℕ) (a : Answer) → IsLiveAnswer input a → Stood before now → IsLiveReady input before now a
+ready_made input before now a h stood = record {
   sent = subst IsSent (sym h.status) (sent_as input (live_status input) (case_of input));
-  answered = λ k l. answered input a (record { source = before; source_now = now; sink = k; sink_now = l }) h;
-  part = λ k l n. inl (a, h, (n, refl));
+  answered = λ k l. answered input a (record { source = before; source_now = now; sink = k; sink_now = l }) h stood;
+  part = λ k l n. inl (a, h, stood, (n, refl));
 }
 
 -- ---- the source failed
@@ -141,16 +91,8 @@ ready_failed input before now a is rose =
       sent = tt;
       answered = λ k l. record {
         live = λ is. absurd (cc is);
-        replayed = λ is. absurd (cc is);
-        usage = λ is. absurd (cc is);
-        read = λ is. rose;
-        large = λ limit is. absurd (cc is);
-        script = λ line rule is. absurd (cc is);
-        state = λ offset rule is. absurd (cc is);
-        version = λ number is. absurd (cc is);
-        judged = λ event rule is. absurd (cc is);
-        write = λ is. absurd (cc is);
-        memory = λ is. absurd (cc is);
+        cause = rose;
+        read_well = λ made. absurd made;
         due = tt;
         line = refl;
         part = λ is. absurd (cc is);
@@ -162,16 +104,8 @@ ready_failed input before now a is rose =
 pub wanting : (input : List ℕ) (f : FaultCounts) → Stood f.source f.source_now → Stood f.sink f.sink_now → IsLiveAnswered input [] f status.OutOfMemory
 wanting input f source sink = record {
   live = λ is. absurd (cc is);
-  replayed = λ is. absurd (cc is);
-  usage = λ is. absurd (cc is);
-  read = λ is. absurd (cc is);
-  large = λ limit is. absurd (cc is);
-  script = λ line rule is. absurd (cc is);
-  state = λ offset rule is. absurd (cc is);
-  version = λ number is. absurd (cc is);
-  judged = λ event rule is. absurd (cc is);
-  write = λ is. absurd (cc is);
-  memory = λ is. (source, sink);
+  cause = (source, sink);
+  read_well = λ made. absurd made;
   due = tt;
   line = refl;
   part = λ is. absurd (cc is);
@@ -182,16 +116,8 @@ pub write_failed : (input : List ℕ) (before now k l n : ℕ) (a : Answer) → 
     → IsLiveAnswered input (take n a.bytes) (record { source = before; source_now = now; sink = k; sink_now = l }) status.WriteFault
 write_failed input before now k l n a ready rose = record {
   live = λ is. absurd (cc is);
-  replayed = λ is. absurd (cc is);
-  usage = λ is. absurd (cc is);
-  read = λ is. absurd (cc is);
-  large = λ limit is. absurd (cc is);
-  script = λ line rule is. absurd (cc is);
-  state = λ offset rule is. absurd (cc is);
-  version = λ number is. absurd (cc is);
-  judged = λ event rule is. absurd (cc is);
-  write = λ is. rose;
-  memory = λ is. absurd (cc is);
+  cause = rose;
+  read_well = λ made. absurd made;
   due = tt;
   line = tt;
   part = λ is. ready.part k l n;
@@ -227,4 +153,11 @@ pub made_run : (input : List ℕ) (a : Answer) (n : Script) → length input ≤
     → a.status ≡ status.Ok → TellsRun n a.bytes → IsLiveAnswer input a
 made_run input a n short said first is tells =
     made input a status.Ok (short_status input _ short said ∙ ap unless_scheduled first) is
-    (subst (λ (x : Result Script Fault). IsOkAnd x (λ n. (n.first_event ≡ None) × TellsRun n a.bytes)) (sym said) (first, tells))
+    (subst (λ (x : Result Script Fault). IsOkAnd x (RanLive input a.bytes)) (sym said)
+    (record { unscheduled = first; tells = tells; replayed = replays input n tells.schedule said first tells.run }))
+
+-- so it is of what is written of a run, if memory was found for it
+pub run_answered : (input : List ℕ) (n : Script) (r : Result Answer Memory) → length input ≤ 67108864 → script_of input ≡ Ok n → n.first_event ≡ None
+    → IfOk r (λ a. a.status ≡ status.Ok) → IfOk r (λ a. TellsRun n a.bytes) → IfOk r (IsLiveAnswer input)
+run_answered input n (Ok a) short said first ok tells = made_run input a n short said first ok tells
+run_answered input n (Err e) short said first ok tells = tt

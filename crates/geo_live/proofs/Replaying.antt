@@ -26,9 +26,9 @@ use Rattle.geo_top.specs.declared.top.answer.Answer.{Answer}
 use Rattle.geo_top.specs.declared.top.command.Shown.TheVariants as shown
 use Rattle.geo_top.specs.declared.top.status.Status.TheVariants as status
 use Rattle.geo_top.specs.Outputs.{answer_to, passed_limit, report_of, unless_passed}
-use Rattle.live_output.specs.LiveRuns.{TellsRun}
+use Rattle.live_output.specs.LiveRuns.{IsLiveRun}
 use Rattle.live_output.specs.Playing.{with_steps}
-use Rattle.geo_live.specs.LiveAnswers.{Replays, ReplaysAs, TellsRunOf}
+use Rattle.geo_live.specs.LiveAnswers.{ReplaysAs}
 
 -- ---- a script without a line that schedules a step has no step
 abbrev IsStepless : Steps → Type 0
@@ -109,23 +109,11 @@ answers : (n : Script) (es : List Step) (r : Result Script Fault) → IsOkAnd r 
 answers n es (Ok m) h none within = same_answer n m es h.setup (h.steps ∙ ap (λ (fs : List Step). fs ++ es) none) within
 answers n es (Err f) h none within = absurd h
 
-replays_as : (input output text : List ℕ) (n : Script) → input ≡ text ++ 10 ∷ [] → script_of input ≡ Ok n → n.first_event ≡ None → TellsRun n output → ReplaysAs input output
-replays_as input output text n fed is first t =
-    let es : List Step = t.schedule in
+pub replays : (input : List ℕ) (n : Script) (es : List Step) → script_of input ≡ Ok n → n.first_event ≡ None → IsLiveRun n es
+    → (text : List ℕ) → input ≡ text ++ 10 ∷ [] → ReplaysAs input n es
+replays input n es is first run text fed =
     let lines : List ℕ = schedule_text (names_of n.setup) es in
-    let report : List ℕ = report_of (with_steps n es) in
     let whole : text ++ 10 ∷ lines ≡ input ++ lines = sym (append_assoc text (10 ∷ []) lines) ∙ ap (λ (bytes : List ℕ). bytes ++ lines) (sym fed) in
-    let more : IsOkAnd (script_of (text ++ 10 ∷ lines)) (IsWithSteps n (n.steps ++ es)) = joined text lines n es (subst (λ (bytes : List ℕ). script_of bytes ≡ Ok n) fed is) t.run.reads_back in (
-      report,
-      lines,
-      t.text,
-      subst (λ (bytes : List ℕ). answer_to shown.Report (script_of bytes) ≡ record { status = status.Ok; bytes = report }) whole
-          (answers n es (script_of (text ++ 10 ∷ lines)) more (no_step input n is first) t.run.within),
-    )
-
-pub replays : (input output : List ℕ) → TellsRunOf input output → Replays input output
-replays input output tells text fed = by (script_of input) refl tells
-  where
-    by : (r : Result Script Fault) → script_of input ≡ r → IsOkAnd r (λ n. (n.first_event ≡ None) × TellsRun n output) → ReplaysAs input output
-    by (Ok n) is h = replays_as input output text n fed is h.0 h.1
-    by (Err f) is h = absurd h
+    let more : IsOkAnd (script_of (text ++ 10 ∷ lines)) (IsWithSteps n (n.steps ++ es)) = joined text lines n es (subst (λ (bytes : List ℕ). script_of bytes ≡ Ok n) fed is) run.reads_back in
+    subst (λ (bytes : List ℕ). answer_to shown.Report (script_of bytes) ≡ record { status = status.Ok; bytes = report_of (with_steps n es) }) whole
+    (answers n es (script_of (text ++ 10 ∷ lines)) more (no_step input n is first) run.within)

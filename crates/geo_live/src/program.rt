@@ -1,14 +1,13 @@
 //! The program as a call over a runtime, a source and a sink.
-ghost use Rattle.std.specs.Prelude.{◌≡◌, ◌<◌, ℕ, List, IfSome, IsOkAnd, None, Some};
+ghost use Rattle.std.specs.Prelude.{◌≡◌, ◌<◌, ℕ, List, None, Some};
 ghost use Rattle.geo_io.specs.Sink.{Gains};
 ghost use Rattle.geo_live.specs.LiveAnswers.{IsLiveAnswered, IsLiveRead};
 ghost use Rattle.geo_live.specs.Words.{live_of};
 ghost use Rattle.geo_live.specs.declared.words.Live.{Live as Asked};
-ghost use Rattle.geo_top.specs.Answered.{IsAnswered, IsRead};
-ghost use Rattle.geo_top.specs.Commands.{Reads, command_of, run_command};
+ghost use Rattle.geo_top.specs.Answered.{IsAnswered, IsRead, OfRun};
+ghost use Rattle.geo_top.specs.Commands.{Reads, command_of};
 ghost use Rattle.geo_top.specs.Headline.{IsAlwaysOnce, IsAlwaysSafe, IsAlwaysSettled};
 ghost use Rattle.geo_top.specs.Outputs.{passed_limit, report_of};
-ghost use Rattle.script_text.specs.Rules.{script_of};
 
 use crate::answering::answer_from;
 use crate::words::Live;
@@ -32,14 +31,14 @@ pub fn geo_main<R: Threads + Wait + Sync, S: Source, K: Sink, G: Gate + Sync>(
     sink: &mut K,
     gate: &G,
 ) -> Status
-    // The headline, on `run`, where the source tells what it has left: with Ok what went out is the report of the written machine's run
-    // over the script that it held, which passes no limit; and at every moment of that run each topic has its messages once, per
-    // producer in order, whatever a subscription has acknowledged is settled, and behind each step that settles all has come over.
-    ensures report { result ≡ Status.Ok → command_of words.now ≡ Some run_command → IfSome (S.left source.old) (λ input. IsOkAnd (script_of input)
-        (λ n. Gains (K.held sink.old) (K.held sink.new) (report_of n) × (passed_limit n ≡ None))) }
-    ensures once { result ≡ Status.Ok → command_of words.now ≡ Some run_command → IfSome (S.left source.old) (λ input. IsOkAnd (script_of input) IsAlwaysOnce) }
-    ensures safe { result ≡ Status.Ok → command_of words.now ≡ Some run_command → IfSome (S.left source.old) (λ input. IsOkAnd (script_of input) IsAlwaysSafe) }
-    ensures settled { result ≡ Status.Ok → command_of words.now ≡ Some run_command → IfSome (S.left source.old) (λ input. IsOkAnd (script_of input) IsAlwaysSettled) }
+    // The headline, on `run`: with Ok what went out is the report of the written machine's run over the script that the source gave,
+    // which passes no limit; and at every moment of that run each topic has its messages once, per producer in order, whatever a
+    // subscription has acknowledged is settled, and behind each step that settles all has come over. `alone` has all else that holds.
+    ensures report { OfRun (command_of words.now) (S.given source.old source.new) result
+        (λ n. K.taken sink.old sink.new (report_of n) × (passed_limit n ≡ None)) }
+    ensures once { OfRun (command_of words.now) (S.given source.old source.new) result IsAlwaysOnce }
+    ensures safe { OfRun (command_of words.now) (S.given source.old source.new) result IsAlwaysSafe }
+    ensures settled { OfRun (command_of words.now) (S.given source.old source.new) result IsAlwaysSettled }
 
     // All that is promised on `live`, over the bytes that the source gave (where it was read to its end, all of them) and those that the
     // sink took.

@@ -32,7 +32,7 @@ use Rattle.geo_top.specs.States.{file_of, state_of_run, stopped}
 use Rattle.script_inputs.specs.Generated.{generated_run}
 use Rattle.geo_top.proofs.Auditing.{accepted_safe}
 use Rattle.geo_top.proofs.OneRun.{counted_same, kept_is}
-use Rattle.geo_top.proofs.SavedWith.{holds_of, ok_maps}
+use Rattle.geo_top.proofs.SavedWith.{loaded_holds, ok_maps}
 
 -- an output, unless a limit was passed
 ok_passed : (a : Answer) (bytes : List ℕ) (o : Option ℕ) → a ≡ unless_passed bytes o → a.status ≡ status.Ok → (a.bytes ≡ bytes) × (o ≡ None)
@@ -99,7 +99,7 @@ pub of_saved : (c : Option Command) (input : List ℕ) (a : Answer) → IsFounde
 of_saved c input a f Q holds = λ n lines ok is k.
     let g = ok_resumed c input a f ok is in
     ok_maps (schedule_of n.setup lines) (Reports a.bytes (state_of_run n)) (Q n) (λ es h. holds n es k.kept h.0 h.1)
-    (holds_of n lines input g.0 g.1 (Reports a.bytes) k g.2 g.3)
+    (loaded_holds n lines input g.0 g.1 (Reports a.bytes) k g.2 g.3)
 
 -- what is read is small
 small_file : (t : Bool) (input : List ℕ) (a : Answer) → nat_lt 67108864 (length input) ≡ t → t ≡ false → UnlessLarge t a (IsAnswerToFile input a) → IsAnswerToFile input a

@@ -113,9 +113,6 @@ caused (Some (command.Big number)) input a is =
     let m = generated_run number in
     subst (λ (a : Answer). IsCaused (Some (command.Big number)) input a.status) (sym is) (caused_big input number (passed_limit m) refl (only_limit m.setup m.steps))
 
-pub caused_as : (c : Option Command) (input : List ℕ) (s t : Status) → IsCaused c input s → s ≡ t → IsCaused c input t
-caused_as c input s t cause e = subst (λ (s : Status). IsCaused c input s) e cause
-
 -- so neither a fault nor want of memory is answered
 pub caused_made : (c : Option Command) (input : List ℕ) (s : Status) → IsCaused c input s → IsMade s
 caused_made c input status.Ok cause = tt

@@ -1,31 +1,25 @@
--- What does not come again in a run that is short: from the opening world, and from where a run was kept.
-use Rattle.std.proofs.Common.{◌≡◌, ℕ, ◌^◌, ◌<◌, List, [], ◌∷◌, ◌++◌, refl, sym, subst}
+-- What does not come again in a run that is short.
+use Rattle.std.proofs.Common.{◌≡◌, ℕ, List, [], ◌∷◌, ◌++◌, sym, subst}
 use Rattle.std.specs.Prelude.{Option, Some, None, take}
 use Rattle.geo_base.specs.declared.entry.Ident.{Ident}
 use Rattle.geo_base.specs.declared.event.Event.TheVariants as event
 use Rattle.geo_base.specs.declared.event.Step.{Step}
-use Rattle.geo_base.specs.declared.event.Step.TheVariants as step
-use Rattle.geo_base.specs.Broker.{Broker}
 use Rattle.geo_base.specs.Happening.{happens}
-use Rattle.geo_base.specs.Laws.{Always, IsPrefix, IsShort, begun}
+use Rattle.geo_base.specs.Laws.{IsShort, begun}
 use Rattle.geo_base.specs.Moments.{partly_written, settling_so_far, Settling}
 use Rattle.geo_base.specs.Planned.{Planned, planned}
-use Rattle.geo_base.specs.Run.{Ran, no_limits, run, run_from}
-use Rattle.geo_base.specs.Safe.{AllOnce}
+use Rattle.geo_base.specs.Run.{Ran, no_limits, run_from}
 use Rattle.geo_base.specs.Scripted.{IsScripted}
 use Rattle.geo_base.specs.Setup.{Setup}
 use Rattle.geo_base.specs.World.{World, client_at, opening_world, topic_at}
-use Rattle.world_laws.specs.AlikeWorlds.{AlwaysOn, AreAlike, kept_behind, world_on}
-use Rattle.world_laws.proofs.OnceInOrder.Once.{once_always}
-use Rattle.world_laws.proofs.Replicating.Pairs.{prefix_always}
+use Rattle.world_laws.specs.AlikeWorlds.{AlwaysOn, world_on}
 use Rattle.world_laws.proofs.Induction.Reaching.{goes_on as reached_on}
-use Rattle.world_laws.proofs.KeptRuns.ResumedRuns.{always_on, between_alike, resumed_law, run_parts}
-use Rattle.failover_laws.specs.Behind.{AnswersBehind, RequestsDiffer, UpdatesBehind}
+use Rattle.world_laws.proofs.KeptRuns.ResumedRuns.{run_parts}
 use Rattle.failover_laws.specs.Got.{CameTo, IsBehindOrApart, IsConnectedSince, IsNeverGotAgain, SubsTo}
 use Rattle.failover_laws.specs.PassedOver.{HasPassed, UpdatesPass}
 use Rattle.failover_laws.specs.Run.{IsNeverAgain}
 use Rattle.failover_laws.specs.Since.{Since}
-use Rattle.failover_laws.proofs.Behind.{behind_always, own_behind}
+use Rattle.failover_laws.proofs.Behind.{behind_always}
 use Rattle.failover_laws.proofs.Given.{not_again}
 use Rattle.failover_laws.proofs.GotLines.{got_law}
 use Rattle.failover_laws.proofs.Lasting.{since_keeps, still_passed, within_keeps}
@@ -112,116 +106,3 @@ of_opening s scripted es = record {
     moment = λ k at e writes. (behind_always s scripted).moment no_limits (record { steps = take k es; settling = at; event = e; writes = writes });
   };
 }
-
--- ---- from where a run was kept
-
--- these facts look at brokers alone
-alike_passes : (s : Setup) (v w : World) → v.brokers ≡ w.brokers → UpdatesPass s v → UpdatesPass s w
-alike_passes s v w same h = subst (λ (bs : List Broker). UpdatesPass s (record w { brokers = bs })) same there
-  where
-    there : UpdatesPass s (record w { brokers = v.brokers })
-    there t y a n told r room =
-        let m = h t y a n told (record { topic = r.topic; pair = r.pair; index = r.index; reads = r.reads; update = r.update }) room in
-        (m.0, record { next = r; names = m.1.names; stands = m.1.stands; may = m.1.may })
-
--- of what can be told from brokers, all that what is given needs
-record Told (s : Setup) (w : World) : Type 0 where
-  once : AllOnce w
-  prefix : IsPrefix s w
-  differ : IsShort w → RequestsDiffer s w
-  answers : IsShort w → AnswersBehind s w
-  updates : IsShort w → UpdatesBehind s w
-
-told_always : (s : Setup) → IsScripted s → Always s (λ w settled. Told s w)
-told_always s scripted =
-    let once = once_always s in
-    let prefix = prefix_always s in
-    let behind = behind_always s scripted in record {
-      run = λ es. record {
-        once = once.run es;
-        prefix = prefix.run es;
-        differ = λ short. (behind.run es short).0;
-        answers = λ short. (behind.run es short).1;
-        updates = λ short. (behind.run es short).2;
-      };
-      limited = λ l es. record {
-        once = once.limited l es;
-        prefix = prefix.limited l es;
-        differ = λ short. (behind.limited l es short).0;
-        answers = λ short. (behind.limited l es short).1;
-        updates = λ short. (behind.limited l es short).2;
-      };
-      between = λ l es at. record {
-        once = once.between l es at;
-        prefix = prefix.between l es at;
-        differ = λ short. (behind.between l es at short).0;
-        answers = λ short. (behind.between l es at short).1;
-        updates = λ short. (behind.between l es at short).2;
-      };
-      moment = λ l m. record {
-        once = once.moment l m;
-        prefix = prefix.moment l m;
-        differ = λ short. (behind.moment l m short).0;
-        answers = λ short. (behind.moment l m short).1;
-        updates = λ short. (behind.moment l m short).2;
-      };
-    }
-
-alike_answers : (s : Setup) (v w : World) → v.brokers ≡ w.brokers → AnswersBehind s v → AnswersBehind s w
-alike_answers s v w same h = subst (λ (bs : List Broker). AnswersBehind s (record w { brokers = bs })) same there
-  where
-    there : AnswersBehind s (record w { brokers = v.brokers })
-    there t a y r l j id answer pair asks m to names =
-        let f = h t a y r l j id answer pair asks m to names in record { request = f.request; ahead = f.ahead }
-
-alike_updates : (s : Setup) (v w : World) → v.brokers ≡ w.brokers → UpdatesBehind s v → UpdatesBehind s w
-alike_updates s v w same h = subst (λ (bs : List Broker). UpdatesBehind s (record w { brokers = bs })) same there
-  where
-    there : UpdatesBehind s (record w { brokers = v.brokers })
-    there t z i a y j n told small pair m names =
-        let f = h t z i a y j n told small pair m names in record {
-          id = f.id;
-          local = f.local;
-          listed = f.listed;
-          index = f.index;
-          snapshot = f.snapshot;
-          same = f.same;
-          request = f.request;
-          below = f.below;
-          ahead = record { request = f.ahead.request; ahead = f.ahead.ahead };
-        }
-
-told_alike : (s : Setup) (v w : World) → AreAlike v w → Told s v → Told s w
-told_alike s v w h told = record {
-  once = subst (λ (bs : List Broker). AllOnce (record w { brokers = bs })) h.brokers told.once;
-  prefix = subst (λ (bs : List Broker). IsPrefix s (record w { brokers = bs })) h.brokers told.prefix;
-  differ = λ short. subst (λ (bs : List Broker). RequestsDiffer s (record w { brokers = bs })) h.brokers (told.differ (back short));
-  answers = λ short. alike_answers s v w h.brokers (told.answers (back short));
-  updates = λ short. alike_updates s v w h.brokers (told.updates (back short));
-}
-  where
-    back : IsShort w → IsShort v
-    back short = subst (λ (k : ℕ). k < 2 ^ 62) (sym h.events) short
-
-are_behind : (s : Setup) (w : World) → Told s w → IsShort w → IsBehindRequests s w
-are_behind s w told short = (told.differ short, told.answers short, told.updates short, own_behind s w told.once told.prefix)
-
-pub of_kept : (s : Setup) → IsScripted s → (before es : List Step) → AreOf s (kept_behind s before) es
-of_kept s scripted before es =
-    let v = kept_behind s before in
-    let steps = before ++ step.Stop ∷ [] in
-    let alike : AreAlike (run s steps) v = resumed_law.script s before [] in
-    let told : AlwaysOn s v steps es (λ w settled. Told s w) = always_on s (λ w settled. Told s w) (λ v w settled. told_alike s v w) (told_always s scripted) v steps es alike in
-    record {
-      came = CameTo.GoingOn (run s steps) (steps_come s (opening_world s) steps CameTo.Opening);
-      passes = λ at k short.
-          let h = between_alike s v steps (take k es) at alike in
-          alike_passes s _ (world_on s v (take k es) at) h.brokers
-          ((passes_between s scripted).between no_limits (steps ++ take k es) at (subst (λ (j : ℕ). j < 2 ^ 62) (sym h.events) short));
-      never = never_law.resumed s scripted v steps es alike;
-      got = got_law.resumed s scripted v steps es alike refl;
-      behind = record {
-        between = λ k at. are_behind s (world_on s v (take k es) at) (told.between k at);
-        moment = λ k at e writes. let w = world_on s v (take k es) at in are_behind s (partly_written s w writes (planned s w e)) (told.moment k at e writes);
-      };
-    }

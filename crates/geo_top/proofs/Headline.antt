@@ -1,6 +1,7 @@
 -- The headline, of the run of a script: messages stand once and in order, none is lost, and settling brings all over.
-use Rattle.std.proofs.Common.{◌≡◌, Bool, true, false, [], ◌∷◌, ◌++◌, refl, sym, subst, ◌∙◌, inl, inr, append_assoc}
+use Rattle.std.proofs.Common.{◌≡◌, ◌+◌, ◌≤◌, Bool, true, false, List, [], ◌∷◌, ◌++◌, refl, sym, subst, ◌∙◌, inl, inr, append_assoc}
 use Rattle.std.specs.Prelude.{◌⊎◌, Some, None, take}
+use Rattle.geo_base.specs.declared.event.Step.{Step}
 use Rattle.geo_base.specs.declared.event.Step.TheVariants as step
 use Rattle.geo_base.specs.declared.entry.Entry.{Entry}
 use Rattle.geo_base.specs.Cursor.{has}
@@ -8,19 +9,20 @@ use Rattle.geo_base.specs.Entry.{is_data}
 use Rattle.geo_base.specs.Laws.{AlwaysIn, BetweenEvents, IsShort, SettlesAll, after_settling}
 use Rattle.geo_base.specs.Moments.{Moment, NotBegun, world_at, world_between}
 use Rattle.geo_base.specs.Planned.{planned}
-use Rattle.geo_base.specs.Run.{no_limits, run}
+use Rattle.geo_base.specs.Run.{budget, is_quiet, no_limits, run}
 use Rattle.geo_base.specs.Safe.{AllOnce, OnlySettled}
 use Rattle.geo_base.specs.Scripted.{IsScripted}
 use Rattle.geo_base.specs.Settled.{IsSettled, SettledSoFar, settled, settled_at}
 use Rattle.geo_base.specs.Setup.{Setup}
 use Rattle.geo_base.specs.World.{World}
 use Rattle.script_text.specs.Script.{Script}
+use Rattle.world_laws.proofs.Budget.InTime.{settles_in_time}
 use Rattle.world_laws.proofs.ComesOver.Complete.{budget_always}
 use Rattle.world_laws.proofs.Dispatching.Keeping.{kept_between}
 use Rattle.world_laws.proofs.OnceInOrder.Once.{once_always}
 use Rattle.world_laws.proofs.Induction.Runs.{always_in}
 use Rattle.world_laws.proofs.Telling.ToldLaws.{safe_always}
-use Rattle.geo_top.specs.Headline.{AllCameOver, IsAlwaysKept, IsAlwaysOnce, IsAlwaysSafe, IsAlwaysSettled, IsInBacklog, IsSafe, NothingIsLost}
+use Rattle.geo_top.specs.Headline.{AllCameOver, IsAlwaysInTime, IsAlwaysKept, IsAlwaysOnce, IsAlwaysSafe, IsAlwaysSettled, IsInBacklog, IsSafe, NothingIsLost, SettlesInRounds}
 use Rattle.geo_top.specs.Outputs.{passed_limit}
 use Rattle.geo_top.proofs.Quiet.{run_settled}
 use Rattle.geo_top.proofs.ShortSettling.{part_short, taken_short, written_short}
@@ -44,7 +46,7 @@ nothing_lost s w settled only t x i v e small sub stands message = by (has v.cur
         let same : there.0 ≡ e = same_entry there.0 e (sym there.1 ∙ stands) in
         inl (subst (λ (f : Entry). IsSettled settled t v.name f) same (there.2 (subst (λ (f : Entry). is_data f.content ≡ true) (sym same) message)))
 
-pub safe_world : (s : Setup) (w : World) (settled : SettledSoFar) → OnlySettled s w settled → IsSafe s w settled
+safe_world : (s : Setup) (w : World) (settled : SettledSoFar) → OnlySettled s w settled → IsSafe s w settled
 safe_world s w settled only = record { acknowledged = only; messages = nothing_lost s w settled only }
 
 -- a run that passes no limit is short at each of its moments
@@ -75,3 +77,17 @@ always_settled n scripted none es fs is =
     let short : IsShort (run s (es ++ step.Settle ∷ [])) = part_short s scripted n.steps (es ++ step.Settle ∷ []) fs parted none NotBegun in
     let law : BetweenEvents s (λ w. IsShort (after_settling s w) → SettlesAll s w) = budget_always.complete s scripted in
     subst (AllCameOver s) (sym same) (law.run es (subst IsShort same short))
+
+-- within its rounds, in a world where nothing is left to do
+in_rounds : (s : Setup) (es : List Step) → SettlesInRounds s es
+in_rounds s es =
+    let h = settles_in_time s (run s es) in
+    let same = run_settled s es in
+    record {
+      quiet = subst (λ (w : World). is_quiet s w ≡ true) (sym same) h.quiet;
+      rounds = subst (λ (w : World). w.rounds ≤ (run s es).rounds + budget s (run s es)) (sym same) h.rounds;
+      busy = h.busy;
+    }
+
+pub always_in_time : (n : Script) → IsAlwaysInTime n
+always_in_time n es fs is = in_rounds n.setup es

@@ -18,9 +18,12 @@ pub mod Resuming
 pub mod Saving
 pub mod SavedWith
 pub mod OneRun
-pub mod Still
+pub mod GoingOn
 pub mod ComesNot
 pub mod Again
+pub mod Anew
+pub mod Handed
+pub mod Claims
 pub mod Auditing
 pub mod Accepted
 pub mod Causing

@@ -27,17 +27,17 @@ answer_is n lines input a k is =
     is.2 ∙ (ap (answer_to_loaded input) (state_loaded n lines input is.0 k is.1) ∙ ap (λ (bytes : List ℕ). answer_to_resumed (state_of_run n) (schedule_of n.setup bytes)) (lines_behind n lines input k))
 
 -- what holds of the state that is loaded and the steps behind it
-abbrev pub HoldsOf : (SavedState → List Step → Type 0) → List ℕ → SavedState × ℕ → Type 0
-HoldsOf P input x = IsOkAnd (schedule_of x.0.scenario.setup (drop x.1 input)) (P x.0)
+abbrev HoldsLoaded : (SavedState → List Step → Type 0) → List ℕ → SavedState × ℕ → Type 0
+HoldsLoaded P input x = IsOkAnd (schedule_of x.0.scenario.setup (drop x.1 input)) (P x.0)
 
 same_pair : (l : Loaded) (x y : SavedState × ℕ) → l ≡ Ok x → l ≡ Ok y → x ≡ y
 same_pair l x y e f = cc (e, f)
 
-pub holds_of : (n : Script) (lines input : List ℕ) (f : SavedState) (used : ℕ) (P : SavedState → List Step → Type 0) → IsSavedWith n lines input → IsLoaded input (Ok (f, used))
+pub loaded_holds : (n : Script) (lines input : List ℕ) (f : SavedState) (used : ℕ) (P : SavedState → List Step → Type 0) → IsSavedWith n lines input → IsLoaded input (Ok (f, used))
     → IsOkAnd (schedule_of f.scenario.setup (drop used input)) (P f) → IsOkAnd (schedule_of n.setup lines) (P (state_of_run n))
-holds_of n lines input f used P k loaded h =
+loaded_holds n lines input f used P k loaded h =
     let same : (f, used) ≡ (state_of_run n, length (file_of n)) = same_pair (Ok (f, used)) (f, used) (state_of_run n, length (file_of n)) refl (state_loaded n lines input (Ok (f, used)) k loaded) in
-    let there : HoldsOf P input (state_of_run n, length (file_of n)) = subst (HoldsOf P input) same h in
+    let there : HoldsLoaded P input (state_of_run n, length (file_of n)) = subst (HoldsLoaded P input) same h in
     subst (λ (bytes : List ℕ). IsOkAnd (schedule_of n.setup bytes) (P (state_of_run n))) (lines_behind n lines input k) there
 
 pub ok_maps : {T E : Type 0} (r : Result T E) (P Q : T → Type 0) → ((t : T) → P t → Q t) → IsOkAnd r P → IsOkAnd r Q

@@ -44,7 +44,7 @@ IsBehindRequests s w = RequestsDiffer s w × AnswersBehind s w × UpdatesBehind 
 pub record ComesNotAgain (s : Setup) (v : World) (es : List Step) : Type 0 where
   -- Between any two events, also inside settling, there were fewer than 2^62, of which the others speak;
   pub short : (k : ℕ) (at : Settling) → IsShort (world_on s v (take k es) at)
-  -- and an update that a sender reads next has an effect, where there is room for its subscription.
+  -- and an update that a sender reads next has an effect, where there is room for its subscription, as there is in a script's run.
   pub passes : (k : ℕ) (at : Settling) → UpdatesPass s (world_on s v (take k es) at)
   -- Behind a step that acts on an update, what the subscription passes over is not given again, and of the messages of the update's
   -- cluster such alone may be as it stored behind the request of the update's snapshot;

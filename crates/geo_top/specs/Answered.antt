@@ -1,6 +1,6 @@
 -- What is promised of the program's answer, over the bytes of an input and those of the output: once, for the call over bytes and for
 -- the call over a source and a sink.
-use Rattle.std.specs.Prelude.{◌≡◌, ◌⊎◌, ℕ, ◌<◌, ⊤, true, List, [], ◌∷◌, ◌++◌, length, drop, take, Option, Some, None, IfSome, IsOkAnd, Ok}
+use Rattle.std.specs.Prelude.{◌≡◌, ◌≢◌, ◌⊎◌, ℕ, ◌<◌, ⊤, true, List, [], ◌∷◌, ◌++◌, length, drop, take, Option, Some, None, IfSome, IsOkAnd, Ok}
 use Rattle.audit.specs.AuditOf.{audit_of}
 use Rattle.geo_base.specs.declared.event.Step.{Step}
 use Rattle.geo_base.specs.Run.{all_limits, is_quiet, run, run_under}
@@ -22,11 +22,11 @@ use Rattle.geo_top.specs.declared.top.status.Status.{Status}
 use Rattle.geo_top.specs.declared.top.status.Status.TheVariants as status
 use Rattle.geo_top.specs.Audits.{IsAuditedSafe, audit_line}
 use Rattle.geo_top.specs.Causes.{HasBadLine, HasBadState, HasRefusedLine, IsPassed}
-use Rattle.geo_top.specs.Commands.{Reads, audit_command, command_showing, compact_command, resume_command, run_command, save_command, tiered_command, trace_command}
-use Rattle.geo_top.specs.Headline.{IsAlwaysKept, IsAlwaysOnce, IsAlwaysSafe, IsAlwaysSettled, NothingComesAgain}
-use Rattle.geo_top.specs.OneRun.{IsKept, IsSavedWith, IsStillKept, IsStillOnce, IsStillSafe, IsStillSettled, NothingStillComesAgain, counted_on, lines_before, text_on}
-use Rattle.geo_top.specs.Outputs.{IsAnswerFor, answer_to, answer_to_audit, answer_to_big, compacted_of, output_of, passed_limit, report_of, resumed_limit, resumed_report, summary_of, tiered_of}
-use Rattle.geo_top.specs.States.{file_of, gone_on}
+use Rattle.geo_top.specs.Claims.{HoldsOf, HoldsWithin}
+use Rattle.geo_top.specs.Commands.{Reads, audit_command, command_showing, resume_command, run_command, save_command}
+use Rattle.geo_top.specs.OneRun.{GoesOnAlike, IsKept, IsSavedWith, counted_on, lines_before, text_on}
+use Rattle.geo_top.specs.Outputs.{IsAnswerFor, answer_to, answer_to_audit, answer_to_big, output_of, report_of, resumed_limit, resumed_report, summary_of}
+use Rattle.geo_top.specs.States.{file_of, gone_on, stopped}
 use Rattle.geo_top.specs.Statuses.{IsDue, IsMade, refusal_line}
 use Rattle.geo_top.specs.Traced.{traced_of}
 
@@ -46,13 +46,13 @@ no_faults = record { source = 0; source_now = 0; sink = 0; sink_now = 0 }
 abbrev pub IsPartOf : List ℕ → List ℕ → Type 0
 IsPartOf bytes output = (n : ℕ) × (output ≡ take n bytes)
 
--- What went out: the whole of an answer, nothing for want of memory, and where the sink failed a beginning: of the line of a read
--- fault only where the words have an input and the source failed too.
+-- What went out: the whole of an answer, nothing for want of memory, and where the sink failed a beginning: of the answer that is due
+-- where the source did not fail, and of the line of a read fault only where the words have an input and the source failed too.
 abbrev pub WentOut : Option Command → Answer → FaultCounts → Status → List ℕ → Type 0
 WentOut c due f status.ReadFault output = output ≡ refusal_line status.ReadFault
 WentOut c due f status.OutOfMemory output = output ≡ []
 WentOut c due f status.WriteFault output =
-    IsPartOf due.bytes output ⊎ (Reads c × Rose f.source f.source_now × IsPartOf (refusal_line status.ReadFault) output)
+    (Stood f.source f.source_now × IsPartOf due.bytes output) ⊎ (Reads c × Rose f.source f.source_now × IsPartOf (refusal_line status.ReadFault) output)
 WentOut c due f s output = output ≡ due.bytes
 
 -- a refusal writes its line
@@ -60,6 +60,21 @@ abbrev pub WritesLine : Status → List ℕ → Type 0
 WritesLine status.Ok output = ⊤
 WritesLine status.WriteFault output = ⊤
 WritesLine s output = output ≡ refusal_line s
+
+-- ---- why a call ends so
+-- Each refusal comes only for its cause, and Ok only for a command. Limit 1 is on the bytes that are read, limit 2 on events and idle
+-- events together, limit 3 on the bytes of all frames. A fault of the source or the sink is never told as want of memory.
+abbrev pub HasCause : Option Command → List ℕ → FaultCounts → Status → Type 0
+HasCause c input f status.Ok = c ≢ None
+HasCause c input f status.Usage = c ≡ None
+HasCause c input f (status.BadScript line rule) = HasBadLine c input (record { line = line; rule = rule })
+HasCause c input f status.ReadFault = Reads c × Rose f.source f.source_now
+HasCause c input f status.WriteFault = Rose f.sink f.sink_now
+HasCause c input f (status.TooLarge limit) = IsPassed c input limit
+HasCause c input f status.OutOfMemory = Stood f.source f.source_now × Stood f.sink f.sink_now
+HasCause c input f (status.BadState offset rule) = HasBadState c input (bad_state offset rule)
+HasCause c input f (status.StateVersion number) = HasBadState c input (version number)
+HasCause c input f (status.AuditRefused event rule) = HasRefusedLine c input (record { event = event; rule = rule })
 
 -- ---- what holds with Ok
 -- of the script that the input is, for each command that shows something of a script's run
@@ -72,75 +87,37 @@ OfSaved c input s Holds =
     (n : Script) (lines : List ℕ) → s ≡ status.Ok → c ≡ Some resume_command → IsSavedWith n lines input → IsOkAnd (schedule_of n.setup lines) (Holds n)
 
 pub record IsAnswered (c : Option Command) (input output : List ℕ) (f : FaultCounts) (s : Status) : Type 0 where
-  -- With Ok, what `run` writes is the report of the written machine's run over the script that the input is, and what `compact` writes
-  -- are the compacted views of the topics at its end; what `tiered` writes are, of each topic, how many of its closed ledgers moved to
-  -- a tier, and its entries as the report has them. So each command that shows something of a script's run writes what it shows of
-  -- it. The run passes no limit,
-  pub report : s ≡ status.Ok → c ≡ Some run_command → IsOkAnd (script_of input) (λ n. (output ≡ report_of n) × (passed_limit n ≡ None))
-  pub compacted : (horizon : ℕ) → s ≡ status.Ok → c ≡ Some (compact_command horizon)
-      → IsOkAnd (script_of input) (λ n. (output ≡ compacted_of horizon n) × (passed_limit n ≡ None))
-  pub tiered : (keep : ℕ) → s ≡ status.Ok → c ≡ Some (tiered_command keep) → IsOkAnd (script_of input) (λ n. (output ≡ tiered_of keep n) × (passed_limit n ≡ None))
-  pub traced : s ≡ status.Ok → c ≡ Some trace_command → IsOkAnd (script_of input) (λ n. (output ≡ traced_of n) × (passed_limit n ≡ None))
-  pub shows : OfScript c input s (λ v n. (output ≡ output_of v n) × (passed_limit n ≡ None))
-  -- and at every moment of it, between its events, inside settling and after each single durable write: each topic has its messages
-  -- once, per producer in order,
-  pub once : OfScript c input s (λ v n. IsAlwaysOnce n)
-  -- and whatever a subscription has acknowledged is settled, so that every message stored anywhere is settled on each subscription
-  -- there or stands in its backlog. Between its events nothing that stands in a backlog is forgotten.
-  pub safe : OfScript c input s (λ v n. IsAlwaysSafe n)
-  pub kept : OfScript c input s (λ v n. IsAlwaysKept n)
-  -- Behind each step of it that settles all has come over: for every topic and every two clusters, the sender of the one to the
-  -- other is open and has acknowledged all of its topic, and the other has, in order, all that the one stored first for it.
-  pub settled : OfScript c input s (λ v n. IsAlwaysSettled n)
-  -- Behind a step of it that acts on an update of another cluster nothing comes again that the update let its subscription pass over,
-  -- until that is deleted or sought: no event gives it, and no client gets it that connects since; and of the other cluster's own
-  -- messages such alone come as it stored behind the request of the update's snapshot.
-  pub again : OfScript c input s (λ v n. NothingComesAgain n)
-  -- For `save` it is the state file of that run with a stop of everything behind it, and both are within the limits;
-  pub saved : s ≡ status.Ok → c ≡ Some save_command → IsOkAnd (script_of input) (λ n. IsKept n × (output ≡ file_of n))
-  -- for `resume` it is the report of the run that goes on from the state that the input begins with, over the schedule behind its
-  -- bytes, and that run passes no limit;
+  -- With Ok, `run`, `compact`, `tiered` and `trace` write what they show of the written machine's run over the script that the input is:
+  -- its report, the compacted views of its topics, its topics with closed ledgers in a tier, its events. The run passes no limit, and
+  -- all that is claimed of a run holds of it.
+  pub shows : OfScript c input s (λ v n. (output ≡ output_of v n) × HoldsWithin n)
+  -- `save` writes the state file of that run with a stop of everything behind it, and so it is of this run;
+  pub saved : s ≡ status.Ok → c ≡ Some save_command → IsOkAnd (script_of input) (λ n. IsKept n × (output ≡ file_of n) × HoldsOf (stopped n))
+  -- `resume` the report of the run that goes on from the state that the input begins with, over the schedule behind its bytes, and that
+  -- run passes no limit;
   pub resumed : s ≡ status.Ok → c ≡ Some resume_command → (g : SavedState) × (used : ℕ) × IsLoaded input (Ok (g, used))
       × IsOkAnd (schedule_of g.scenario.setup (drop used input)) (λ es. (output ≡ resumed_report g es) × (resumed_limit g es ≡ None))
   -- and where that state is what `save` wrote of a script, it is the report of one run, that of the script with a stop of everything
-  -- and the schedule behind its steps; of what goes on, each claim still holds: messages stand once, per producer in order,
-  -- whatever is acknowledged is settled, nothing due is forgotten, behind each step that settles all has come over, and nothing
-  -- comes again that an update let a subscription pass over;
-  pub one_run : OfSaved c input s (λ n es. (output ≡ report_of (gone_on n es)) × (passed_limit (gone_on n es) ≡ None))
-  pub still_once : OfSaved c input s IsStillOnce
-  pub still_safe : OfSaved c input s IsStillSafe
-  pub still_kept : OfSaved c input s IsStillKept
-  pub still_settled : OfSaved c input s IsStillSettled
-  pub still_again : OfSaved c input s NothingStillComesAgain
+  -- and the schedule behind its steps, with all that is claimed of it; the run that goes on comes to the same worlds;
+  pub one_run : OfSaved c input s (λ n es. (output ≡ report_of (gone_on n es)) × HoldsWithin (gone_on n es) × GoesOnAlike n es)
   -- so what `resume` answers to such a file with lines behind it is what `run` answers to the script's text with a stop and these
-  -- lines behind it (where that is not too long to be read), refusals too, but for the number of the line that is refused;
+  -- lines behind it (where that is not too long to be read), refusals too, but for the number of the line that is refused.
   pub one_answer : (text lines : List ℕ) (n : Script) → IsMade s → c ≡ Some resume_command → script_of (text ++ 10 ∷ []) ≡ Ok n → IsSavedWith n lines input
       → counted_on (lines_before text) (record { status = s; bytes = output }) s ≡ answer_to shown.Report (script_of (text_on text lines))
-  -- for `audit` it tells how many events the trace tells that stands behind the declarations: no line of it breaks a rule, and behind
-  -- each of them what the lines so far make of the topics and the subscriptions is safe, with each message once, per producer in order;
+  -- `audit` tells how many events the trace tells that stands behind the declarations: no line of it breaks a rule, and behind each of
+  -- them what the lines so far make of the topics and the subscriptions is safe, with each message once, per producer in order;
   pub audited : s ≡ status.Ok → c ≡ Some audit_command
       → IsOkAnd (script_of (declarations_in input)) (λ n. (events : ℕ) × (audit_of n.setup (trace_in input) ≡ Ok events) × (output ≡ audit_line events))
   pub audited_safe : s ≡ status.Ok → c ≡ Some audit_command → IsOkAnd (script_of (declarations_in input)) (λ n. IsAuditedSafe n.setup (trace_in input))
   -- and what `trace` writes of any accepted script `audit` accepts, and counts the events of that run.
   pub accepted : (n : Script) → IsScenario n → answer_to_audit (traced_of n) ≡ record { status = status.Ok; bytes = audit_line (run_under all_limits n.setup n.steps).world.events }
-  -- For `big` it is the summary of the machine's run over the generated schedule, which passes no limit, in which nothing comes again
-  -- either, and at whose end all is quiet.
-  pub summary : (number : ℕ) → s ≡ status.Ok → c ≡ Some (command.Big number)
-      → (output ≡ summary_of number) × (passed_limit (generated_run number) ≡ None)
-  pub big_again : (number : ℕ) → s ≡ status.Ok → c ≡ Some (command.Big number) → NothingComesAgain (generated_run number)
+  -- `big` writes the summary of the machine's run over the generated schedule, of which all holds too; at its end all is quiet.
+  pub summary : (number : ℕ) → s ≡ status.Ok → c ≡ Some (command.Big number) → (output ≡ summary_of number) × HoldsWithin (generated_run number)
   pub quiet : (number : ℕ) → let n = generated_run number in is_quiet n.setup (run n.setup n.steps) ≡ true
-  -- Each refusal comes only for its cause.
-  pub usage : s ≡ status.Usage → c ≡ None
-  pub read : s ≡ status.ReadFault → Reads c × Rose f.source f.source_now
-  -- Limit 1 is on the bytes that are read, limit 2 on events and idle events together, limit 3 on the bytes of all frames.
-  pub large : (limit : ℕ) → s ≡ status.TooLarge limit → IsPassed c input limit
-  pub script : (line rule : ℕ) → s ≡ status.BadScript line rule → HasBadLine c input (record { line = line; rule = rule })
-  pub state : (offset rule : ℕ) → s ≡ status.BadState offset rule → HasBadState c input (bad_state offset rule)
-  pub version : (number : ℕ) → s ≡ status.StateVersion number → HasBadState c input (version number)
-  pub judged : (event rule : ℕ) → s ≡ status.AuditRefused event rule → HasRefusedLine c input (record { event = event; rule = rule })
-  pub write : s ≡ status.WriteFault → Rose f.sink f.sink_now
-  -- A fault of the source or the sink is never told as want of memory.
-  pub memory : s ≡ status.OutOfMemory → Stood f.source f.source_now × Stood f.sink f.sink_now
+  -- Each refusal comes only for its cause; and no answer but that of a read fault is made where the source failed, so that nobody is
+  -- told the report of a part of a script.
+  pub cause : HasCause c input f s
+  pub read_well : IsMade s → Stood f.source f.source_now
   -- What is due comes, unless the source, the sink or memory fails.
   pub no_command : c ≡ None → IsDue status.Usage s
   pub due : (a : Answer) → IsAnswerFor c input a → IsDue a.status s
@@ -155,12 +132,19 @@ abbrev pub IsCut : List ℕ → ℕ → ℕ → Status → Type 0
 IsCut part before now s = (67108864 < length part) ⊎ (Rose before now ⊎ (s ≡ status.OutOfMemory))
 
 -- What a call read of a source for words that have an input, by what its calls gave, by what it told that it had left, and by its count
--- of faults before and now: the input is what the source gave, and where that is cut, some more behind it; and where the source tells
--- what it has left, it is that. For other words nothing is read, and the input is empty.
+-- of faults before and now: the input is what the source gave, and where that is cut, some more behind it; an answer is to all that it
+-- gave, unless it says that this is too long; and where the source tells what it has left, it is that. For other words nothing is read,
+-- and the input is empty.
 pub record IsRead (c : Option Command) (given : List ℕ → Type 0) (left : Option (List ℕ)) (before now : ℕ) (s : Status) (input : List ℕ) : Type 0 where
   pub part : List ℕ
   pub rest : List ℕ
   pub gave : given part
   pub is : input ≡ part ++ rest
   pub whole : (rest ≡ []) ⊎ IsCut part before now s
+  pub all : IsMade s → (s ≡ status.TooLarge 1) ⊎ (rest ≡ [])
   pub told : Reads c → IfSome left (λ bytes. input ≡ bytes)
+
+-- ---- the headline, of a call over a source and a sink
+-- of the script that the source gave, where the words are those of `run` and it ended with Ok
+abbrev pub OfRun : Option Command → (List ℕ → Type 0) → Status → (Script → Type 0) → Type 0
+OfRun c given s Holds = s ≡ status.Ok → c ≡ Some run_command → (input : List ℕ) × given input × IsOkAnd (script_of input) Holds

@@ -1,14 +1,14 @@
 -- The headline: what is claimed of the messages of a script, at every moment of its run, behind each step that settles, and behind a
 -- failover.
-use Rattle.std.specs.Prelude.{◌≡◌, ◌⊎◌, ℕ, ◌<◌, true, false, List, [], ◌∷◌, ◌++◌, length, take}
+use Rattle.std.specs.Prelude.{◌≡◌, ◌⊎◌, ℕ, ◌+◌, ◌<◌, ◌≤◌, true, false, List, [], ◌∷◌, ◌++◌, length, take}
 use Rattle.geo_base.specs.declared.entry.Entry.{Entry}
 use Rattle.geo_base.specs.declared.event.Step.{Step}
 use Rattle.geo_base.specs.declared.event.Step.TheVariants as step
 use Rattle.geo_base.specs.Cursor.{has}
 use Rattle.geo_base.specs.Entry.{is_data}
-use Rattle.geo_base.specs.Laws.{AlwaysIn, ArePair, IsComplete}
+use Rattle.geo_base.specs.Laws.{AlwaysIn, ArePair, IsComplete, after_round, after_rounds}
 use Rattle.geo_base.specs.Moments.{Settling, world_between}
-use Rattle.geo_base.specs.Run.{no_limits, run}
+use Rattle.geo_base.specs.Run.{budget, is_quiet, no_limits, run}
 use Rattle.geo_base.specs.Safe.{AllOnce, IsEntry, IsSub, NothingForgotten, OnlySettled}
 use Rattle.geo_base.specs.Settled.{IsSettled, SettledSoFar}
 use Rattle.geo_base.specs.Setup.{Setup}
@@ -56,6 +56,17 @@ AllCameOver s w = (t x y : ℕ) → t < length s.topics → ArePair s x y → Is
 -- so it is behind each step of a script that settles
 abbrev pub IsAlwaysSettled : Script → Type 0
 IsAlwaysSettled n = (es fs : List Step) → n.steps ≡ es ++ step.Settle ∷ fs → AllCameOver n.setup (run n.setup (es ++ step.Settle ∷ []))
+
+-- Settling behind some steps ends in a world where no event of a round does anything, and by then its rounds are no more than the budget;
+-- each of them before that does an event that is not idle.
+pub record SettlesInRounds (s : Setup) (es : List Step) : Type 0 where
+  pub quiet : is_quiet s (run s (es ++ step.Settle ∷ [])) ≡ true
+  pub rounds : (run s (es ++ step.Settle ∷ [])).rounds ≤ (run s es).rounds + budget s (run s es)
+  pub busy : (k : ℕ) → let w = after_rounds k s (run s es) in is_quiet s w ≡ false → w.events < (after_round s w).events
+
+-- so it is at each step of a script that settles
+abbrev pub IsAlwaysInTime : Script → Type 0
+IsAlwaysInTime n = (es fs : List Step) → n.steps ≡ es ++ step.Settle ∷ fs → SettlesInRounds n.setup es
 
 -- nothing that an update let a subscription pass over comes again in the run of a script
 abbrev pub NothingComesAgain : Script → Type 0

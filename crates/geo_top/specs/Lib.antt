@@ -12,6 +12,7 @@ pub mod Traced
 pub mod Outputs
 pub mod Causes
 pub mod Finished
+pub mod Claims
 pub mod OneRun
 pub mod Answered
 pub mod Founded

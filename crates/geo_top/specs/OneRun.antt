@@ -2,25 +2,21 @@
 use Rattle.std.specs.Prelude.{◌≡◌, ℕ, ◌+◌, ◌≤◌, List, [], ◌∷◌, ◌++◌, length, take, None, Ok, Err, codes}
 use Rattle.geo_base.specs.declared.event.Step.{Step}
 use Rattle.geo_base.specs.declared.event.Step.TheVariants as step
-use Rattle.geo_base.specs.Moments.{Settling}
-use Rattle.geo_base.specs.Safe.{AllOnce, NothingForgotten}
-use Rattle.geo_base.specs.Settled.{SettledSoFar}
-use Rattle.geo_base.specs.World.{World}
+use Rattle.geo_base.specs.Moments.{Settling, world_between}
+use Rattle.geo_base.specs.Run.{no_limits}
 use Rattle.world_kept.specs.Saved.{world_from}
 use Rattle.script_text.specs.Lines.{lines_of}
 use Rattle.script_text.specs.Rules.{script_of}
 use Rattle.script_text.specs.Scenario.{IsScenario}
 use Rattle.script_text.specs.Schedule.{schedule_of}
 use Rattle.script_text.specs.Script.{Fault, Script}
-use Rattle.world_laws.specs.AlikeWorlds.{AlwaysOn, world_on}
+use Rattle.world_laws.specs.AlikeWorlds.{AreAlike, world_on}
 use Rattle.geo_top.specs.declared.top.answer.Answer.{Answer}
 use Rattle.geo_top.specs.declared.top.command.Shown.TheVariants as shown
 use Rattle.geo_top.specs.declared.top.status.Status.{Status}
 use Rattle.geo_top.specs.declared.top.status.Status.TheVariants as status
-use Rattle.geo_top.specs.Again.{ComesNotAgain}
-use Rattle.geo_top.specs.Headline.{AllCameOver, IsSafe}
 use Rattle.geo_top.specs.Outputs.{IsAnswerToFile, answer_to, answer_to_resumed, answer_to_run, passed_limit, refused}
-use Rattle.geo_top.specs.States.{file_of, resumed, state_of_run, stopped}
+use Rattle.geo_top.specs.States.{file_of, state_of_run, stopped}
 
 -- a script whose run and a stop behind it pass no limit, so that its state can be saved
 pub record IsKept (n : Script) : Type 0 where
@@ -33,25 +29,12 @@ pub record IsSavedWith (n : Script) (lines input : List ℕ) : Type 0 where
   pub is : input ≡ file_of n ++ lines
   pub read : length input ≤ 67108864
 
--- ---- what the headline claims, of a run that goes on from there: always once, always safe, all over behind each step that settles,
--- and nothing again that was passed over. What is settled at some moment, the steps of the saved script settled too
-abbrev pub AlwaysBehind : Script → List Step → (World → SettledSoFar → Type 0) → Type 0
-AlwaysBehind n es Holds = AlwaysOn n.setup (world_from (state_of_run n)) (stopped n).steps es Holds
-
-abbrev pub IsStillOnce : Script → List Step → Type 0
-IsStillOnce n es = AlwaysBehind n es (λ w settled. AllOnce w)
-
-abbrev pub IsStillSafe : Script → List Step → Type 0
-IsStillSafe n es = AlwaysBehind n es (λ w settled. IsSafe n.setup w settled)
-
-abbrev pub IsStillKept : Script → List Step → Type 0
-IsStillKept n es = (k : ℕ) (at : Settling) → NothingForgotten (world_on n.setup (world_from (state_of_run n)) (take k es) at)
-
-abbrev pub IsStillSettled : Script → List Step → Type 0
-IsStillSettled n es = (fs gs : List Step) → es ≡ fs ++ step.Settle ∷ gs → AllCameOver n.setup (resumed (state_of_run n) (fs ++ step.Settle ∷ []))
-
-abbrev pub NothingStillComesAgain : Script → List Step → Type 0
-NothingStillComesAgain n es = ComesNotAgain n.setup (world_from (state_of_run n)) es
+-- ---- the same worlds
+-- Between any two events of the run that goes on from the saved state, also inside settling, its world is alike to that of the one run:
+-- brokers, clients, counts and what waits on each link are the same, so that each event does the same in both.
+abbrev pub GoesOnAlike : Script → List Step → Type 0
+GoesOnAlike n es = (k : ℕ) (at : Settling)
+    → AreAlike (world_between no_limits n.setup ((stopped n).steps ++ take k es) at) (world_on n.setup (world_from (state_of_run n)) (take k es) at)
 
 -- ---- the same answer
 -- the script with a stop behind its steps, and more behind that

@@ -15,8 +15,7 @@ use Rattle.merge_history.specs.Merges.{IsMerged}
 use Rattle.world.specs.World.{WorldBook}
 use Rattle.geo_top.specs.Outputs.{passed_limit, report_of}
 use Rattle.geo_top.specs.Shown.{shown_world}
-use Rattle.geo_top.proofs.Again.{nothing_again}
-use Rattle.geo_top.proofs.Headline.{always_kept, always_once, always_safe, always_settled}
+use Rattle.geo_top.proofs.Claims.{holds_of}
 use Rattle.geo_top.proofs.Shown.{shown_report}
 use Rattle.live_output.specs.LiveRuns.{IsOutputOf, TellsRun, live_text}
 use Rattle.live_output.specs.Playing.{IsEventStep, IsPlayed, with_steps}
@@ -61,11 +60,7 @@ run_is c es replayed played b output is settled at back text =
         reads_back = back;
         within = none;
         last = subst (λ (fs : List Step). EndsSettled c.setup fs) (sym (played_is c es replayed played is settled)) (settled_law c.setup es);
-        once = always_once n;
-        safe = always_safe n scripted none;
-        kept = always_kept n;
-        settled = always_settled n scripted none;
-        again = nothing_again n scripted none;
+        holds = holds_of n scripted none;
       };
       text = text;
     }

@@ -10,7 +10,7 @@ use Rattle.script_text.specs.Script.{Script}
 use Rattle.merge_history.specs.Ends.{AreStood, layout_of}
 use Rattle.merge_history.specs.Kept.{Kept}
 use Rattle.merge_history.specs.Books.{AreKept, BookView}
-use Rattle.geo_top.specs.Headline.{IsAlwaysKept, IsAlwaysOnce, IsAlwaysSafe, IsAlwaysSettled, NothingComesAgain}
+use Rattle.geo_top.specs.Claims.{HoldsOf}
 use Rattle.geo_top.specs.Outputs.{passed_limit, report_of}
 use Rattle.live_output.specs.Playing.{with_steps}
 use Rattle.live_output.specs.Schedules.{EndsSettled, scheduled}
@@ -28,11 +28,7 @@ pub record IsLiveRun (n : Script) (es : List Step) : Type 0 where
   pub within : passed_limit (with_steps n es) ≡ None
   pub last : EndsSettled n.setup es
   -- All that is claimed of the run of a script holds of it.
-  pub once : IsAlwaysOnce (with_steps n es)
-  pub safe : IsAlwaysSafe (with_steps n es)
-  pub kept : IsAlwaysKept (with_steps n es)
-  pub settled : IsAlwaysSettled (with_steps n es)
-  pub again : NothingComesAgain (with_steps n es)
+  pub holds : HoldsOf (with_steps n es)
 
 -- Of books that the merge sees: what counts of them stands for histories of values, each of which replays; and what is written are
 -- report and schedule of as much of the merge of these as the limits allow, with settling behind it where that fits.

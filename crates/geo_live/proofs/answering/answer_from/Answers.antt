@@ -13,7 +13,7 @@ returns-in_err-read_fault-clause-wanting g c =
 pub returns-in-Ok-clause-ready : goal.returns-in-Ok-clause-ready
 returns-in-Ok-clause-ready g c =
     whole_ready (g.S.Source.given c.args.source.now c.read_all.new.source) (g.S.Source.left c.args.source.now) (g.S.Source.faults c.args.source.now)
-    (g.S.Source.faults c.read_all.new.source) c.in-Ok.bytes c.answer_to.result c.in-Ok.ensures.given c.in-Ok.ensures.whole
+    (g.S.Source.faults c.read_all.new.source) c.in-Ok.bytes c.answer_to.result c.in-Ok.ensures.given c.in-Ok.ensures.whole c.in-Ok.ensures.steady
     (rw c.as_slice.ensures at c.answer_to.ensures)
 
 pub returns-in-Err-Failed-clause-ready : goal.returns-in-Err-Failed-clause-ready
@@ -26,7 +26,7 @@ pub returns-in-Err-TooLong-clause-ready : goal.returns-in-Err-TooLong-clause-rea
 returns-in-Err-TooLong-clause-ready g c =
     large_ready (g.S.Source.given c.args.source.now c.read_all.new.source) (g.S.Source.left c.args.source.now) (g.S.Source.left c.read_all.new.source)
     (g.S.Source.faults c.args.source.now) (g.S.Source.faults c.read_all.new.source) c.refusal-in-Err-TooLong.result
-    (c.in-Err-TooLong.ensures.over (cc c.in-Err-TooLong.field-0-is)) c.refusal-in-Err-TooLong.ensures
+    (c.in-Err-TooLong.ensures.over (cc c.in-Err-TooLong.field-0-is)) (c.in-Err-TooLong.ensures.steady (λ failed. cc (failed, c.in-Err-TooLong.field-0-is))) c.refusal-in-Err-TooLong.ensures
 
 pub returns-in-Err-TooLong-clause-wanting : goal.returns-in-Err-TooLong-clause-wanting
 returns-in-Err-TooLong-clause-wanting g c =
