@@ -5,6 +5,7 @@
 #   ./geo run SCRIPT        this wrapper reads a file that stands behind run, save, resume, trace or audit in place of standard input;
 #   ./geo run SCRIPT ..     several behind run are several runs, each answer under a line `== SCRIPT`,
 #   ./geo resume STATE ..   and several behind resume are read one behind the other, as a state and the events behind it
+#   ./geo drill FILE, story SCRIPT, page SCRIPT, why SCRIPT   tools/geo_tools: a drill told by its own lines, what each event did, a page, a refusal
 #   ./geo compact 100 SCRIPT  a file that stands behind the horizon of compact, behind the number of tiered, or behind the two numbers
 #                             of live, is read in the same way
 #
@@ -17,6 +18,10 @@
 #   70  the toolchain failed; what it said is on standard error
 set -u
 top=$(cd "$(dirname "$0")" && pwd)
+# the tools' own words
+case "${1:-}" in
+drill | story | page | why) exec python3 "$top/tools/geo_tools" "$@" ;;
+esac
 program=$top/.built/geo
 words=("$@")
 files=()

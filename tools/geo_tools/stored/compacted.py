@@ -1,19 +1,19 @@
-#!/usr/bin/env python3
 """Makes the compacted views of a run from its report: what `geo compact HORIZON` prints, told from the lines of the entries alone.
 
 Of each topic at each cluster, the horizon is the given one, or the number of entries where that is less. Below it a message stays that
 has no key, or that is the last of its key there and has a text; behind it every message stays. Markers are in no view. The program is
 not asked: it prints the same from its own table of keys, and the gate compares the two.
 
-usage: compacted_view.py HORIZON < REPORT        prints the views
-       compacted_view.py check SCRIPT ..         runs each script with `./geo run` and, at some horizons, with `./geo compact`, and
+usage: geo_tools compacted HORIZON < REPORT        prints the views
+       geo_tools compacted check SCRIPT ..         runs each script with `./geo run` and, at some horizons, with `./geo compact`, and
                                                  says which answer is not the one that its report makes
 """
 import os
 import subprocess
 import sys
 
-ROOT = os.path.dirname(os.path.dirname(os.path.abspath(__file__)))
+from ..program import ROOT
+
 # no run stores more entries than it has events, and it has at most so many
 MOST_HORIZON = 2_000_000
 # words of an entry's line before its text: entry, position, origin, producer, sequence id, targets, data, key
@@ -98,13 +98,11 @@ def check(paths):
     return wrong
 
 
-def main():
-    if len(sys.argv) > 2 and sys.argv[1] == 'check':
-        sys.exit(1 if check(sys.argv[2:]) else 0)
-    if len(sys.argv) != 2 or not sys.argv[1].isascii() or not sys.argv[1].isdecimal():
-        sys.exit(__doc__)
-    sys.stdout.write(compacted(sys.stdin.read(), int(sys.argv[1])))
-
-
-if __name__ == '__main__':
-    main()
+def main(words):
+    if len(words) > 1 and words[0] == 'check':
+        return 1 if check(words[1:]) else 0
+    if len(words) != 1 or not words[0].isascii() or not words[0].isdecimal():
+        print(__doc__, file=sys.stderr)
+        return 2
+    sys.stdout.write(compacted(sys.stdin.read(), int(words[0])))
+    return 0

@@ -1,16 +1,18 @@
-#!/usr/bin/env python3
 """Audits traces by the rules of docs/AUDIT.md, apart from the program, and compares.
 
-    tools/audited.py FILE.geo ..          the trace of each script, and many changed ones, audited here and by the program (tools/build)
-    tools/audited.py --changed N FILE.geo ..   so many changed traces of each, 20 without it
+    geo_tools audit FILE.geo ..          the trace of each script, and many changed ones, audited here and by the program (tools/build)
+    geo_tools audit --changed N FILE.geo ..   so many changed traces of each, 20 without it
 
-Plain lists and walks, so that the rules can be read; it needs nothing but python3 and .built/geo.
+Plain lists and walks, so that the rules can be read; it needs nothing but python3 and a build.
 """
 
-import os, random, re, subprocess, sys
+import random
+import re
+import subprocess
+import sys
 
-TOP = os.path.dirname(os.path.dirname(os.path.abspath(__file__)))
-PROGRAM = os.path.join(TOP, ".built", "geo")
+from ..program import NO_PROGRAM, built_program
+
 NUMBER = re.compile(r"(0|[1-9][0-9]*)\Z")
 NAME = re.compile(r"[a-z0-9_]{1,16}\Z")
 TEXT = re.compile(r"[ -~]+\Z")
@@ -333,16 +335,21 @@ def changed(trace, clusters, rng):
     return "\n".join(lines)
 
 
-def main():
-    words, count = sys.argv[1:], 20
+def main(words):
+    count = 20
     if words[:1] == ["--changed"]:
         count, words = int(words[1]), words[2:]
-    if not words or not os.path.exists(PROGRAM):
-        sys.exit(__doc__ if os.path.exists(PROGRAM) else "tools/build first")
+    if not words:
+        print(__doc__, file=sys.stderr)
+        return 2
+    program = built_program()
+    if program is None:
+        print("geo_tools audit: there is no build of this source (tools/build makes one)", file=sys.stderr)
+        return NO_PROGRAM
     rng, wrong, done, rules = random.Random(1), 0, 0, {}
     for file in words:
         with open(file, "rb") as f:
-            whole = subprocess.run([PROGRAM, "trace"], input=f.read(), capture_output=True).stdout.decode()
+            whole = subprocess.run([program, "trace"], input=f.read(), capture_output=True).stdout.decode()
         at = whole.index("\ntrace\n") + 1
         head, trace = whole[:at], whole[at:]
         clusters = re.findall(r"^cluster (\S+)$", head, re.M)
@@ -352,7 +359,7 @@ def main():
             if n and not tried.startswith("trace\n") and "\ntrace\n" in tried:
                 continue
             here = audited(clusters, topics, tried)
-            there = subprocess.run([PROGRAM, "audit"], input=(head + tried).encode(), capture_output=True).stdout.decode()
+            there = subprocess.run([program, "audit"], input=(head + tried).encode(), capture_output=True).stdout.decode()
             done += 1
             answer = " ".join(here.split()[:2] + here.split()[3:]) if here.startswith("audit refused") else "audit ok"
             rules[answer] = rules.get(answer, 0) + 1
@@ -364,7 +371,5 @@ def main():
     for answer in sorted(rules):
         print(f"{rules[answer]:6} {answer}")
     print(f"{done} traces, {wrong} answered otherwise by the program")
-    sys.exit(1 if wrong else 0)
+    return 1 if wrong else 0
 
-
-main()

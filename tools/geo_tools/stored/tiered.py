@@ -1,4 +1,3 @@
-#!/usr/bin/env python3
 """Makes what `geo tiered KEEP` prints, from a script and its report: how many closed ledgers of each topic at each cluster moved, and
 its entries.
 
@@ -6,11 +5,11 @@ A report shows no ledger that has no entry, so the closed ledgers are told for t
 from the last entry's position and what a ledger takes; and where no ledger is full, from the restarts, each of which opens a ledger.
 A halt is a restart behind some writes of an event: scripts that have one are left out. The program is not asked: the gate compares.
 
-usage: tiered_view.py SCRIPT REPORT KEEP         prints it, or that it is not told
+usage: geo_tools tiered SCRIPT REPORT KEEP         prints it, or that it is not told
 """
 import sys
 
-import compacted_view
+from . import compacted
 
 # entries of a ledger where a script names no number: Pulsar's default
 LEDGER_ENTRIES = 50_000
@@ -45,7 +44,7 @@ def closed(script, topic, cluster, entries):
 def tiered(script, report, keep):
     """What is printed; nothing where it is not told."""
     shown = ''
-    for topic, cluster, entries in compacted_view.topics(report):
+    for topic, cluster, entries in compacted.topics(report):
         count = closed(script, topic, cluster, entries)
         if count is None:
             return None
@@ -60,15 +59,14 @@ def moves(script, report, keep):
     return shown is not None and any(line.startswith('tiered ') and not line.endswith(' 0') for line in shown.split('\n'))
 
 
-def main():
-    if len(sys.argv) != 4 or not sys.argv[3].isdecimal():
-        sys.exit(__doc__)
-    with open(sys.argv[1], encoding='utf-8') as script, open(sys.argv[2], encoding='utf-8') as report:
-        shown = tiered(script.read(), report.read(), int(sys.argv[3]))
+def main(words):
+    if len(words) != 3 or not words[2].isdecimal():
+        print(__doc__, file=sys.stderr)
+        return 2
+    with open(words[0], encoding='utf-8') as script, open(words[1], encoding='utf-8') as report:
+        shown = tiered(script.read(), report.read(), int(words[2]))
     if shown is None:
-        sys.exit('the script does not tell which ledgers are closed')
+        print('the script does not tell which ledgers are closed', file=sys.stderr)
+        return 1
     sys.stdout.write(shown)
-
-
-if __name__ == '__main__':
-    main()
+    return 0

@@ -1,4 +1,3 @@
-#!/usr/bin/env python3
 """Prints one page of a script's run, to be looked at in a browser: plain HTML and SVG, without a script and with nothing fetched.
 
 Time goes down, a row an event, the script's comments as headings; an idle event's row is shaded. Each topic at a cluster has a lane:
@@ -12,9 +11,10 @@ import html
 import textwrap
 from collections import namedtuple
 
-import moments as m
-from page_lines import arrow, arrows, axes, stays, upright, ways
-from page_style import (
+from .. import command, steps as m
+from ..report import identity, is_message
+from .lines import arrow, arrows, axes, stays, upright, ways
+from .style import (
     BAR, BELOW, BOLD, CLIENT_LEAST, CLIENT_MOST, COLOURS, DOT, HEADING, KEY, LANE_LEAST, LANE_MOST, LINE, MARGIN, MONO,
     MOST_LETTERS, PAD, PAGE, PIECE, SMALL, STYLE)
 
@@ -48,8 +48,8 @@ class Layout:
 
     def __init__(self, script, moments):
         self.script = script
-        self.texts = {(topic, m.identity(entry)): entry.text for (topic, _), entries in moments[-1].after.entries.items()
-                      for entry in entries if m.is_message(entry)}
+        self.texts = {(topic, identity(entry)): entry.text for (topic, _), entries in moments[-1].after.entries.items()
+                      for entry in entries if is_message(entry)}
         self.lanes = [(topic, cluster) for topic in script.topics for cluster in script.clusters]
         longest = max(len(words_of(moment)) for moment in moments)
         self.words = MARGIN + 34
@@ -125,13 +125,13 @@ def marker_name(entry):
 
 
 def entry_label(entry):
-    return ' '.join((entry.producer, entry.seq, entry.text)).rstrip() if m.is_message(entry) else marker_name(entry)
+    return ' '.join((entry.producer, entry.seq, entry.text)).rstrip() if is_message(entry) else marker_name(entry)
 
 
 def stored(layout, change, x, y):
     """A dot or a square, with the entry's position and name."""
     entry, colour = change.entry, layout.colour.get(change.entry.origin, '#000')
-    if m.is_message(entry):
+    if is_message(entry):
         sign = '<circle class="dot" cx="%d" cy="%d" r="4.5" fill="%s"/>' % (x + DOT, y - 4, colour)
     else:
         sign = '<rect class="square" x="%d" y="%d" width="7" height="7" stroke="%s"/>' % (x + DOT - 3.5, y - 7.5, colour)
@@ -266,8 +266,8 @@ def message_table(topic, script, report):
     places = {}
     for cluster in script.clusters:
         for entry in report.entries[topic, cluster]:
-            if m.is_message(entry):
-                places.setdefault(m.identity(entry), (entry, {}))[1][cluster] = entry.position
+            if is_message(entry):
+                places.setdefault(identity(entry), (entry, {}))[1][cluster] = entry.position
     if not places:
         return
     times = report.times_got()
@@ -318,12 +318,8 @@ def page(name, script, program, first, last):
     yield '<details><summary>The report</summary><pre>%s</pre></details></body></html>' % '\n'.join(map(safe, whole.text.split('\n')))
 
 
-def main():
-    parser = m.arguments(argparse.ArgumentParser(description=__doc__, formatter_class=argparse.RawDescriptionHelpFormatter))
-    words = parser.parse_args()
+def main(words):
+    parser = command.arguments(argparse.ArgumentParser(prog='geo page', description=__doc__, formatter_class=argparse.RawDescriptionHelpFormatter))
+    words = parser.parse_args(words)
     name = words.script.rsplit('/', 1)[-1]
-    m.main(lambda script, program: print('\n'.join(page(name, script, program, words.first, words.last))), words)
-
-
-if __name__ == '__main__':
-    main()
+    return command.shown(lambda script, program: print('\n'.join(page(name, script, program, words.first, words.last))), words)

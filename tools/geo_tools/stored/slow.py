@@ -1,9 +1,8 @@
-#!/usr/bin/env python3
 """Prints scripts that are slow where a broker or a client walks what it could look up, in any size, each with its report.
 
-usage: slow_cases.py CASE SIZE ..           prints the script
-       slow_cases.py report CASE SIZE ..    prints the report that the rules give
-       slow_cases.py test OUT               writes each case at small sizes into OUT, NAME.geo and NAME.report
+usage: geo_tools slow CASE SIZE ..           prints the script
+       geo_tools slow report CASE SIZE ..    prints the report that the rules give
+       geo_tools slow test OUT               writes each case at small sizes into OUT, NAME.geo and NAME.report
 
   resent RESENT MESSAGES          one producer sends RESENT messages again (at most 256), behind MESSAGES of another one
   acknowledged MESSAGES ORDER     single acknowledgements with all MESSAGES out: the first or the last one first, or mixed; upto acknowledges
@@ -284,7 +283,7 @@ def text(lines):
 def script_of(case):
     script = text(case.script())
     if len(case.events) > MOST_EVENTS or len(script) > MOST_BYTES:
-        sys.exit('slow_cases.py: %d events and %d bytes are more than a script may have' % (len(case.events), len(script)))
+        sys.exit('geo_tools slow: %d events and %d bytes are more than a script may have' % (len(case.events), len(script)))
     return script
 
 
@@ -300,14 +299,15 @@ def test(out):
                 file.write(content)
 
 
-if __name__ == '__main__':
-    WORDS = sys.argv[1:]
+def main(words):
     try:
-        if WORDS[:1] == ['test'] and len(WORDS) == 2:
-            test(WORDS[1])
-        elif WORDS[:1] == ['report']:
-            sys.stdout.write(text(made(WORDS[1:]).report()))
+        if words[:1] == ['test'] and len(words) == 2:
+            test(words[1])
+        elif words[:1] == ['report']:
+            sys.stdout.write(text(made(words[1:]).report()))
         else:
-            sys.stdout.write(script_of(made(WORDS)))
+            sys.stdout.write(script_of(made(words)))
     except (AssertionError, IndexError, KeyError, TypeError, ValueError):
-        sys.exit(__doc__)
+        print(__doc__, file=sys.stderr)
+        return 2
+    return 0

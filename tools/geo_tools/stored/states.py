@@ -1,18 +1,18 @@
-#!/usr/bin/env python3
 """Writes state files by the rules of their form (docs/STATE.md), and says what `geo resume` answers to broken ones.
 
 It is a writer of its own: what it writes of a state that stands here in words is compared with what the program saves, and what the
 program answers to its files with what the rules say. The program's own output is never read.
 
-usage: state_files.py items       prints the items of the rich state below, with their offsets
-       state_files.py cases       prints the table of broken files: rule, offset, what is broken
-       state_files.py changed     prints a section of geo_examples for each byte of both states that is changed in three ways
+usage: geo_tools states items       prints the items of the rich state below, with their offsets
+       geo_tools states cases       prints the table of broken files: rule, offset, what is broken
+       geo_tools states changed     prints a section of geo_examples for each byte of both states that is changed in three ways
 """
 import os
 import struct
 import sys
 
-ROOT = os.path.dirname(os.path.dirname(os.path.abspath(__file__)))
+from ..program import ROOT
+
 MAGIC, VERSION, FRONT = b'GEOSTATE', 2, 20
 
 
@@ -416,23 +416,21 @@ def changed_bytes(state):
             yield at, whole[:at] + bytes([other]) + whole[at + 1:]
 
 
-def main():
-    if sys.argv[1:] == ['items']:
+def main(words):
+    if words == ['items']:
         at = 0
         for name, some in rich().items():
             print('%5d %-28s %s' % (at, name, some.hex() if len(some) < 40 else '%d bytes' % len(some)))
             at += len(some)
-    elif sys.argv[1:] == ['cases']:
+    elif words == ['cases']:
         for name, _, rule, offset in sorted(broken(), key=lambda case: (case[2], case[3])):
             print('| %d | %d | %s |' % (rule, offset, name))
-    elif sys.argv[1:] == ['changed']:
+    elif words == ['changed']:
         for name, state in (('midst', saved_in_the_midst()), ('rich', rich())):
             for k, (at, some) in enumerate(changed_bytes(state)):
                 print('== resume %s/%d/%d' % (name, at, k % 3))
                 print(some.hex())
     else:
-        sys.exit(__doc__)
-
-
-if __name__ == '__main__':
-    main()
+        print(__doc__, file=sys.stderr)
+        return 2
+    return 0

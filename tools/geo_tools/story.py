@@ -1,4 +1,3 @@
-#!/usr/bin/env python3
 """Prints a script with what each of its events did behind it: which line of the report came, went or changed.
 
 Behind an event stands `idle`; or `-` where it was done and no line of the report changed, as where a packet was only sent; or
@@ -18,7 +17,7 @@ lines mean. Behind the last event stand the lines that were idle and the message
 """
 import argparse
 
-import moments as m
+from . import command, steps as m
 
 # an event's words take at most this many columns before what it did
 MOST_COLUMNS = 36
@@ -140,11 +139,7 @@ def story(script, program, first, last):
     yield from closing(moments, whole)
 
 
-def main():
-    parser = m.arguments(argparse.ArgumentParser(description=__doc__, formatter_class=argparse.RawDescriptionHelpFormatter))
-    words = parser.parse_args()
-    m.main(lambda script, program: print('\n'.join(story(script, program, words.first, words.last))), words)
-
-
-if __name__ == '__main__':
-    main()
+def main(words):
+    parser = command.arguments(argparse.ArgumentParser(prog='geo story', description=__doc__, formatter_class=argparse.RawDescriptionHelpFormatter))
+    words = parser.parse_args(words)
+    return command.shown(lambda script, program: print('\n'.join(story(script, program, words.first, words.last))), words)

@@ -1,15 +1,14 @@
-#!/usr/bin/env python3
 """How scripts are written again that were read: sections of the input and of the expected output of crates/geo_examples.
 
 The scripts are each NAME.geo of examples/ and some of runs/. What is written of one is its declarations in their canonical order (geo,
 ledger where it is not 50000, chance, clusters, topics, clients, the `do` lines client by client, each TO list in the order of the
-clusters), then the lines of its schedule as they stand in the file. The program's own output is never read. tools/example_runs.py calls
-`sections`.
+clusters), then the lines of its schedule as they stand in the file. The program's own output is never read. examples.py calls `sections`.
 """
 import os
 import re
 
-ROOT = os.path.dirname(os.path.dirname(os.path.abspath(__file__)))
+from ..program import ROOT
+
 # of the random schedules one of each kind, and those of all kinds
 RUNS = re.compile(r'.*_1\.geo|all_.\.geo')
 DECLARES = ('geo', 'ledger', 'chance', 'cluster', 'topic', 'client', 'do')

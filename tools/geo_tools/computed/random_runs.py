@@ -1,4 +1,3 @@
-#!/usr/bin/env python3
 """Makes random scripts of the whole machine: every kind of event, with losses, halts, restarts, seeks, keys, lists and moves.
 
 A number and a kind give one script, on every machine the same. Some things go on at once in it, each a few events long: a client
@@ -12,10 +11,10 @@ and single events that nobody expects. KIND says what a script is rich in:
   path       one producer, lost sessions, duplicates              snaps      snapshots on two to four clusters
   restarts   restarts and stops of everything                     subs       subscriptions of all types that come and go
 
-usage: random_runs.py NUMBER KIND            prints the script
-       random_runs.py compare FOLDER FIRST COUNT [--program FILE] [KIND ..]
+usage: geo_tools random NUMBER KIND            prints the script
+       geo_tools random compare FOLDER FIRST COUNT [--program FILE] [KIND ..]
            writes COUNT scripts from the number FIRST on, of each kind named or of all, to FOLDER, with the program's report beside each,
-           and has the definitions compute them (tools/computed_runs.py check), whose status it ends with. FILE is a built geo to run in
+           and has the definitions compute them (geo_tools definitions check), whose status it ends with. FILE is a built geo to run in
            place of .built/geo
 """
 import argparse
@@ -23,9 +22,8 @@ import os
 import sys
 import zlib
 
-import computed_runs
-import guesses
-import moments
+from ..program import Failed, Program
+from . import definitions, guesses
 
 MASK = (1 << 64) - 1
 # how many in a hundred of the events that are likely to do nothing are kept
@@ -332,12 +330,12 @@ def compare(folder, first, count, kinds, program):
         for ending, content in (('.geo', text), ('.report', report.text)):
             with open(path + ending, 'w', encoding='ascii') as file:
                 file.write(content)
-    return computed_runs.check([path + '.geo' for path in texts])
+    return definitions.check([path + '.geo' for path in texts])
 
 
 def comparing(words):
     """The words behind `compare`."""
-    parser = argparse.ArgumentParser(prog='random_runs.py compare')
+    parser = argparse.ArgumentParser(prog='geo_tools random compare')
     parser.add_argument('folder', metavar='FOLDER')
     parser.add_argument('first', metavar='FIRST', type=int)
     parser.add_argument('count', metavar='COUNT', type=int)
@@ -347,24 +345,20 @@ def comparing(words):
     if any(kind not in KINDS for kind in told.kinds):
         parser.error('a KIND is one of ' + ', '.join(KINDS))
     try:
-        return compare(told.folder, told.first, told.count, told.kinds or list(KINDS), moments.Program(told.program))
-    except moments.Failed as failed:
+        return compare(told.folder, told.first, told.count, told.kinds or list(KINDS), Program(told.program))
+    except Failed as failed:
         print(failed, file=sys.stderr)
         return failed.status
 
 
-def main():
-    words = sys.argv[1:]
+def main(words):
     if len(words) == 2 and words[0].isdigit() and words[1] in KINDS:
         sys.stdout.write(script(int(words[0]), words[1]))
     elif words[:1] == ['compare']:
-        sys.exit(comparing(words[1:]))
+        return comparing(words[1:])
     elif words in (['-h'], ['--help']):
         print(__doc__)
     else:
         print(__doc__, file=sys.stderr)
-        sys.exit(2)
-
-
-if __name__ == '__main__':
-    main()
+        return 2
+    return 0

@@ -1,18 +1,17 @@
-#!/usr/bin/env python3
 """Plants errors in the definitions of crates/geo_base, one at a time, and says which computed runs refuse each.
 
 An error is one that a reader could overlook: one line of a definition changed. It is planted in a copy of the crate that
 computes the runs of examples/ and runs/. An error that no run refuses is reported as STANDS, and the exit status is 1.
 
-usage: planted_errors.py [WORD ..]   only the errors whose names have one of the words
+usage: geo_tools planted [WORD ..]   only the errors whose names have one of the words
 """
 import glob
 import os
-import sys
 import tempfile
 import time
 
-import computed_runs
+from ..program import ROOT
+from . import definitions
 
 # name: module of specs/, what stands there once, what is put in its place; then, where the new text needs it, the same for an import
 ERRORS = {
@@ -107,7 +106,7 @@ def refusing(crate, module, edit):
         sound = file.read()
     with open(path, 'w') as file:
         file.write(planted(sound, edit))
-    runs, other, _ = computed_runs.refused(crate)
+    runs, other, _ = definitions.refused(crate)
     with open(path, 'w') as file:
         file.write(sound)
     return runs, other
@@ -121,8 +120,8 @@ def main(words):
         copies = []
         for folder in ('examples', 'runs'):
             os.makedirs(os.path.join(where, folder))
-            runs = sorted(glob.glob(os.path.join(computed_runs.ROOT, folder, '*.geo')))
-            copies.append(computed_runs.copy_of_crate(os.path.join(where, folder), runs, as_test=True))
+            runs = sorted(glob.glob(os.path.join(ROOT, folder, '*.geo')))
+            copies.append(definitions.copy_of_crate(os.path.join(where, folder), runs, as_test=True))
         for name, (module, *edit) in chosen.items():
             began, verdict = time.time(), 'STANDS'
             for crate in copies:
@@ -137,7 +136,3 @@ def main(words):
             print('%-48s %s (%.0f s)' % (name, verdict, time.time() - began), flush=True)
     print('%d errors, %d not refused' % (len(chosen), stands))
     return 1 if stands else 0
-
-
-if __name__ == '__main__':
-    sys.exit(main(sys.argv[1:]))

@@ -1,5 +1,4 @@
-#!/usr/bin/env python3
-"""Checks tools/story, tools/picture and tools/drill.py by hand, in a real browser.
+"""Checks the story, the page and the drills by hand, in a real browser: python3 tools/tests/view_check.py
 
 For each script with a report beside it: the dots, squares, arrows and `again` marks of the page, as the browser (Debian's chromium,
 without a window) has it after reading, against those that the report tells; and the entries, `again` marks and idle events of its
@@ -18,14 +17,17 @@ import sys
 import tempfile
 from html.parser import HTMLParser
 
-import moments as m
+TOOLS = os.path.join(os.path.dirname(os.path.dirname(os.path.abspath(__file__))), 'geo_tools')
+sys.path.insert(0, os.path.dirname(TOOLS))
 
-TOOLS = os.path.dirname(os.path.abspath(__file__))
+from geo_tools.program import ROOT
+from geo_tools.report import Report, is_message
+
 BROWSERS = ('chromium', 'chromium-browser', 'google-chrome')
 MARKS = ('dot', 'square', 'arrow', 'again')
 NO_BROWSER = 69
 # what begins a quote of a story in a document
-QUOTING = '    $ tools/story '
+QUOTING = '    $ ./geo story '
 
 # a script whose texts and comments would be parts of a page if they were not escaped
 HOSTILE = b'''# <script>document.title = 'taken'</script> & <b class="dot">
@@ -128,7 +130,7 @@ class Marks(HTMLParser):
 def told(report):
     """The marks that a report tells: messages, markers, entries that came from elsewhere, `got` lines that repeat one."""
     entries = [(cluster, entry) for (_, cluster), stored in report.entries.items() for entry in stored]
-    messages = sum(m.is_message(entry) for _, entry in entries)
+    messages = sum(is_message(entry) for _, entry in entries)
     return {'dot': messages, 'square': len(entries) - messages, 'arrow': sum(entry.origin != cluster for cluster, entry in entries),
             'again': report.again()}
 
@@ -156,7 +158,7 @@ class Check:
         self.browser, self.screenshots, self.wrong = browser, screenshots, 0
 
     def tool(self, name, path):
-        done = subprocess.run([sys.executable, os.path.join(TOOLS, name), *self.program, path], capture_output=True, text=True, check=False)
+        done = subprocess.run([sys.executable, TOOLS, name, *self.program, path], capture_output=True, text=True, check=False)
         if done.returncode != 0:
             self.differs('%s %s ended with status %d: %s' % (name, path, done.returncode, done.stderr.strip()))
         return done.stdout
@@ -192,8 +194,8 @@ class Check:
         """A script's page and story against the report beside it."""
         name = path[:-len('.geo')]
         with open(name + '.report', encoding='ascii') as file:
-            report = m.Report(file.read())
-        page = Marks(self.dumped(self.tool('picture', path), os.path.basename(name)))
+            report = Report(file.read())
+        page = Marks(self.dumped(self.tool('page', path), os.path.basename(name)))
         story = self.tool('story', path)
         agrees = self.equal(path + ', page', told(report), page.count)
         agrees &= self.equal(path + ', scripts in the page', 0, page.scripts)
@@ -204,7 +206,7 @@ class Check:
         with tempfile.NamedTemporaryFile(suffix='.geo') as file:
             file.write(HOSTILE)
             file.flush()
-            written = self.tool('picture', file.name)
+            written = self.tool('page', file.name)
             page = Marks(self.dumped(written, 'hostile'))
             self.equal('hostile texts, page', {'dot': 2, 'square': 0, 'arrow': 1, 'again': 0}, page.count)
             self.equal('hostile texts, scripts', 0, page.scripts)
@@ -219,18 +221,18 @@ class Check:
     def refusals(self):
         """Drills that cannot be meant."""
         for behind, wanted in REFUSED:
-            command = [sys.executable, os.path.join(TOOLS, 'drill.py'), *self.program, '-']
+            command = [sys.executable, TOOLS, 'drill', *self.program, '-']
             done = subprocess.run(command, input=DECLARED + behind, capture_output=True, text=True, check=False)
             self.equal('a drill that is refused', (REFUSED_STATUS, wanted, ''), (done.returncode, done.stderr.strip(), done.stdout))
 
     def quotes(self, path):
-        """The stories that a document quotes: behind each line `$ tools/story FILE` lines of it in their order, `..` for those left out."""
+        """The stories that a document quotes: behind each line `$ ./geo story FILE` lines of it in their order, `..` for those left out."""
         with open(path, encoding='utf-8') as file:
             lines = file.read().split('\n')
         left, count = None, 0
         for number, line in enumerate(lines, 1):
             if line.startswith(QUOTING):
-                left, count = iter(self.tool('story', os.path.join(m.ROOT, line[len(QUOTING):])).split('\n')), count + 1
+                left, count = iter(self.tool('story', os.path.join(ROOT, line[len(QUOTING):])).split('\n')), count + 1
             elif not line.startswith('    '):
                 left = None
             elif left is not None and line != '    ..' and line[4:] not in left:
@@ -240,12 +242,12 @@ class Check:
     def stored(self, page, script):
         """A page that lies in the repository."""
         with open(page, encoding='utf-8') as file:
-            self.equal(page, True, self.tool('picture', script) == file.read())
+            self.equal(page, True, self.tool('page', script) == file.read())
 
     def drill(self, path):
         """A drill against the script that lies beside it."""
         with open(path[:-len('.drill')] + '.geo', encoding='ascii') as file:
-            if self.equal(path + ', script', True, self.tool('drill.py', path) == file.read()):
+            if self.equal(path + ', script', True, self.tool('drill', path) == file.read()):
                 print('agrees  ' + path)
 
 
@@ -259,8 +261,8 @@ def main():
     if words.screenshots:
         os.makedirs(words.screenshots, exist_ok=True)
     check = Check(words.program, browser, words.screenshots)
-    drills = [] if words.scripts else sorted(glob.glob(os.path.join(m.ROOT, 'drills', '*.drill')))
-    for path in words.scripts or sorted(glob.glob(os.path.join(m.ROOT, 'examples', '*.geo')) + glob.glob(os.path.join(m.ROOT, 'drills', '*.geo'))):
+    drills = [] if words.scripts else sorted(glob.glob(os.path.join(ROOT, 'drills', '*.drill')))
+    for path in words.scripts or sorted(glob.glob(os.path.join(ROOT, 'examples', '*.geo')) + glob.glob(os.path.join(ROOT, 'drills', '*.geo'))):
         check.script(path)
     check.hostile()
     check.small()
@@ -268,8 +270,8 @@ def main():
     for path in drills:
         check.drill(path)
     if not words.scripts:
-        check.quotes(os.path.join(m.ROOT, 'docs', 'DRILLS.md'))
-        check.stored(*(os.path.join(m.ROOT, 'examples', 'failover_drill' + ending) for ending in ('.html', '.geo')))
+        check.quotes(os.path.join(ROOT, 'docs', 'DRILLS.md'))
+        check.stored(*(os.path.join(ROOT, 'examples', 'failover_drill' + ending) for ending in ('.html', '.geo')))
     print('%d differ' % check.wrong)
     if not browser:
         print('there is no browser, so pages were counted as they were written: none of %s is in the path (Debian: apt-get install chromium)'

@@ -1,29 +1,25 @@
-#!/usr/bin/env python3
 """Makes the input and the expected output of crates/geo_examples from the scripts of the repository.
 
 The input has each script NAME.geo of examples/, drills/, runs/, edges/ and states/ behind a line `== DIRECTORY/NAME`, the output has that
 line and the report NAME.report that lies beside the script. Behind them stand each case of refused/cases.txt as `== refused/LINE`, by its line in that
 file, with the line that refuses it; each script with a `stop` line as `== stop DIRECTORY/NAME`, which the program saves there and resumes,
-with its report once more; the state files of tools/state_files.py; each script whose messages have keys as `== compact HORIZON
-DIRECTORY/NAME`, at two horizons, with the views that tools/compacted_view.py makes of its report; and each script that tells which of its
-ledgers are closed as `== tiered KEEP DIRECTORY/NAME`, with none and with one to stay, where a ledger moves, with what tools/tiered_view.py
+with its report once more; the state files of stored/states.py; each script whose messages have keys as `== compact HORIZON
+DIRECTORY/NAME`, at two horizons, with the views that stored/compacted.py makes of its report; and each script that tells which of its
+ledgers are closed as `== tiered KEEP DIRECTORY/NAME`, with none and with one to stay, where a ledger moves, with what stored/tiered.py
 makes of its report; and each case of answers/*.txt as `== ask answers/FILE/LINE WORD..`, by the line that it begins with, with its input in
 hexadecimal, and with its status and its answer; the vectors and packets of bytes/ as `== vectors bytes/NAME` and `== packets
-bytes/packets`; and the scripts that tools/script_back.py writes again, as `== back DIRECTORY/NAME`. The program's own output is never read.
+bytes/packets`; and the scripts that stored/written_back.py writes again, as `== back DIRECTORY/NAME`. The program's own output is never read.
 
-usage: example_runs.py write     writes crates/geo_examples/stdin and crates/geo_examples/stdout
-       example_runs.py check     says whether they are what `write` would write
-       example_runs.py compare FILE     says which scripts have another report in FILE, an output of the program
+usage: geo_tools examples write     writes crates/geo_examples/stdin and crates/geo_examples/stdout
+       geo_tools examples check     says whether they are what `write` would write
+       geo_tools examples compare FILE     says which scripts have another report in FILE, an output of the program
 """
 import os
 import sys
 
-import compacted_view
-import script_back
-import state_files
-import tiered_view
+from ..program import ROOT
+from . import compacted, states, tiered, written_back
 
-ROOT = os.path.dirname(os.path.dirname(os.path.abspath(__file__)))
 DIRECTORIES = ('examples', 'drills', 'runs', 'edges', 'states')
 CRATE = os.path.join(ROOT, 'crates', 'geo_examples')
 HEADING = b'== '
@@ -72,9 +68,9 @@ def compactions():
     """The scripts with keys, compacted at a third of their longest topic and as a whole."""
     for name in names():
         report = content(name, '.report').decode()
-        if compacted_view.has_keys(report):
-            for horizon in (compacted_view.longest(report) // 3, compacted_view.MOST_HORIZON):
-                yield 'compact %d %s' % (horizon, name), content(name, '.geo'), compacted_view.compacted(report, horizon).encode()
+        if compacted.has_keys(report):
+            for horizon in (compacted.longest(report) // 3, compacted.MOST_HORIZON):
+                yield 'compact %d %s' % (horizon, name), content(name, '.geo'), compacted.compacted(report, horizon).encode()
 
 
 def tierings():
@@ -82,8 +78,8 @@ def tierings():
     for name in names():
         script, report = content(name, '.geo').decode(), content(name, '.report').decode()
         for keep in (0, 1):
-            if tiered_view.moves(script, report, keep):
-                yield 'tiered %d %s' % (keep, name), script.encode(), tiered_view.tiered(script, report, keep).encode()
+            if tiered.moves(script, report, keep):
+                yield 'tiered %d %s' % (keep, name), script.encode(), tiered.tiered(script, report, keep).encode()
 
 
 class Case:
@@ -120,7 +116,7 @@ class Case:
     def section(self):
         if not self.answer.startswith(b'status '):
             sys.exit('%s has no status' % self.name)
-        text = state_files.in_hex(self.given) + b'stop\n' + state_files.in_hex(self.behind) if self.saved else state_files.in_hex(self.given + self.behind)
+        text = states.in_hex(self.given) + b'stop\n' + states.in_hex(self.behind) if self.saved else states.in_hex(self.given + self.behind)
         return 'ask %s %s' % (self.name, self.words), text, self.answer
 
 
@@ -163,12 +159,12 @@ def sections():
     for name in names():
         if b'\nstop\n' in content(name, '.geo'):
             yield 'stop ' + name, content(name, '.geo'), content(name, '.report')
-    yield from state_files.sections(lambda name: content(name, '.report'))
+    yield from states.sections(lambda name: content(name, '.report'))
     yield from compactions()
     yield from tierings()
     yield from asked()
     yield from told()
-    yield from script_back.sections()
+    yield from written_back.sections()
 
 
 def joined(part):
@@ -208,22 +204,20 @@ def compare(path):
     return wrong
 
 
-def main():
+def main(words):
     files = {'stdin': joined(1), 'stdout': joined(2)}
-    if sys.argv[1:] == ['write']:
+    if words == ['write']:
         for name, text in files.items():
             with open(os.path.join(CRATE, name), 'wb') as file:
                 file.write(text)
-    elif sys.argv[1:] == ['check']:
+    elif words == ['check']:
         for name, text in files.items():
             with open(os.path.join(CRATE, name), 'rb') as file:
                 if file.read() != text:
                     sys.exit('crates/geo_examples/%s is not what the scripts say' % name)
-    elif len(sys.argv) == 3 and sys.argv[1] == 'compare':
-        sys.exit(1 if compare(sys.argv[2]) else 0)
+    elif len(words) == 2 and words[0] == 'compare':
+        return 1 if compare(words[1]) else 0
     else:
-        sys.exit(__doc__)
-
-
-if __name__ == '__main__':
-    main()
+        print(__doc__, file=sys.stderr)
+        return 2
+    return 0

@@ -1,12 +1,12 @@
-#!/usr/bin/env python3
-"""Says why a script is refused: tools/why SCRIPT runs it by ./geo, and where the program names a line and a rule, prints that line with
+"""Says why a script is refused: geo why SCRIPT runs it by ./geo, and where the program names a line and a rule, prints that line with
 its odd bytes marked, and the rule's row of docs/SCRIPT.md. What the program prints comes first, as it is. The status is ./geo's."""
 import os
 import re
 import subprocess
 import sys
 
-TOP = os.path.dirname(os.path.dirname(os.path.realpath(__file__)))
+from .program import ROOT
+
 REFUSED = re.compile(rb"bad script line (\d+) rule (\d+)\n")
 
 
@@ -30,12 +30,12 @@ def before_text(line):
 
 def row(rule):
     """What docs/SCRIPT.md says of a rule: what breaks it, and what it most often is."""
-    with open(f"{TOP}/docs/SCRIPT.md", encoding="utf-8") as page:
+    with open(f"{ROOT}/docs/SCRIPT.md", encoding="utf-8") as page:
         for line in page:
             cells = [it.strip() for it in line.strip().strip("|").split("|")]
             if len(cells) == 3 and cells[0] == str(rule):
                 return cells[1:]
-    raise SystemExit(f"tools/why: docs/SCRIPT.md has no row of rule {rule}")
+    raise SystemExit(f"geo why: docs/SCRIPT.md has no row of rule {rule}")
 
 
 def explain(script, number, rule):
@@ -54,18 +54,15 @@ def explain(script, number, rule):
         print(f"most often it is {often}")
 
 
-def main():
-    if len(sys.argv) != 2:
-        sys.exit("usage: tools/why SCRIPT")
-    ran = subprocess.run([f"{TOP}/geo", "run", sys.argv[1]], stdout=subprocess.PIPE)
+def main(words):
+    if len(words) != 1:
+        print("usage: geo why SCRIPT", file=sys.stderr)
+        return 2
+    ran = subprocess.run([f"{ROOT}/geo", "run", words[0]], stdout=subprocess.PIPE)
     sys.stdout.buffer.write(ran.stdout)
     sys.stdout.flush()
     said = REFUSED.fullmatch(ran.stdout)
     if said:
-        with open(sys.argv[1], "rb") as it:
+        with open(words[0], "rb") as it:
             explain(it.read(), int(said[1]), int(said[2]))
-    sys.exit(ran.returncode)
-
-
-if __name__ == "__main__":
-    main()
+    return ran.returncode

@@ -1,17 +1,19 @@
-#!/usr/bin/env python3
 """Refuses the program each of its allocations in turn, and says what it answers.
 
-    tools/refused_memory.py COMMAND [WORD ..] FILE ..
+    geo_tools memory COMMAND [WORD ..] FILE ..
 
 runs the built program (tools/build) with the words and each file as its standard input: once as it is, and then with the first
 allocation refused, with the second one, and so on until a run asks for fewer. Each answer has to be the right one, byte for byte, or
 want of memory: status 8 and nothing written. It needs a C compiler (cc), for the few lines that stand before malloc.
 """
 
-import os, subprocess, sys, tempfile
+import os
+import subprocess
+import sys
+import tempfile
 
-TOP = os.path.dirname(os.path.dirname(os.path.abspath(__file__)))
-PROGRAM = os.path.join(TOP, ".built", "geo")
+from ..program import NO_PROGRAM, built_program
+
 OUT_OF_MEMORY = 8
 
 BEFORE_MALLOC = r"""
@@ -63,29 +65,34 @@ void *calloc(size_t m, size_t n) {
 """
 
 
-def main():
-    words = [w for w in sys.argv[1:] if not os.path.exists(w)]
-    files = [w for w in sys.argv[1:] if os.path.exists(w)]
-    if not words or not files or not os.path.exists(PROGRAM):
-        sys.exit(__doc__ if os.path.exists(PROGRAM) else "tools/build first")
+def main(words):
+    files = [w for w in words if os.path.exists(w)]
+    words = [w for w in words if not os.path.exists(w)]
+    if not words or not files:
+        print(__doc__, file=sys.stderr)
+        return 2
+    program = built_program()
+    if program is None:
+        print("geo_tools memory: there is no build of this source (tools/build makes one)", file=sys.stderr)
+        return NO_PROGRAM
     with tempfile.TemporaryDirectory() as folder:
         source, library, told = (os.path.join(folder, n) for n in ("before.c", "before.so", "told"))
         with open(source, "w") as f:
             f.write(BEFORE_MALLOC)
         subprocess.run(["cc", "-shared", "-fPIC", "-O1", "-o", library, source, "-ldl"], check=True)
-        wrong = sum(tried(words, file, library, told) for file in files)
-    sys.exit(1 if wrong else 0)
+        wrong = sum(tried(program, words, file, library, told) for file in files)
+    return 1 if wrong else 0
 
 
-def tried(words, file, library, told):
+def tried(program, words, file, library, told):
     """How many of the answers to a file are neither right nor want of memory."""
     with open(file, "rb") as f:
         data = f.read()
-    right = subprocess.run([PROGRAM, *words], input=data, capture_output=True)
+    right = subprocess.run([program, *words], input=data, capture_output=True)
     at, refusals, wrong = 1, 0, 0
     while True:
         env = {**os.environ, "LD_PRELOAD": library, "REFUSED_AT": str(at), "REFUSED_TOLD": told}
-        run = subprocess.run([PROGRAM, *words], input=data, capture_output=True, env=env)
+        run = subprocess.run([program, *words], input=data, capture_output=True, env=env)
         same = run.returncode == right.returncode and run.stdout == right.stdout
         want = run.returncode == OUT_OF_MEMORY and run.stdout == b""
         if not (same or want):
@@ -99,5 +106,3 @@ def tried(words, file, library, told):
     print(f"{' '.join(words)} {file}: {at - 1} allocations refused in turn, {refusals} answers want of memory, {at - 1 - refusals - wrong} right, {wrong} others")
     return wrong
 
-
-main()

@@ -1,13 +1,12 @@
-#!/usr/bin/env python3
 """Computes runs by the definitions of crates/geo_base, inside the checker.
 
 A run is a script NAME.geo with its report NAME.report beside it, and NAME.bytes (the bytes of all frames sent) where that is
 known. From these a module of proofs is written whose statements hold by computation alone: the machine's report of the run
 over the script's schedule is the report, line by line, and the frames have these bytes. Nothing is typed by hand.
 
-usage: computed_runs.py write OUT NAME.geo ..   writes OUT/Run_NAME.antt for each script
-       computed_runs.py check NAME.geo ..       computes the runs in a copy of the crate, and says which agree
-       computed_runs.py traces NAME.geo ..      the same of the traces that ./geo trace writes of the scripts: the definitions' lines
+usage: geo_tools definitions write OUT NAME.geo ..   writes OUT/Run_NAME.antt for each script
+       geo_tools definitions check NAME.geo ..       computes the runs in a copy of the crate, and says which agree
+       geo_tools definitions traces NAME.geo ..      the same of the traces that ./geo trace writes of the scripts: the definitions' lines
 """
 import os
 import re
@@ -17,7 +16,8 @@ import sys
 import tempfile
 import time
 
-ROOT = os.path.dirname(os.path.dirname(os.path.abspath(__file__)))
+from ..program import ROOT
+
 KINDS = {'exclusive': 'Exclusive', 'shared': 'Shared', 'failover': 'Failover', 'keyshared': 'KeyShared'}
 WORDS = {'produce': 'Produce', 'ackall': 'AckAll', 'unsub': 'Unsub', 'close': 'Close', 'closep': 'CloseProducer', 'ping': 'Ping'}
 UNFOLDED = ('setup schedule shown digits go get reconnect serve drop_client reset take_packet receipt read snap offer seek '
@@ -192,7 +192,7 @@ def module(path, as_test=False, as_trace=False):
             out += ['', 'sent : (run_under all_limits setup schedule).world.frame_bytes ≡ %s' % file.read().strip()]
         out += ['unfolding ' + UNFOLDED + ' report_lines', 'sent = refl']
     body = '\n'.join(out) + '\n'
-    head = '-- The run %s, computed: the definitions give its report. Written by tools/computed_runs.py.\n' % os.path.basename(base)
+    head = '-- The run %s, computed: the definitions give its report. Written by tools/geo_tools definitions.\n' % os.path.basename(base)
     imports = IMPORTS + (TRACE_IMPORTS if as_trace else '') + (TEST_IMPORTS if as_test else '')
     return head + used(imports, body) + '\n' + body
 
@@ -266,12 +266,11 @@ def check(paths, as_trace=False):
         return 0 if proved and not runs and not other else 1
 
 
-if __name__ == '__main__':
-    if len(sys.argv) > 3 and sys.argv[1] == 'write':
-        write(sys.argv[2], sys.argv[3:])
-    elif len(sys.argv) > 2 and sys.argv[1] == 'check':
-        sys.exit(check(sys.argv[2:]))
-    elif len(sys.argv) > 2 and sys.argv[1] == 'traces':
-        sys.exit(check(sys.argv[2:], as_trace=True))
-    else:
-        sys.exit(__doc__)
+def main(words):
+    if len(words) > 2 and words[0] == 'write':
+        write(words[1], words[2:])
+        return 0
+    if len(words) > 1 and words[0] in ('check', 'traces'):
+        return check(words[1:], as_trace=words[0] == 'traces')
+    print(__doc__, file=sys.stderr)
+    return 2

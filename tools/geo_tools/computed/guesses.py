@@ -1,4 +1,4 @@
-"""What is likely to wait on each link of a run, so that tools/random_runs.py makes few events that do nothing.
+"""What is likely to wait on each link of a run, so that geo_tools random makes few events that do nothing.
 
 These are guesses, by much simpler rules than the machine's (docs/MACHINE.md): no report and no claim stands on them.
 """

@@ -1,4 +1,3 @@
-#!/usr/bin/env python3
 """Writes the script of a drill: lines that say what is to happen become script lines with the right numbers of serve, get and take.
 
 A drill is a script (docs/SCRIPT.md) whose events may be said by these lines too. X and Y are clusters, C a client, S a subscription,
@@ -17,13 +16,15 @@ T a topic, which is left out where the script has one.
 
 Every other line is taken as it stands. What is written has no event that these lines made in vain. Refused are: a line of a client
 that has to wait; an event at a region that is lost; a delivery, or a settle, over a link that is cut. The script is printed:
-tools/drill.py FILE.drill > FILE.geo
+geo drill FILE.drill > FILE.geo
 """
 import argparse
 import itertools
 import re
 
-import moments as m
+from .. import command
+from ..program import Failed
+from ..script import DECLARING, Script, shown
 
 # how often an event is tried at first; it is doubled until the last try is idle
 FIRST_TRIES = 4
@@ -62,10 +63,10 @@ class Drill:
     """The lines of a drill, with what is known of clients, links and regions as they go by."""
 
     def __init__(self, raw):
-        self.script = m.Script(raw)
+        self.script = Script(raw)
         self.cluster, self.done, self.cuts, self.lost = {}, {}, set(), set()
         self.lines = []
-        for number, text in enumerate(m.shown(raw).removesuffix('\n').split('\n'), 1):
+        for number, text in enumerate(shown(raw).removesuffix('\n').split('\n'), 1):
             words = text.split(' ')
             if words[0] == 'client' and len(words) > 3:
                 self.cluster[words[1]], self.done[words[1]] = words[3], 0
@@ -81,7 +82,7 @@ class Drill:
             if found:
                 parts, client = meaning(self, **found.groupdict())
                 return Line(number, text, parts, client, self.cluster.get(client))
-        if text and not text.startswith('#') and words[0] not in m.DECLARING:
+        if text and not text.startswith('#') and words[0] not in DECLARING:
             self.plain(words)
         return Line(number, text)
 
@@ -248,7 +249,7 @@ def generous(drill):
     for line in drill.lines:
         if line.parts is None:
             texts.append(line.text)
-            if line.text and not line.text.startswith('#') and line.text.split(' ')[0] not in m.DECLARING:
+            if line.text and not line.text.startswith('#') and line.text.split(' ')[0] not in DECLARING:
                 meant.append((line, None))
             continue
         for event, how in line.events():
@@ -258,7 +259,7 @@ def generous(drill):
 
 
 def as_script(texts):
-    return m.Script(('\n'.join(texts) + '\n').encode('utf-8', errors='replace'))
+    return Script(('\n'.join(texts) + '\n').encode('utf-8', errors='replace'))
 
 
 def tried(drill, program):
@@ -302,23 +303,19 @@ def written(drill, program):
     return kept
 
 
-def main():
-    parser = argparse.ArgumentParser(description=__doc__, formatter_class=argparse.RawDescriptionHelpFormatter)
+def main(words):
+    parser = argparse.ArgumentParser(prog='geo drill', description=__doc__, formatter_class=argparse.RawDescriptionHelpFormatter)
     parser.add_argument('script', metavar='FILE', help='the drill; - is standard input')
     parser.add_argument('--program', metavar='FILE', help='a built geo to run in place of .built/geo')
     parser.epilog = ('It needs a build (tools/build), or compiles the sources once or a few times, in about a minute each. The status is 0; 1 where '
                      'the drill cannot be read; 2 for wrong words; %d where it is refused, and where the program refuses the script, which it '
                      'tells by the line of the script with every try in it; 69 without a build and a toolchain, 70 where the toolchain failed.' % REFUSED)
-    words = parser.parse_args()
+    words = parser.parse_args(words)
 
     def show(script, program):
         try:
             print('\n'.join(written(Drill(script.raw), program)))
         except Refused as refused:
-            raise m.Failed(str(refused), REFUSED) from None
+            raise Failed(str(refused), REFUSED) from None
 
-    m.main(show, words)
-
-
-if __name__ == '__main__':
-    main()
+    return command.shown(show, words)

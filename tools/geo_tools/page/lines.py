@@ -1,8 +1,9 @@
-"""The lines of a page of tools/picture that go through several rows: arrows, lanes, and where clients are."""
+"""The lines of a page that go through several rows: arrows, lanes, and where clients are."""
 from collections import namedtuple
 
-import moments as m
-from page_style import DOT, LINE, TURN
+from .. import steps as m
+from ..report import identity
+from .style import DOT, LINE, TURN
 
 # ---- arrows ----
 
@@ -14,7 +15,7 @@ def points(layout, placed):
         for place, changes in row.cells.items():
             for at, change in enumerate(changes):
                 if isinstance(change, m.Stored):
-                    key = (change.topic, m.identity(change.entry))
+                    key = (change.topic, identity(change.entry))
                     found.setdefault(key, {})[change.cluster] = (layout.x[place] + DOT, row.top + 8 + at * LINE)
     return found
 

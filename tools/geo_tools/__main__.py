@@ -1,0 +1,58 @@
+"""The tools by their names: python3 tools/geo_tools NAME WORD ..
+
+  drill        plays a drill and tells it by its own lines              ./geo drill
+  story        prints a script with what each of its events did         ./geo story
+  page         makes a page of a run, for a browser                     ./geo page
+  why          says why a script is refused                             ./geo why
+
+  examples     makes and checks the input and output of crates/geo_examples
+  compacted    makes the compacted views of a run from its report
+  tiered       makes what `geo tiered` prints, from a script and its report
+  states       writes state files by the rules of their form, and broken ones
+  slow         prints scripts that are slow where something is walked that could be looked up
+
+  definitions  computes runs by the definitions, inside the checker
+  planted      plants errors in the definitions, and says which computed runs refuse each
+  random       makes random scripts, and has the definitions compute them
+  audit        audits traces apart from the program, and compares
+  memory       refuses the program each of its allocations in turn
+
+NAME --help has the words of each.
+"""
+import importlib
+import os
+import sys
+
+if not __package__:
+    # run as a folder: the package is found beside it
+    sys.path[0] = os.path.dirname(os.path.dirname(os.path.abspath(__file__)))
+    __package__ = 'geo_tools'
+
+MODULES = {
+    'drill': 'drill.expand', 'story': 'story', 'page': 'page.layout', 'why': 'refusals',
+    'examples': 'stored.examples', 'compacted': 'stored.compacted', 'tiered': 'stored.tiered', 'states': 'stored.states', 'slow': 'stored.slow',
+    'definitions': 'computed.definitions', 'planted': 'computed.planted', 'random': 'computed.random_runs',
+    'audit': 'apart.audit', 'memory': 'apart.memory'}
+# those that have words of their own behind --help
+PARSING = ('drill', 'story', 'page')
+# the status of wrong words
+WRONG_WORDS = 2
+
+
+def main(words):
+    """Runs the tool that the first word names; gives its status."""
+    if words[:1] in (['-h'], ['--help']):
+        print(__doc__)
+        return 0
+    if not words or words[0] not in MODULES:
+        print(__doc__, file=sys.stderr)
+        return WRONG_WORDS
+    module = importlib.import_module('geo_tools.' + MODULES[words[0]])
+    if words[0] not in PARSING and words[1:] in (['-h'], ['--help']):
+        print(module.__doc__)
+        return 0
+    return module.main(words[1:])
+
+
+if __name__ == '__main__':
+    sys.exit(main(sys.argv[1:]))

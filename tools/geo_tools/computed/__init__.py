@@ -1,0 +1,1 @@
+"""Runs that the definitions of crates/geo_base compute, inside the checker."""

@@ -1,0 +1,1 @@
+"""The page of a run, to be looked at in a browser."""
