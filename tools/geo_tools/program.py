@@ -13,72 +13,96 @@ ROOT = os.path.dirname(os.path.dirname(os.path.dirname(os.path.realpath(__file__
 # the statuses of ./geo where it is not the program that answers
 NO_PROGRAM, NO_ANSWER = 69, 70
 
-# what `rt try` may take to run one beginning of a script, in seconds
+# what `rt try` may take to run one script, in seconds
 TRY_SECONDS = '600'
+
+# where a program of this source may stand, the surest first: of tools/build, of the gate in this checkout, and one that is compiled alone
+BUILT = ('.built/geo', 'crates/geo_cli/out/geo_cli', '.built/unproved')
 
 
 class Failed(Exception):
-    """The program gave no report: what it said, and the status to end with."""
+    """The program gave no answer: what it said, and the status to end with."""
 
     def __init__(self, said, status):
         super().__init__(said)
         self.status = status
 
 
-def is_newer(path, time):
-    return os.path.getmtime(path) > time
+def sources():
+    """The files that a program is made of."""
+    yield os.path.join(ROOT, 'crates.txt')
+    for crate in os.listdir(os.path.join(ROOT, 'crates')):
+        for folder, _, files in os.walk(os.path.join(ROOT, 'crates', crate, 'src')):
+            yield from (os.path.join(folder, file) for file in files)
 
 
 def built_program():
-    """The path of the program: the one that GEO_PROGRAM names; else the one that tools/build has made, where no source is newer; else None."""
+    """The path of the program: the one that GEO_PROGRAM names; else one of BUILT, where no source is newer; else None."""
     if os.environ.get('GEO_PROGRAM'):
         return os.environ['GEO_PROGRAM']
-    built = os.path.join(ROOT, '.built', 'geo')
-    if not os.access(built, os.X_OK):
+    there = [path for path in (os.path.join(ROOT, name) for name in BUILT) if os.access(path, os.X_OK)]
+    if not there:
         return None
-    time = os.path.getmtime(built)
-    sources = [os.path.join(ROOT, 'crates.txt')]
-    for crate in os.listdir(os.path.join(ROOT, 'crates')):
-        for folder, _, files in os.walk(os.path.join(ROOT, 'crates', crate, 'src')):
-            sources += [os.path.join(folder, file) for file in files]
-    return None if any(is_newer(source, time) for source in sources) else built
+    newest = max(os.path.getmtime(source) for source in sources())
+    return next((path for path in there if os.path.getmtime(path) >= newest), None)
 
 
 class Program:
-    """`geo run`, over many scripts: the built program, or one compilation that serves all that are given together."""
+    """The built program, or one compilation that serves all scripts that are given together. What it answered is kept."""
 
     def __init__(self, path=None):
         self.path = path or built_program()
-        self.known = {}
+        self.runs = 0
+        self.known, self.tables, self.words = {}, {}, None
+
+    def has(self, word):
+        """Whether the program has a command of this name: its usage line says so."""
+        if self.words is None:
+            self.words = set(re.findall(r'[a-z]+', self._answer('', b'')[1].partition('geo ')[2])) if self.path else set()
+        return word in self.words
+
+    def answers(self, command, scripts):
+        """What a command prints for each script; fails at the first that is not answered with status 0."""
+        new = [raw for raw in dict.fromkeys(scripts) if (command, raw) not in self.known]
+        for raw, (status, said) in zip(new, self._answers(command, new)):
+            if status != 0:
+                raise Failed(said.strip() or 'geo %s ended with status %d' % (command, status), status)
+            self.known[command, raw] = said
+        return [self.known[command, raw] for raw in scripts]
+
+    def answer(self, command, raw):
+        """What a command prints for a script."""
+        return self.answers(command, [raw])[0]
 
     def reports(self, scripts):
-        """The report of each script; fails at the first that has none."""
-        new = [raw for raw in dict.fromkeys(scripts) if raw not in self.known]
-        for raw, (status, said) in zip(new, self._answers(new)):
-            if status != 0:
-                raise Failed(said.strip() or 'geo run ended with status %d' % status, status)
-            self.known[raw] = Report(said)
-        return [self.known[raw] for raw in scripts]
+        """The report of each script."""
+        for raw, said in zip(scripts, self.answers('run', scripts)):
+            if raw not in self.tables:
+                self.tables[raw] = Report(said)
+        return [self.tables[raw] for raw in scripts]
 
     def report(self, raw):
+        """The report of a script."""
         return self.reports([raw])[0]
 
-    def _answers(self, scripts):
+    def _answers(self, command, scripts):
         """The status and the output of each."""
         if not scripts:
             return []
+        self.runs += len(scripts)
         if self.path:
-            return [self._answer(raw) for raw in scripts]
-        return self._compiled(scripts)
+            return [self._answer(command, raw) for raw in scripts]
+        return self._compiled(command, scripts)
 
-    def _answer(self, raw):
+    def _answer(self, command, raw):
         try:
-            done = subprocess.run([self.path, 'run'], input=raw, capture_output=True, check=False)
+            done = subprocess.run([self.path, *command.split()], input=raw, capture_output=True, check=False)
         except OSError as error:
             raise Failed('%s: %s' % (self.path, error.strerror), NO_PROGRAM) from error
         return done.returncode, done.stdout.decode('ascii', errors='replace')
 
-    def _compiled(self, scripts):
+    @staticmethod
+    def _compiled(command, scripts):
         """The answers of the sources, compiled once, without their proof."""
         if not shutil.which('rt'):
             raise Failed('there is no build of this source, and no toolchain: rt, the command of the Rattle kit, is not in the path', NO_PROGRAM)
@@ -86,7 +110,7 @@ class Program:
             for number, raw in enumerate(scripts):
                 with open(os.path.join(folder, '%07d' % number), 'wb') as file:
                     file.write(raw)
-            words = ['rt', 'try', '--seconds', TRY_SECONDS, '--cases', folder, '--', 'run']
+            words = ['rt', 'try', '--seconds', TRY_SECONDS, '--cases', folder, '--', *command.split()]
             done = subprocess.run(words, cwd=os.path.join(ROOT, 'crates', 'geo_cli'), capture_output=True, text=True, check=False)
         said = dict(re.findall(r'^== (\d{7})\n((?:(?!== |case=).*\n)*)', done.stdout, re.MULTILINE))
         ended = dict(re.findall(r'^case=(\d{7}) run=ended status=(\d+)', done.stderr + done.stdout, re.MULTILINE))
