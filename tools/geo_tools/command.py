@@ -12,9 +12,9 @@ def arguments(parser):
     parser.add_argument('script', metavar='SCRIPT', help='the script; - is standard input')
     parser.add_argument('--from', dest='first', type=int, default=1, metavar='LINE', help='the first line of the script to show')
     parser.add_argument('--to', dest='last', type=int, metavar='LINE', help='the last line of the script to show')
-    parser.add_argument('--program', metavar='FILE', help='a built geo to run in place of .built/geo')
-    parser.epilog = ('At most %d events are shown: the last ones, or the last ones up to --to. Without a build (tools/build) the sources are '
-                     'compiled once, in about a minute. The status is 0; 1 where the script cannot be read; 2 for wrong words; where the '
+    parser.add_argument('--program', metavar='FILE', help='a built geo to run in place of the one that ./geo runs')
+    parser.epilog = ('At most %d events are shown: the last ones, or the last ones up to --to. Without a build the sources are '
+                     'compiled once, in one to two minutes, and the program is kept. The status is 0; 1 where the script cannot be read; 2 for wrong words; where the '
                      'program refuses the script, its own (docs/REPORT.md); 69 without a build and a toolchain, 70 where the toolchain '
                      'failed.' % MOST_EVENTS)
     return parser

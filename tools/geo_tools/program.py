@@ -33,6 +33,8 @@ def sources():
     yield os.path.join(ROOT, 'crates.txt')
     for crate in os.listdir(os.path.join(ROOT, 'crates')):
         for folder, _, files in os.walk(os.path.join(ROOT, 'crates', crate, 'src')):
+            # the folders count as well, so that a removed file does
+            yield folder
             yield from (os.path.join(folder, file) for file in files)
 
 
@@ -47,11 +49,18 @@ def built_program():
     return next((path for path in there if os.path.getmtime(path) >= newest), None)
 
 
+def kept_program():
+    """The same, compiled and kept where there is none yet (tools/compile); None where it can't be kept."""
+    if not built_program() and shutil.which('rt'):
+        subprocess.run([os.path.join(ROOT, 'tools', 'compile')], check=False)
+    return built_program()
+
+
 class Program:
     """The built program, or one compilation that serves all scripts that are given together. What it answered is kept."""
 
     def __init__(self, path=None):
-        self.path = path or built_program()
+        self.path = path or kept_program()
         self.runs = 0
         self.known, self.tables, self.words = {}, {}, None
 
