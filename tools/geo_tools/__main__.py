@@ -3,7 +3,13 @@
   drill        plays a drill and tells it by its own lines              ./geo drill
   story        prints a script with what each of its events did         ./geo story
   page         makes a page of a run, for a browser                     ./geo page
-  why          says why a script is refused                             ./geo why
+  why          says why a script, a trace or a state is refused         ./geo why
+  live         runs a script on threads for many seeds                  tools/live
+  pages        prints what the heads of crates, functions and proofs say  tools/pages
+  help         what ./geo can be told, and the manual page              ./geo help
+  completion   the completion for a shell                               ./geo completion
+  refused      what ./geo has told of a refusal, behind each one
+  json         one document of an answer, for --json of ./geo
 
   examples     makes and checks the input and output of crates/geo_examples
   compacted    makes the compacted views of a run from its report
@@ -30,11 +36,12 @@ if not __package__:
 
 MODULES = {
     'drill': 'drill.expand', 'story': 'story', 'page': 'page.layout', 'why': 'refusals',
+    'live': 'live_runs', 'pages': 'pages', 'help': 'help', 'completion': 'completion', 'refused': 'refusals.behind', 'json': 'documents',
     'examples': 'stored.examples', 'compacted': 'stored.compacted', 'tiered': 'stored.tiered', 'states': 'stored.states', 'slow': 'stored.slow',
     'definitions': 'computed.definitions', 'planted': 'computed.planted', 'random': 'computed.random_runs',
     'audit': 'apart.audit', 'memory': 'apart.memory'}
 # those that have words of their own behind --help
-PARSING = ('drill', 'story', 'page')
+PARSING = ('drill', 'story', 'page', 'live', 'help')
 # the status of wrong words
 WRONG_WORDS = 2
 
@@ -51,7 +58,14 @@ def main(words):
     if words[0] not in PARSING and words[1:] in (['-h'], ['--help']):
         print(module.__doc__)
         return 0
-    return module.main(words[1:])
+    try:
+        status = module.main(words[1:])
+        sys.stdout.flush()
+    except BrokenPipeError:
+        # who read has enough
+        os.dup2(os.open(os.devnull, os.O_WRONLY), sys.stdout.fileno())
+        return 0
+    return status
 
 
 if __name__ == '__main__':
