@@ -4,6 +4,7 @@
   story        prints a script with what each of its events did         ./geo story
   page         makes a page of a run, for a browser                     ./geo page
   why          says why a script, a trace or a state is refused         ./geo why
+  check        checks the tools, the drills and what is stored          tools/check
   live         runs a script on threads for many seeds                  tools/live
   pages        prints what the heads of crates, functions and proofs say  tools/pages
   help         what ./geo can be told, and the manual page              ./geo help
@@ -35,13 +36,13 @@ if not __package__:
     __package__ = 'geo_tools'
 
 MODULES = {
-    'drill': 'drill.expand', 'story': 'story', 'page': 'page.layout', 'why': 'refusals',
+    'drill': 'drill.main', 'story': 'story', 'page': 'page.layout', 'why': 'refusals', 'check': 'check',
     'live': 'live_runs', 'pages': 'pages', 'help': 'help', 'completion': 'completion', 'refused': 'refusals.behind', 'json': 'documents',
     'examples': 'stored.examples', 'compacted': 'stored.compacted', 'tiered': 'stored.tiered', 'states': 'stored.states', 'slow': 'stored.slow',
     'definitions': 'computed.definitions', 'planted': 'computed.planted', 'random': 'computed.random_runs',
     'audit': 'apart.audit', 'memory': 'apart.memory'}
 # those that have words of their own behind --help
-PARSING = ('drill', 'story', 'page', 'live', 'help')
+PARSING = ('drill', 'story', 'page', 'check', 'live', 'help')
 # the status of wrong words
 WRONG_WORDS = 2
 

@@ -25,6 +25,11 @@ def read_script(path):
         return file.read()
 
 
+def read_text(path):
+    """The text of a file; what is no text as replacement characters."""
+    return read_script(path).decode('utf-8', errors='replace')
+
+
 def shown(show, words):
     """Shows a script, and gives the status that says how that went."""
     try:

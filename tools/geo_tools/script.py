@@ -74,11 +74,16 @@ class Script:
 
     def subscription(self, client, done):
         """The name of the subscription of a client that has done so many of its lines; None where it has none in force."""
-        name = None
-        for line in self.does.get(client, [])[:done]:
-            words = line.split(' ')
-            if words[0] == 'sub':
-                name = words[1]
-            elif words[0] in ('unsub', 'close'):
-                name = None
-        return name
+        return in_force(self.does.get(client, [])[:done])
+
+
+def in_force(lines):
+    """The name of the subscription that is in force behind these lines of a client; None where none is."""
+    name = None
+    for line in lines:
+        words = line.split(' ')
+        if words[0] == 'sub':
+            name = words[1]
+        elif words[0] in ('unsub', 'close'):
+            name = None
+    return name
