@@ -228,8 +228,10 @@ def copy_of_crate(where, paths, as_test=False, as_trace=False):
     crate = os.path.join(where, 'crates', 'geo_base')
     shutil.copytree(os.path.join(ROOT, 'crates', 'geo_base'), crate, symlinks=True)
     shutil.copy(os.path.join(ROOT, 'HANDLES'), where)
-    with open(os.path.join(where, 'crates.txt'), 'w') as file:
-        file.write('geo_base: thiserror\n')
+    with open(os.path.join(ROOT, 'crates.txt'), encoding='utf-8') as file:
+        row = [line for line in file if line.startswith('geo_base:') or line.strip() == 'geo_base']
+    with open(os.path.join(where, 'crates.txt'), 'w', encoding='utf-8') as file:
+        file.writelines(row)
     proofs = os.path.join(crate, 'proofs')
     for old in os.listdir(proofs):
         if old.startswith('Run_'):
@@ -242,28 +244,69 @@ def copy_of_crate(where, paths, as_test=False, as_trace=False):
     return crate
 
 
-def refused(crate):
-    """Checks the crate; gives the names of the runs that were refused, and what else was."""
-    done = subprocess.run(['rt', 'check'], cwd=crate, capture_output=True, text=True)
-    lines = (done.stdout + done.stderr).split('\n')
-    errors = [line for line in lines if re.search(r'\berror\b', line)]
-    runs = {found.group(1) for line in errors for found in [re.search(r'Run_(\w+)\.antt', line)] if found}
-    other = [line for line in errors if 'Run_' not in line]
-    proved = any(line.startswith('logic=proved') for line in lines)
-    return runs, other, proved
+NO_CHECKER = 'rt, the command of the Rattle kit, is not in the path'
+
+
+class Verdict:
+    """What the checker said of a copy of the crate: `runs` were refused, `other` are errors elsewhere, of which `lemmas` are those of the
+    crate's own proofs, `said` is all of it.
+
+    What it proved it computed. Where it refused something nothing is known of the rest.
+    """
+
+    def __init__(self, said):
+        self.said = said.split('\n')
+        errors = [line for line in self.said if re.search(r'\berror\b', line)]
+        self.runs = {found.group(1) for line in errors for found in [re.search(r'Run_(\w+)\.antt', line)] if found}
+        self.other = [line for line in errors if 'Run_' not in line]
+        self.lemmas = [line for line in self.other if line.startswith('./proofs/')]
+        self.is_proved = any(line.startswith('logic=proved') for line in self.said) and not errors
+
+
+def checked(crate):
+    """Has the checker compute the runs of a copy of the crate."""
+    if not shutil.which('rt'):
+        return Verdict(NO_CHECKER)
+    done = subprocess.run(['rt', 'check'], cwd=crate, capture_output=True, text=True, check=False)
+    return Verdict(done.stdout + done.stderr)
+
+
+# the statuses of a check: a run was refused, or nothing is known of one
+REFUSED, NOT_COMPUTED = 1, 2
+# how many lines of the checker are shown where it came to nothing
+SHOWN = 20
+
+
+def verdicts(paths, as_trace=False):
+    """What becomes of each run, and what the checker said last.
+
+    Of those that stand beside a run that is refused nothing is known, so they are computed again without it.
+    """
+    said, left = {path: 'not computed' for path in paths}, list(paths)
+    while left:
+        with tempfile.TemporaryDirectory() as where:
+            verdict = checked(copy_of_crate(where, left, as_trace, as_trace))
+        refused = [path for path in left if os.path.basename(path)[:-len('.geo')] in verdict.runs]
+        if verdict.is_proved:
+            said.update(dict.fromkeys(left, 'agrees'))
+        if verdict.is_proved or verdict.other or not refused:
+            break
+        said.update(dict.fromkeys(refused, 'REFUSED'))
+        left = [path for path in left if path not in refused]
+    return said, verdict
 
 
 def check(paths, as_trace=False):
-    with tempfile.TemporaryDirectory() as where:
-        began = time.time()
-        runs, other, proved = refused(copy_of_crate(where, paths, as_trace, as_trace))
-        for path in paths:
-            base = os.path.basename(path)[:-len('.geo')]
-            print('%s %s' % ('REFUSED' if base in runs else 'agrees', base))
-        for line in other[:5]:
-            print(line)
-        print('%d runs, %d refused, %.0f seconds' % (len(paths), len(runs), time.time() - began))
-        return 0 if proved and not runs and not other else 1
+    """Computes runs, and says which agree; gives the status."""
+    began = time.time()
+    said, verdict = verdicts(paths, as_trace)
+    for path, word in said.items():
+        print('%s %s' % (word, os.path.basename(path)[:-len('.geo')]))
+    if 'not computed' in said.values():
+        print('\n'.join(verdict.said[-SHOWN:]))
+    count = {word: list(said.values()).count(word) for word in ('agrees', 'REFUSED', 'not computed')}
+    print('%d runs: %d agree, %d refused, %d not computed, %.0f seconds' % (len(paths), *count.values(), time.time() - began))
+    return REFUSED if count['REFUSED'] else NOT_COMPUTED if count['not computed'] else 0
 
 
 def main(words):

@@ -100,16 +100,25 @@ def planted(text, edit):
 
 
 def refusing(crate, module, edit):
-    """Which runs of a copy of the crate refuse an error, or what the checker says where the error does not read."""
+    """What the checker says of a copy of the crate with an error planted in it."""
     path = os.path.join(crate, 'specs', module + '.antt')
     with open(path) as file:
         sound = file.read()
     with open(path, 'w') as file:
         file.write(planted(sound, edit))
-    runs, other, _ = definitions.refused(crate)
+    verdict = definitions.checked(crate)
     with open(path, 'w') as file:
         file.write(sound)
-    return runs, other
+    return verdict
+
+
+def worded(said):
+    """What is told where the crate was not proved. A lemma that is refused is known before any run is computed."""
+    if said.runs and not said.other:
+        return 'refused by %d: %s' % (len(said.runs), ' '.join(sorted(said.runs)[:4]))
+    if said.lemmas and said.lemmas == said.other:
+        return 'refused by a lemma: ' + said.lemmas[0]
+    return 'NOT COMPUTED: ' + (said.other or [line for line in said.said if line])[-1]
 
 
 def main(words):
@@ -125,12 +134,9 @@ def main(words):
         for name, (module, *edit) in chosen.items():
             began, verdict = time.time(), 'STANDS'
             for crate in copies:
-                runs, other = refusing(crate, module, edit)
-                if other:
-                    verdict = 'DOES NOT READ: ' + other[0]
-                elif runs:
-                    verdict = 'refused by %d: %s' % (len(runs), ' '.join(sorted(runs)[:4]))
-                if other or runs:
+                said = refusing(crate, module, edit)
+                if not said.is_proved:
+                    verdict = worded(said)
                     break
             stands += not verdict.startswith('refused')
             print('%-48s %s (%.0f s)' % (name, verdict, time.time() - began), flush=True)
