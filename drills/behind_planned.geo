@@ -130,7 +130,8 @@ get bill
 get bill
 go bill
 serve east bill
-# East takes a last snapshot. Billing has passed it, so east tells west.
+# All comes over again, and east takes a last snapshot. Billing has passed it, so east tells west.
+settle
 snap orders east
 settle
 offer orders east billing

@@ -12,7 +12,7 @@
 //! Behind `== vectors NAME` vectors of the codecs stand, behind `== packets NAME` packets of one link, and behind `== back NAME` a script
 //! that is written as it was read: what `byte_answers` says of them.
 //!
-//! The input is made of the repository's examples, runs, answers and bytes by `tools/example_runs.py`, and what is expected of their reports.
+//! The input is made of the repository's examples, runs, answers and bytes by `geo_tools examples`, and what is expected of their reports.
 #![tactic(auto)]
 
 mod section;

@@ -1,0 +1,100 @@
+# A planned move: billing goes from east to west, and nothing comes again. What are the steps?
+geo 1
+cluster east
+cluster west
+topic orders
+client shop orders east
+client kiosk orders west
+client bill orders east
+do shop produce
+do shop pub 0 * - order0
+do shop pub 1 * - order1
+do shop pub 2 * - order2
+do kiosk produce
+do kiosk pub 0 * - walkin0
+do bill sub billing exclusive earliest replicated
+do bill flow 100
+do bill ackall
+do bill move west
+reset orders east west
+take orders east west good
+receipt orders east west good
+reset orders west east
+take orders west east good
+receipt orders west east good
+reconnect shop
+serve east shop
+get shop
+go shop
+serve east shop
+get shop
+go shop
+serve east shop
+get shop
+go shop
+serve east shop
+get shop
+reconnect kiosk
+serve west kiosk
+get kiosk
+go kiosk
+serve west kiosk
+get kiosk
+go kiosk
+serve west kiosk
+get kiosk
+reconnect bill
+serve east bill
+get bill
+go bill
+serve east bill
+get bill
+go bill
+serve east bill
+read orders east west
+take orders east west good
+receipt orders east west good
+read orders west east
+take orders west east good
+receipt orders west east good
+read orders east west
+take orders east west good
+receipt orders east west good
+read orders west east
+read orders east west
+read orders west east
+# Billing drains its backlog at east.
+offer orders east billing
+offer orders east billing
+offer orders east billing
+get bill
+get bill
+get bill
+go bill
+serve east bill
+# All comes over; a snapshot is asked for and ends; billing is offered its marker and passes it; the update comes over; then billing moves.
+settle
+snap orders east
+settle
+offer orders east billing
+offer orders east billing
+offer orders east billing
+offer orders east billing
+settle
+go bill
+serve west bill
+serve west bill
+serve west bill
+get bill
+get bill
+# What is new comes, at west, and nothing else.
+go shop
+serve east shop
+get shop
+read orders east west
+take orders east west good
+receipt orders east west good
+offer orders west billing
+offer orders west billing
+offer orders west billing
+get bill
