@@ -2,9 +2,14 @@
 import os
 import sys
 
+from . import drill
+from .drill.words import Refused
 from .program import Failed, Program
 from .script import Script
-from .steps import MOST_EVENTS
+from .step_lines import MOST_EVENTS
+
+# the status of a drill that cannot be meant
+REFUSED = 3
 
 
 def arguments(parser):
@@ -13,8 +18,9 @@ def arguments(parser):
     parser.add_argument('--from', dest='first', type=int, default=1, metavar='LINE', help='the first line of the script to show')
     parser.add_argument('--to', dest='last', type=int, metavar='LINE', help='the last line of the script to show')
     parser.add_argument('--program', metavar='FILE', help='a built geo to run in place of the one that ./geo runs')
-    parser.epilog = ('At most %d events are shown: the last ones, or the last ones up to --to. Without a build the sources are '
-                     'compiled once, in one to two minutes, and the program is kept. The status is 0; 1 where the script cannot be read; 2 for wrong words; where the '
+    parser.epilog = ('What each event did is told by `geo steps`; where the program has no such command, by a run of each beginning of the '
+                     'script, of at most %d events. Without a build the sources are compiled once, in one to two minutes, and the program is '
+                     'kept. The status is 0; 1 where the script cannot be read; 2 for wrong words; 3 where the drill is refused; where the '
                      'program refuses the script, its own (docs/REPORT.md); 69 without a build and a toolchain, 70 where the toolchain '
                      'failed.' % MOST_EVENTS)
     return parser
@@ -30,11 +36,22 @@ def read_text(path):
     return read_script(path).decode('utf-8', errors='replace')
 
 
+def script_of(path, program):
+    """The script in a file; of a drill the one that it makes, with the drill's own lines as comments."""
+    raw = read_script(path)
+    text = raw.decode('utf-8', errors='replace')
+    return Script(drill.annotated(text, path, program) if drill.is_drill(path, text) else raw)
+
+
 def shown(show, words):
     """Shows a script, and gives the status that says how that went."""
     try:
-        show(Script(read_script(words.script)), Program(words.program))
+        program = Program(words.program)
+        show(script_of(words.script, program), program)
         sys.stdout.flush()
+    except Refused as refused:
+        print(refused.shown(), file=sys.stderr)
+        return REFUSED
     except Failed as failed:
         print(failed, file=sys.stderr)
         return failed.status

@@ -1,7 +1,7 @@
-"""Prints a script with what each of its events did behind it: which line of the report came, went or changed.
+"""Prints a script, or a drill, with what each of its events did behind it: which line of the report came, went or changed.
 
-Behind an event stands `idle`; or `-` where it was done and no line of the report changed, as where a packet was only sent; or
-what changed:
+Behind an event stands `idle` with the cause; or `-` where it was done and no line of the report changed, as where a packet was only
+sent; or what changed:
 
   at X entry ..         an entry was stored at X, with the rest of its line of the report
   at X sender Y ..      X's replicator to Y: its session, its state, its mark
@@ -13,14 +13,21 @@ what changed:
                         before for the same subscription
 
 With several topics `at X` is `T at X`. A settle or a stop is one event with all that it changed. docs/REPORT.md says what a report's
-lines mean. Behind the last event stand the lines that were idle and the messages that came again.
+lines mean. Of a drill its own lines are shown, each with what changed from before it to behind it. Behind the last event stand the
+lines that were idle and the messages that came again.
 """
 import argparse
+import json
 
 from . import command, steps as m
+from .acts import Act, acts_of, own_names
+from .changes import folded_changes
+from .idle import Idle
 
 # an event's words take at most this many columns before what it did
 MOST_COLUMNS = 36
+# the events of a drill's line stand under it
+UNDER = '  '
 
 
 def parts(old, new, names):
@@ -28,118 +35,209 @@ def parts(old, new, names):
     return ', '.join('%s %s -> %s' % (name, getattr(old, name), getattr(new, name)) for name in names if getattr(old, name) != getattr(new, name))
 
 
-def sub_text(change):
-    name, new = change.name, change.after
-    if new is None:
-        return 'sub %s is gone' % name
-    if change.before is None:
-        return 'sub %s %s %s mark %d backlog %d' % (name, new.kind, new.replicated, new.mark, new.backlog)
-    return 'sub %s %s' % (name, parts(change.before, new, ('kind', 'replicated', 'mark', 'backlog', 'seeks')))
+class Teller:
+    """Tells changes in words, by the names of a drill where it has its own."""
+
+    def __init__(self, script, program=None):
+        self.script, self.names = script, own_names(script)
+        self.idle = Idle(script, program) if program else None
+
+    def name(self, name):
+        return self.names.get(name, name)
+
+    def place(self, change):
+        at = 'at %s ' % self.name(change.cluster)
+        return '%s %s' % (self.name(change.topic), at) if len(self.script.topics) > 1 else at
+
+    def text(self, change):
+        """A change in words."""
+        return getattr(self, '_' + type(change).__name__)(change)
+
+    def _Got(self, change):
+        origin, producer, seq = change.message
+        text = '%s got %s %s %s' % (self.name(change.client), self.name(origin), self.name(producer), seq)
+        if change.again:
+            text += ' again'
+        return text + (' after ' + ', '.join(map(self.name, change.others)) if change.others else '')
+
+    def _Did(self, change):
+        return '%s does: %s' % (self.name(change.client), change.line)
+
+    def _Moved(self, change):
+        return '%s is at %s' % (self.name(change.client), self.name(change.after))
+
+    def _Counted(self, change):
+        return '%s %s %d -> %d' % (self.name(change.client), change.word, change.before, change.after)
+
+    def _Stored(self, change):
+        it = change.entry
+        return self.place(change) + 'entry ' + ' '.join((it.position, self.name(it.origin), self.name(it.producer), it.seq, it.targets, it.what))
+
+    def _SenderChange(self, change):
+        told = parts(change.before, change.after, ('session', 'state', 'mark')).replace('state ', '')
+        return self.place(change) + 'sender %s %s' % (self.name(change.to), told)
+
+    def _SubChange(self, change):
+        name, new = self.name(change.name), change.after
+        if new is None:
+            return self.place(change) + 'sub %s is gone' % name
+        if change.before is None:
+            return self.place(change) + 'sub %s %s %s mark %d backlog %d' % (name, new.kind, new.replicated, new.mark, new.backlog)
+        return self.place(change) + 'sub %s %s' % (name, parts(change.before, new, ('kind', 'replicated', 'mark', 'backlog', 'seeks')))
+
+    # ---- events ----
+
+    def idle_text(self, moment):
+        """That an event was idle, and why."""
+        cause = self.idle.cause(moment.event) if self.idle else ''
+        if not cause and moment.waits is not None:
+            cause = 'its line waits: ' + moment.waits if moment.waits else 'no line is left'
+        return 'idle' + (': ' + cause if cause else '')
+
+    def effects(self, moment):
+        """What an event did, a text a line."""
+        if moment.idle:
+            return [self.idle_text(moment)]
+        changes = folded_changes(moment.changes) if moment.inside else moment.changes
+        return self.counts([moment]) + [self.text(change) for change in changes] or ['-']
+
+    def folded(self, moments):
+        """What several events did, a text a line: what changed from before the first to behind the last."""
+        changes = folded_changes(change for moment in moments for change in moment.changes)
+        idle = [self.idle_text(moment) for moment in moments if moment.idle]
+        return self.counts(moments) + [self.text(change) for change in changes] + idle or ['-']
+
+    @staticmethod
+    def counts(moments):
+        """Of settles how many rounds and events they took."""
+        settles = [moment for moment in moments if moment.event.words[0] == 'settle']
+        return ['%d rounds, %d events' % (sum(it.rounds for it in settles), sum(it.events for it in settles))] if settles else []
 
 
-def entry_text(entry):
-    return 'entry ' + ' '.join((entry.position, entry.origin, entry.producer, entry.seq, entry.targets, entry.what))
-
-
-def got_text(change):
-    text = '%s got %s' % (change.client, ' '.join(change.message))
-    if change.again:
-        text += ' again'
-    if change.others:
-        text += ' after ' + ', '.join(change.others)
-    return text
-
-
-def text_of(change, several):
-    """A change in words. `several`: the script has several topics, so that places name theirs."""
-    if isinstance(change, m.Got):
-        return got_text(change)
-    if isinstance(change, m.Did):
-        return '%s does: %s' % (change.client, change.line)
-    if isinstance(change, m.Moved):
-        return '%s is at %s' % (change.client, change.after)
-    if isinstance(change, m.Counted):
-        return '%s %s %d -> %d' % (change.client, change.word, change.before, change.after)
-    place = ('%s at %s ' % (change.topic, change.cluster)) if several else 'at %s ' % change.cluster
-    if isinstance(change, m.Stored):
-        return place + entry_text(change.entry)
-    if isinstance(change, m.SenderChange):
-        old, new = change.before, change.after
-        return place + 'sender %s %s' % (change.to, parts(old, new, ('session', 'state', 'mark')).replace('state ', ''))
-    return place + sub_text(change)
-
-
-def next_line(script, moment):
-    """Of a `go` that was idle: which line waits."""
-    words = moment.event.words
-    client = moment.after.clients.get(words[1]) if words[0] == 'go' and len(words) > 1 else None
-    if client is None:
-        return ''
-    if client.done == client.total:
-        return ', no line is left'
-    return ', its next line is: ' + script.does[words[1]][client.done]
-
-
-def effects(script, moment):
-    """What an event did, a text a line."""
-    if moment.idle:
-        return ['idle' + next_line(script, moment)]
-    texts = [text_of(change, len(script.topics) > 1) for change in moment.changes]
-    if moment.event.words[0] == 'settle':
-        texts.insert(0, '%d rounds, %d events' % (moment.rounds, moment.events))
-    return texts or ['-']
+# ---- lines ----
 
 
 def row(number, width, left, right):
     return ('%*s  %s' % (width, number, left) if right is None else '%*s  %s  %s' % (width, number, left, right)).rstrip()
 
 
-def told(script, moment, width, columns):
-    """The lines of an event: its comments as headings, its words, and what it did."""
-    for comment in moment.event.comments:
-        yield '# ' + comment
-    words = ' '.join(moment.event.words)
-    first, *rest = effects(script, moment)
-    if len(words) > columns:
-        yield row(moment.event.line, width, words, None)
-        yield row('', width, ' ' * columns, first)
-    else:
-        yield row(moment.event.line, width, words.ljust(columns), first)
-    for effect in rest:
-        yield row('', width, ' ' * columns, effect)
+class Lines:
+    """The lines of a story: numbers, words and effects in columns."""
+
+    def __init__(self, script, teller, nodes, packets):
+        self.script, self.teller, self.packets = script, teller, packets
+        self.width = len(str(max([node.line for node in nodes] + [event.line for event in script.events[-1:]] + [0])))
+        acts = [node for node in nodes if isinstance(node, Act)]
+        words = [' '.join(moment.event.words) for act in acts if not act.own for moment in act.moments]
+        words += [act.text for act in acts if act.own]
+        if packets:
+            words += [UNDER + ' '.join(moment.event.words) for act in acts if act.own for moment in act.moments]
+            words += [2 * UNDER + ' '.join(event.event.words) for act in acts for moment in act.moments for event in moment.inside]
+        self.columns = min(MOST_COLUMNS, max(map(len, words), default=0))
+
+    def node(self, node):
+        """The lines of a heading or an act."""
+        if not isinstance(node, Act):
+            yield from ('# ' + line for line in node.lines)
+        elif node.own:
+            yield from self.own(node)
+        elif node.facts and not node.moments:
+            yield row(node.line, self.width, '# ' + node.text, None)
+        else:
+            for moment in node.moments:
+                yield from self.told(moment.event.line, ' '.join(moment.event.words), self.teller.effects(moment))
+                yield from self.inside(moment)
+
+    def own(self, act):
+        """A line of a drill, folded or with its events."""
+        seen = [act.seen] if act.seen else []
+        if not self.packets:
+            yield from self.told(act.line, act.text, seen + (self.teller.folded(act.moments) if act.moments else []))
+            return
+        yield from self.told(act.line, act.text, seen)
+        for moment in act.moments:
+            yield from self.told('', UNDER + ' '.join(moment.event.words), self.teller.effects(moment))
+            yield from self.inside(moment)
+
+    def inside(self, moment):
+        """The events of a settle."""
+        for event in moment.inside if self.packets else ():
+            yield from self.told('', 2 * UNDER + ' '.join(event.event.words), self.teller.effects(event))
+
+    def told(self, number, words, effects):
+        """A line's words, and behind them what it did."""
+        if len(words) > self.columns and effects:
+            yield row(number, self.width, words, None)
+            yield row('', self.width, ' ' * self.columns, effects[0])
+        else:
+            yield row(number, self.width, words.ljust(self.columns), effects[0] if effects else None)
+        for effect in effects[1:]:
+            yield row('', self.width, ' ' * self.columns, effect)
 
 
 def declared(script, width):
     """The lines above the first event."""
     for other in script.above():
-        yield '# ' + other.text if other.kind == 'comment' else row(other.line, width, other.text, None)
+        if other.kind != 'comment':
+            yield row(other.line, width, other.text, None)
+        elif not other.text.startswith('name '):
+            yield '# ' + other.text
 
 
-def closing(told_moments, whole):
+def closing(teller, nodes, whole):
     """What stands behind the last event: idle lines, and what came again."""
-    idle = [str(moment.event.line) for moment in told_moments if moment.idle]
-    again = [change for moment in told_moments for change in moment.changes if isinstance(change, m.Got) and (change.again or change.others)]
+    moments = [(node.line if node.own else moment.event.line, moment) for node in nodes if isinstance(node, Act) for moment in node.moments]
+    idle = list(dict.fromkeys(str(line) for line, moment in moments if moment.idle))
+    again = [change for _, moment in moments for change in moment.changes if isinstance(change, m.Got) and (change.again or change.others)]
     yield 'idle: ' + ('line ' + ', '.join(idle) if idle else 'none')
-    yield 'again: ' + ('; '.join(got_text(change) for change in again) if again else 'none')
+    yield 'again: ' + ('; '.join(map(teller.text, again)) if again else 'none')
     yield whole.text.split('\n', 1)[0]
 
 
-def story(script, program, first, last):
+def story(script, run, teller, packets=False):
     """The lines of a story."""
-    moments, left_out, whole = m.moments(script, program, first, last)
-    width = len(str(script.events[-1].line if script.events else 0))
-    columns = min(MOST_COLUMNS, max([len(' '.join(moment.event.words)) for moment in moments], default=0))
-    if left_out or len(moments) < len(script.events):
-        yield '# %d of %d lines of events are shown' % (len(moments), len(script.events))
-    if not left_out and (moments or not script.events):
-        yield from declared(script, width)
-    for moment in moments:
-        yield from told(script, moment, width, columns)
+    nodes, _ = acts_of(script, run.moments)
+    lines = Lines(script, teller, nodes, packets)
+    if len(run.moments) < len(script.events):
+        yield '# %d of %d lines of events are shown' % (len(run.moments), len(script.events))
+    if not run.left_out and (run.moments or not script.events):
+        yield from declared(script, lines.width)
+    for node in nodes:
+        yield from lines.node(node)
     yield ''
-    yield from closing(moments, whole)
+    yield from closing(teller, nodes, run.whole)
+
+
+# ---- records ----
+
+
+def record_of(teller, moment):
+    """An event as a record."""
+    return {'line': moment.event.line, 'words': ' '.join(moment.event.words), 'idle': moment.idle, 'effects': teller.effects(moment),
+            'events': [record_of(teller, event) for event in moment.inside]}
+
+
+def records(script, run, teller):
+    """A story as one document: its headings, its lines with their events, and its counts."""
+    nodes, _ = acts_of(script, run.moments)
+    told = []
+    for node in nodes:
+        if isinstance(node, Act):
+            told.append({'line': node.line, 'words': node.text, 'own': node.own, 'seen': node.seen, 'effects': teller.folded(node.moments) if node.moments else [],
+                         'events': [record_of(teller, moment) for moment in node.moments]})
+        else:
+            told.append({'line': node.line, 'heading': node.text})
+    whole = run.whole
+    return {'title': script.title(), 'lines': told, 'events': whole.events, 'idle': whole.idle, 'rounds': whole.rounds}
 
 
 def main(words):
     parser = command.arguments(argparse.ArgumentParser(prog='geo story', description=__doc__, formatter_class=argparse.RawDescriptionHelpFormatter))
+    parser.add_argument('--packets', action='store_true', help="shows the events of a drill's lines and of a settle, each with what it did")
+    parser.add_argument('--json', action='store_true', help='prints one JSON document')
     words = parser.parse_args(words)
-    return command.shown(lambda script, program: print('\n'.join(story(script, program, words.first, words.last))), words)
+
+    def show(script, program):
+        run, teller = m.run(script, program, words.first, words.last), Teller(script, program)
+        print(json.dumps(records(script, run, teller), indent=1) if words.json else '\n'.join(story(script, run, teller, words.packets)))
+    return command.shown(show, words)

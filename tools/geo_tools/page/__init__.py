@@ -1,8 +1,7 @@
-"""The page of a run, to be looked at in a browser."""
+"""The page of a run, for a browser (docs/PAGE.md)."""
 
 
 def page_of(name, raw, program):
     """The lines of the page of a script."""
-    from ..script import Script
-    from .layout import page
-    return page(name, Script(raw), program, 1, None)
+    from . import document
+    return document.page_of(name, raw, program)

@@ -1,47 +1,66 @@
-"""The measures, the style and the key of the pages of tools/picture."""
+"""The style and the script of a page, and the rules that hang on its columns."""
+import os
 
-# pixels; a page of three clusters and four clients fits a window of 1,300
-PAGE, MARGIN = 1264, 8
-LINE, PAD = 15, 3
-HEADING = 17
-LANE_LEAST, LANE_MOST = 158, 300
-CLIENT_LEAST, CLIENT_MOST = 112, 240
-DOT = 11
-BAR = 42
-# an arrow leaves its lane so far above its end
-TURN = 54
-# a drawing is in pieces of about this height, so that a printed page ends between rows
-PIECE = 120
-# what lies below the lines
-BELOW = ('<rect class="idle"', '<line class="rule"')
-# an event's words take at most this many letters
-MOST_LETTERS = 36
-# how wide a letter is taken to be at the three sizes that are used
-MONO, SMALL, BOLD = 6.7, 5.6, 7.2
+HERE = os.path.dirname(os.path.abspath(__file__))
+# the width of a folded column, in which its line stands
+FOLDED = '26px'
+# from which width on an event stands beside its row, and where more than so many columns are open
+NARROW, NARROW_OF_MANY, MANY = '(max-width: 720px)', '(max-width: 1100px)', 6
+# how wide a lane is beside a client's column
+LANE = '1.35fr'
 
-# colours of clusters, dark enough to print
-COLOURS = ('#1f5fa8', '#a8541f', '#2f7d4f', '#7b3fa0', '#8a7500', '#b0306a', '#3b7f8c', '#5a5a5a')
 
-STYLE = '''
-body { font: 14px/1.45 Arial, "Liberation Sans", "DejaVu Sans Condensed", sans-serif; margin: 16px; color: #111; background: #fff; }
-h1 { font-size: 20px; margin: 0 0 4px; } h2 { font-size: 15px; margin: 18px 0 4px; } p { margin: 4px 0; max-width: 1000px; }
-table { border-collapse: collapse; font-size: 12.5px; margin: 6px 0; } td, th { border: 1px solid #bbb; padding: 1px 7px; text-align: left; }
-th { background: #eee; } td.none { color: #777; } .twice { color: #c00000; font-weight: bold; text-decoration: underline; }
-pre { font-size: 12px; } .run { margin: 0; } .run tbody svg { overflow: visible; } .run td { border: none; padding: 0; } .run thead td { position: sticky; top: 0; background: #fff; box-shadow: 0 1px #555; }
-svg { display: block; } svg text { font: 11px Arial, "Liberation Sans", "DejaVu Sans Condensed", sans-serif; fill: #111; paint-order: stroke; stroke: #fff; stroke-width: 3px; }
-svg text.i { stroke: none; } svg text.n { fill: #666; text-anchor: end; } svg text.w { font: 11px "DejaVu Sans Mono", Menlo, Consolas, monospace; } svg text.h { font-size: 12.5px; font-weight: bold; }
-svg text.q { fill: #666; } svg text.b { font-weight: bold; } svg text.e, tspan.again, tspan.after { fill: #c00000; font-weight: bold; } tspan.again, tspan.after { text-decoration: underline; }
-tspan.p { fill: #666; } .idle { fill: #f6e7b8; } .rule { stroke: #e4e4e4; } .at { stroke-width: 3; } .arrow-way { stroke-width: 1.1; opacity: .75; }
-.dot, .key-dot { stroke: #fff; } .square, .key-square { stroke-width: 1.6; fill: #fff; } .arrow, .key-arrow { fill: none; stroke-width: 1.1; opacity: .75; }
-.dark { fill: #333; } .light { fill: #c9c9c9; stroke: #333; stroke-width: .6; } .box { fill: none; stroke: #333; stroke-width: .6; }
-@media print { .run tr { break-inside: avoid; } .run { width: 100% !important; } .run thead td { position: static; } svg { width: 100%; height: auto; } * { print-color-adjust: exact; -webkit-print-color-adjust: exact; } @page { size: landscape; margin: 10mm; } }
-'''
+def read(name):
+    with open(os.path.join(HERE, name), encoding='utf-8') as file:
+        return file.read()
 
-# it has classes of its own, so that it is not counted among what happened
-KEY = '''<svg width="1240" height="22" viewBox="0 0 1240 22"><circle class="key-dot" cx="10" cy="11" r="4.5" fill="#1f5fa8"/><text x="20" y="15">message stored</text>
-<rect class="key-square" x="118" y="7" width="7" height="7" stroke="#1f5fa8"/><text x="132" y="15">marker stored</text>
-<path class="key-arrow" stroke="#1f5fa8" d="M226 11h24"/><path fill="#1f5fa8" d="M256 11l-6 -3v6z"/><text x="262" y="15">brought by replication</text>
-<rect class="light" x="424" y="7" width="16" height="8"/><rect class="dark" x="404" y="7" width="20" height="8"/><text x="446" y="15">subscription: mark-delete | backlog</text>
-<text class="q" x="650" y="15">to X: a replicator’s state, mark</text><rect class="idle" x="830" y="3" width="46" height="16"/><text class="i" x="838" y="15">idle</text>
-<text x="890" y="15" style="fill:#c00000;font-weight:bold;text-decoration:underline">again</text><text x="926" y="15">the client got it before;</text>
-<text x="1050" y="15" style="fill:#c00000;font-weight:bold;text-decoration:underline">after C</text><text x="1094" y="15">C did, of its subscription</text></svg>'''
+
+def style_text(columns):
+    """The style; a page of many columns puts the event above its row already in a wider window."""
+    style = read('page.css')
+    return style.replace(NARROW, NARROW_OF_MANY) if len(columns.script.clusters) + len(columns.clients) > MANY else style
+
+
+def script_text():
+    return read('page.js')
+
+
+def column_rules(columns):
+    """The columns of the grid: each a variable, so that a box folds it."""
+    lanes, count = len(columns.lanes), len(columns.at)
+    widths = ''.join('--w%d:minmax(var(--least),%s);' % (at, LANE if at < lanes else '1fr') for at in range(count))
+    return '.run{%s--cols:%s}\n' % (widths, ' '.join('var(--w%d)' % at for at in range(count)))
+
+
+def chooser_rules(columns):
+    """Of each column which boxes fold it."""
+    script, rules = columns.script, []
+    for at, (topic, cluster) in enumerate(columns.lanes):
+        boxes = ['x%d' % script.clusters.index(cluster)] + (['t%d' % script.topics.index(topic)] if len(script.topics) > 1 else [])
+        rules += [folds(box, at) for box in boxes]
+    for number, client in enumerate(columns.clients):
+        boxes = ['c%d' % number] + (['t%d' % script.topics.index(script.topic_of[client])] if len(script.topics) > 1 else [])
+        rules += [folds(box, columns.at[client]) for box in boxes]
+    return ''.join(rules)
+
+
+def folds(box, column):
+    where = '.wh:has(#%s:not(:checked)) .run' % box
+    return '%s{--w%d:%s}%s .k%d>:not(b):not(.v){display:none}\n' % (where, column, FOLDED, where, column)
+
+
+# each sign with what it means; it has classes of its own where the browser's check counts those of the drawing
+KEY = (
+    ('<span class="kd"><b class="d q0"></b></span>', 'message stored'), ('<span class="kd"><b class="m q0"></b></span>', 'marker stored'),
+    ('<span class="ka"><b class="a rt q0"></b></span>', 'brought by replication'),
+    ('<i class="br" style="background:linear-gradient(90deg,var(--da) 45%,var(--li) 45% 60%,var(--da) 60% 75%,var(--li) 75% 90%,transparent 90%)"></i>',
+     'subscription: dark is acknowledged, light is not (a hole between dark ones)'),
+    ('<span class="kb"><i class="ax ls"></i></span>', 'region lost'), ('<span class="kb"><i class="ax si"></i></span>', 'silent until its restart'),
+    ('<span class="kb"><i class="cu"></i></span>', 'link cut'), ('<span class="kb"><i class="wa"></i></span>', 'link held'),
+    ('<b class="x">\u21bb</b>', 'restart or halt'), ('<span class="il">idle</span>', 'it changed nothing'),
+    ('<b class="re">\u21ba</b> <span class="tg again">again</span>', 'the client got it before'),
+    ('<span class="tg after">after C</span>', 'C did, of its subscription'))
+
+
+def key():
+    return '<ul class="ky-list" aria-label="Signs">%s</ul>' % ''.join('<li>%s %s</li>' % sign for sign in KEY)

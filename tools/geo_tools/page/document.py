@@ -1,0 +1,251 @@
+"""Makes one page of a script's run, to be looked at in a browser: one file, with nothing fetched, that also works without its script.
+
+Time goes down. A row is a line of a drill, or events that belong together; it opens to its events. Each topic at a cluster has a lane:
+a dot is a message that was stored, a square a marker, an arrow shows where replication brought an entry from, a bar is what a
+subscription has acknowledged. A lost region's lane is grey, a cut or held link a hatched band. Each client has a column with the lines
+that it did, its moves, and what it got, `again` where it got the same message before. Above stands a table of all messages, in which a
+message that a survivor never gets is red. The page is printed: geo page FILE > page.html
+"""
+import argparse
+
+from .. import command, steps
+from ..acts import Act, acts_of, facts_of, own_names
+from ..script import Script
+from ..steps import Got, Stored
+from ..story import Teller
+from .cursors import Cursors
+from .lanes import Standing
+from .messages import PIECE, Receipts, fates, head, legend, row
+from .rows import MOST_WHOLE, ROWS, STANDING, Pieces, Rows, Stretches, pieces_of_rows
+from .signs import Columns, Signs, hidden, safe, text_labels
+from .style import chooser_rules, column_rules, key, script_text, style_text
+
+# a lane folds to a line from the beginning where more than so many would be open
+MOST_OPEN = 6
+
+
+class Page:
+    """What is drawn of a run, and what it is drawn with."""
+
+    def __init__(self, script, run, teller):
+        self.script, self.moments, self.whole, self.teller = script, run.moments, run.whole, teller
+        self.names = own_names(script)
+        self.columns = Columns(script, self.names)
+        self.nodes, self.before = acts_of(script, self.moments)
+        self.large = sum(max(1, len(moment.inside)) for moment in self.moments) > MOST_WHOLE
+        self.pieces = Pieces() if self.large else None
+        self.places = run.places
+        self.trace = run.trace
+
+    def name(self, name):
+        return self.names.get(name, name)
+
+    def standing(self):
+        return Standing(self.script, self.places, self.before)
+
+    def lost(self):
+        """What is lost at the end of the run, also where only a part of it is shown."""
+        standing = Standing(self.script, {}, [])
+        for fact in facts_of(self.script):
+            standing.take(fact)
+        return standing.lost
+
+    def most(self):
+        """The most entries of each topic, which a bar's length stands for."""
+        return {topic: max([len(self.whole.entries[topic, cluster]) for cluster in self.script.clusters] + [1]) for topic in self.script.topics}
+
+
+# ---- messages ----
+
+
+def message_tables(page):
+    """A table of each topic's messages."""
+    cursors, receipts, lost = Cursors(page.trace), Receipts(page.script), page.lost()
+    cursors.up_to(page.whole.events)
+    for moment in page.moments:
+        receipts.take(moment.changes)
+    for topic in page.script.topics:
+        found = list(fates(topic, page.script, page.whole, cursors, receipts, lost))
+        if not found:
+            continue
+        yield legend(found, lost, page.name)
+        yield '<div class="tb" tabindex="0" role="region" aria-label="messages of %s">' % safe(page.name(topic)) + head(page.script, topic, page.name)
+        found.sort(key=lambda fate: not fate.lacks)
+        yield from table_pieces(page, [row(page.script, fate, page.name) for fate in found])
+        yield '</table></div>'
+
+
+def table_pieces(page, rows):
+    """The rows of a table; those of a large page in pieces."""
+    if not page.large or len(rows) <= PIECE:
+        yield '<tbody>%s</tbody>' % ''.join(rows)
+        return
+    yield '<tbody>%s</tbody>' % ''.join(rows[:PIECE])
+    for begin in range(PIECE, len(rows), PIECE):
+        piece = rows[begin:begin + PIECE]
+        yield '<tbody data-k="%s"><tr><td colspan="99" style="height:%dpx"></td></tr></tbody>' % (page.pieces.keep(''.join(piece)), 22 * len(piece))
+
+
+# ---- the drawing ----
+
+
+def chooser(page):
+    """Boxes for topics, clusters and clients; the columns of those that are not chosen fold to a line."""
+    columns, script = page.columns, page.script
+    open_topics = len(columns.lanes) <= MOST_OPEN
+    groups = [('Topics', 't', [(topic, open_topics or not at) for at, topic in enumerate(script.topics)] if len(script.topics) > 1 else []),
+              ('Clusters', 'x', [(cluster, True) for cluster in script.clusters]), ('Clients', 'c', [(client, True) for client in columns.clients])]
+    yield '<div class="cz no-print">'
+    for title, kind, things in groups:
+        if things:
+            yield '<fieldset><legend>%s</legend>' % title
+            yield from ('<label><input type="checkbox" id="%s%d"%s> %s</label>' % (kind, at, ' checked' if chosen else '', safe(page.name(name)))
+                        for at, (name, chosen) in enumerate(things))
+            yield '</fieldset>'
+    yield '</div>'
+
+
+def heads(page):
+    """The names of the columns, which stay in sight."""
+    columns = page.columns
+    yield '<div class="hd"><div class="w"><span class="ev"><span class="no">line</span><span class="tx">what is done</span></span><span class="g">'
+    for at, (topic, cluster) in enumerate(columns.lanes):
+        yield '<span class="i k%d" style="grid-area:1/%d"><b class="sq q%d"></b><span class="lb">%s</span></span>' % (
+            at, at + 1, columns.colour[cluster], safe(columns.lane(topic, cluster)))
+    for client in columns.clients:
+        at = columns.at[client]
+        yield '<span class="i c k%d" style="grid-area:1/%d"><span class="lb">%s%s</span></span>' % (at, at + 1, hidden('client'), safe(columns.name(client)))
+    yield '</span></div></div>'
+
+
+def first_message(nodes):
+    """How many nodes stand before the act in which the first message is stored, and the events of these."""
+    for at, node in enumerate(nodes):
+        if isinstance(node, Act) and any(isinstance(change, Stored) and change.entry.kind == 'data' for moment in node.moments for change in moment.changes):
+            # a heading stands with what follows it
+            while at and not isinstance(nodes[at - 1], Act):
+                at -= 1
+            return at
+    return 0
+
+
+def protocol(page, nodes, rows, stretches):
+    """What stands before the first message, folded."""
+    events, names = sum(row.events for row in rows), {}
+    for node in nodes:
+        if isinstance(node, Act):
+            names[node.text.split(':')[0] if not node.own else node.text.split(' ')[0]] = None
+    lines = sum(isinstance(node, Act) for node in nodes)
+    if not lines:
+        return stretches.of(rows)
+    return '<details class="pr" id="before"><summary class="w st"><span class="ev">Before the first message: %d line%s, %d event%s <span class="ct">(%s)</span></span></summary>%s</details>' % (
+        lines, '' if lines == 1 else 's', events, '' if events == 1 else 's', safe(', '.join(list(names)[:6])), stretches.of(rows))
+
+
+def drawing(page):
+    """The rows."""
+    columns = page.columns
+    signs = Signs(columns, Cursors(page.trace), text_labels(columns, page.moments), page.most())
+    rows = list(Rows(page.script, signs, page.standing(), page.pieces, page.teller).made(page.nodes, page.places))
+    stretches = Stretches(columns)
+    begin = first_message(page.nodes)
+    begin = begin if begin <= STANDING else 0
+    yield '<div class="run">'
+    yield from heads(page)
+    if begin:
+        yield protocol(page, page.nodes[:begin], rows[:begin], stretches)
+    yield from standing_rows(page, rows, begin, stretches)
+    yield '</div>'
+
+
+def standing_rows(page, rows, begin, stretches):
+    """The rows of a page from the first message on; of a large one those that stand in it, and pieces for the others."""
+    if not page.large:
+        yield stretches.of(rows[begin:])
+        return
+    end = max(begin, STANDING)
+    yield stretches.of(rows[begin:end])
+    for piece in pieces_of_rows(rows[end:], ROWS):
+        yield '<div class="k" data-k="%s" style="height:%dpx"></div>' % (page.pieces.keep(stretches.of(piece)), sum(row.height for row in piece))
+    yield ('<noscript><p class="warn">Without a script this page shows the first %d of %d rows, which are %d of %d events. '
+           'geo story has all of them.</p></noscript>' % (min(end, len(rows)), len(rows), sum(row.events for row in rows[:end]), sum(row.events for row in rows)))
+
+
+def told_table(page):
+    """All that happened, as a table for those who hear the page."""
+    if page.large:
+        return
+    yield '<details class="al"><summary>What happened, as a table</summary><table><caption>Each event with what it did</caption><thead><tr>'
+    yield '<th scope="col">line</th><th scope="col">event</th><th scope="col">what it did</th></tr></thead><tbody>'
+    for node in page.nodes:
+        if not isinstance(node, Act):
+            yield '<tr><th colspan="3" scope="rowgroup">%s</th></tr>' % safe(node.text)
+            continue
+        if node.own or node.facts:
+            yield '<tr><td>%d</td><td colspan="2"><b>%s</b>%s</td></tr>' % (node.line, safe(node.text), ' ' + safe(node.seen) if node.seen else '')
+        for moment in node.moments:
+            for event in moment.inside or (moment,):
+                told = '; '.join(page.teller.effects(event))
+                yield '<tr><td>%s</td><td>%s</td><td>%s</td></tr>' % (event.event.line, safe(' '.join(event.event.words)), safe(told))
+    yield '</tbody></table></details>'
+
+
+# ---- the page ----
+
+
+def summary(page):
+    """A sentence of counts, and what is left out."""
+    whole, script = page.whole, page.script
+    after = sum(isinstance(change, Got) and bool(change.others) for moment in page.moments for change in moment.changes)
+    yield '<p>%d events, %d idle, %d rounds of settling.' % (whole.events, whole.idle, whole.rounds)
+    yield 'Got again by the same client: %d; got by a client after another one of its subscription: %d.</p>' % (whole.again(), after)
+    if len(page.moments) < len(script.events):
+        yield '<p><b>%d of %d lines of events are shown</b>, from line %s on.</p>' % (
+            len(page.moments), len(script.events), page.moments[0].event.line if page.moments else '\u2013')
+
+
+def tools_bar():
+    """What only the page's script can do; it shows the bar."""
+    return ('<div class="bar no-print" hidden><label for="find">Find a message</label> <input id="find" type="search" placeholder="order2" autocomplete="off">'
+            '<output id="found" for="find"></output><button type="button" id="theme">Dark</button>'
+            '<button type="button" id="all">Open all</button><span class="ks">Keys: <kbd>j</kbd> next row, <kbd>k</kbd> row before, <kbd>o</kbd> open or fold, '
+            '<kbd>/</kbd> find, <kbd>n</kbd> next one found</span></div>')
+
+
+def drawn(name, script, run, teller):
+    """The page, part by part."""
+    page = Page(script, run, teller)
+    yield '<!DOCTYPE html>\n<html lang="en"><head><meta charset="utf-8"><meta name="viewport" content="width=device-width, initial-scale=1">'
+    yield '<title>%s</title><style>%s%s%s</style></head><body>' % (safe(name), style_text(page.columns), column_rules(page.columns), chooser_rules(page.columns))
+    yield '<header><h1>%s</h1>' % safe(name)
+    if script.title():
+        yield '<p>%s</p>' % safe(script.title())
+    yield from summary(page)
+    yield '</header>' + tools_bar() + '<main><section><h2 id="messages">Messages</h2>'
+    yield from message_tables(page)
+    yield '</section><section class="wh"><h2 id="run">What happened</h2>' + key()
+    yield from chooser(page)
+    if page.nodes:
+        yield from drawing(page)
+    yield '</section>'
+    yield from told_table(page)
+    yield '<details class="rp"><summary>The report</summary><pre>%s</pre></details></main>' % '\n'.join(map(safe, page.whole.text.split('\n')))
+    if page.pieces:
+        yield page.pieces.drawn()
+    yield '<script>%s</script></body></html>' % script_text()
+
+
+def page_of(name, raw, program):
+    """The lines of the page of a script."""
+    script = Script(raw)
+    return drawn(name, script, steps.run(script, program), Teller(script, program))
+
+
+def main(words):
+    parser = command.arguments(argparse.ArgumentParser(prog='geo page', description=__doc__, formatter_class=argparse.RawDescriptionHelpFormatter))
+    words = parser.parse_args(words)
+    name = words.script.rsplit('/', 1)[-1]
+
+    def show(script, program):
+        print('\n'.join(drawn(name, script, steps.run(script, program, words.first, words.last), Teller(script, program))))
+    return command.shown(show, words)
