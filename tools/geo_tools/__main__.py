@@ -7,6 +7,7 @@
   check        checks the tools, the drills and what is stored          tools/check
   live         runs a script on threads for many seeds                  tools/live
   pages        prints what the heads of crates, functions and proofs say  tools/pages
+  observed     judges what clusters that really run tell after a drill  tools/observed
   help         what ./geo can be told, and the manual page              ./geo help
   completion   the completion for a shell                               ./geo completion
   refused      what ./geo has told of a refusal, behind each one
@@ -36,13 +37,14 @@ if not __package__:
     __package__ = 'geo_tools'
 
 MODULES = {
-    'drill': 'drill.main', 'story': 'story', 'page': 'page.document', 'why': 'refusals', 'check': 'check',
-    'live': 'live_runs', 'pages': 'pages', 'help': 'help', 'completion': 'completion', 'refused': 'refusals.behind', 'json': 'documents',
+    'drill': 'drill.main', 'story': 'story', 'page': 'page.layout', 'why': 'refusals', 'check': 'check',
+    'live': 'live_runs', 'pages': 'pages', 'observed': 'observed.main', 'help': 'help', 'completion': 'completion',
+    'refused': 'refusals.behind', 'json': 'documents',
     'examples': 'stored.examples', 'compacted': 'stored.compacted', 'tiered': 'stored.tiered', 'states': 'stored.states', 'slow': 'stored.slow',
     'definitions': 'computed.definitions', 'planted': 'computed.planted', 'random': 'computed.random_runs',
     'audit': 'apart.audit', 'memory': 'apart.memory'}
 # those that have words of their own behind --help
-PARSING = ('drill', 'story', 'page', 'check', 'live', 'help')
+PARSING = ('drill', 'story', 'page', 'check', 'live', 'observed', 'help')
 # the status of wrong words
 WRONG_WORDS = 2
 
