@@ -37,7 +37,7 @@ if not __package__:
     __package__ = 'geo_tools'
 
 MODULES = {
-    'drill': 'drill.main', 'story': 'story', 'page': 'page.layout', 'why': 'refusals', 'check': 'check',
+    'drill': 'drill.main', 'story': 'story', 'page': 'page.document', 'why': 'refusals', 'check': 'check',
     'live': 'live_runs', 'pages': 'pages', 'observed': 'observed.main', 'help': 'help', 'completion': 'completion',
     'refused': 'refusals.behind', 'json': 'documents',
     'examples': 'stored.examples', 'compacted': 'stored.compacted', 'tiered': 'stored.tiered', 'states': 'stored.states', 'slow': 'stored.slow',

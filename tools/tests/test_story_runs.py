@@ -34,7 +34,7 @@ class StoredTest(unittest.TestCase):
                 told = '\n'.join(story(script, steps.run(script, PROGRAM), Teller(script)))
                 effects = [line for line in told.rsplit('\n\n', 1)[0].split('\n') if not line.startswith('# ')]
                 given = [sum(' entry ' in line and ' at ' in line for line in effects), sum(' got ' in line and 'again' in line.split(' ') for line in effects),
-                         sum(line.endswith('  idle') for line in effects)]
+                         sum(line.endswith('  idle') or '  idle: ' in line for line in effects)]
                 self.assertEqual([sum(map(len, report.entries.values())), report.again(), report.idle], given)
 
     def test_an_idle_event_has_its_cause(self):

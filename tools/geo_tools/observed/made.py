@@ -15,7 +15,6 @@ import random
 import sys
 import uuid
 
-from .. import steps
 from ..command import read_script
 from ..program import Failed, Program
 from ..script import Script
@@ -202,20 +201,19 @@ class Made:
 
     def deliveries(self, script, program):
         """Adds what consumers got, from the reports of the script's beginnings."""
-        events = 0
-        for moment in steps.moments(script, program)[0]:
-            events = moment.after.events
-            for change in moment.changes:
-                if isinstance(change, steps.Got):
-                    self._delivered(script, events, moment.after.clients[change.client], change)
+        reports = program.reports([script.beginning(count) for count in range(len(script.events) + 1)])
+        for before, after in zip(reports, reports[1:]):
+            for name, client in after.clients.items():
+                for message in client.got[len(before.clients[name].got):]:
+                    self._delivered(script, after.events, name, client, message)
         self.log.sort(key=lambda line: line['at'])
 
-    def _delivered(self, script, events, client, change):
+    def _delivered(self, script, events, name, client, message):
         place = self.places[client.topic, client.cluster]
-        identity = [*change.message[:2], int(change.message[2])]
-        sub = script.subscription(change.client, client.done)
+        identity = [*message[:2], int(message[2])]
+        sub = script.subscription(name, client.done)
         if sub and identity in place.identities:
-            self.log.append({'at': events, 'did': 'got', 'topic': client.topic, 'cluster': client.cluster, 'client': change.client, 'sub': sub,
+            self.log.append({'at': events, 'did': 'got', 'topic': client.topic, 'cluster': client.cluster, 'client': name, 'sub': sub,
                              'position': shown(place.positions[place.identities.index(identity)]), 'ident': identity})
 
     def trim(self, key, upto):
