@@ -7,6 +7,7 @@ from geo_tools.computed.planted import worded
 PROVED = 'fn geo_base::a: proved\nlogic=proved functions=1\n'
 RUN = "./proofs/Run_two.antt:3:5: error: `reported`: expected type `a`, but this has type `b`\nlogic=not-proved\n"
 LEMMA = "./proofs/Picks.antt:62:65: error: `pick_has`: expected type `a`, but this has type `b`\nlogic=not-proved\n"
+FUNCTION = 'fn geo_base::limits::numbers: no proof: `search` did not prove `returns-clause-cached`\nlogic=not-proved\n'
 READING = "./specs/Broker.antt:6:1: error: `b` is not known\nlogic=not-proved\n"
 MISSING = "crates.txt names no crate of src/lib.rt: error: arrayvec\n"
 
@@ -24,8 +25,9 @@ class Verdicts(unittest.TestCase):
     def test_planted(self):
         self.assertEqual(worded(Verdict(RUN)), 'refused by 1: two')
         self.assertTrue(worded(Verdict(LEMMA)).startswith('refused by a lemma: ./proofs/Picks'))
+        self.assertEqual(worded(Verdict(FUNCTION)), 'refused by a function: geo_base::limits::numbers')
         # a broken check is not taken for a refusal
-        for said in (READING, MISSING, READING + RUN, 'the toolchain failed\n'):
+        for said in (READING, MISSING, READING + RUN, READING + FUNCTION, 'the toolchain failed\n'):
             self.assertTrue(worded(Verdict(said)).startswith('NOT COMPUTED'), said)
 
 

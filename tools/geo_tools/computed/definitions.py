@@ -249,7 +249,7 @@ NO_CHECKER = 'rt, the command of the Rattle kit, is not in the path'
 
 class Verdict:
     """What the checker said of a copy of the crate: `runs` were refused, `other` are errors elsewhere, of which `lemmas` are those of the
-    crate's own proofs, `said` is all of it.
+    crate's own proofs, `functions` are those of the crate that are not proved, `said` is all of it.
 
     What it proved it computed. Where it refused something nothing is known of the rest.
     """
@@ -260,6 +260,7 @@ class Verdict:
         self.runs = {found.group(1) for line in errors for found in [re.search(r'Run_(\w+)\.antt', line)] if found}
         self.other = [line for line in errors if 'Run_' not in line]
         self.lemmas = [line for line in self.other if line.startswith('./proofs/')]
+        self.functions = [found.group(1) for line in self.said for found in [re.match(r'fn (\S+): (?:no proof|not proved)', line)] if found]
         self.is_proved = any(line.startswith('logic=proved') for line in self.said) and not errors
 
 

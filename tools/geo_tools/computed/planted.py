@@ -113,11 +113,14 @@ def refusing(crate, module, edit):
 
 
 def worded(said):
-    """What is told where the crate was not proved. A lemma that is refused is known before any run is computed."""
+    """What is told where the crate was not proved. A lemma that is refused, or a function that says a number of the definitions, is known
+    before any run is computed."""
     if said.runs and not said.other:
         return 'refused by %d: %s' % (len(said.runs), ' '.join(sorted(said.runs)[:4]))
     if said.lemmas and said.lemmas == said.other:
         return 'refused by a lemma: ' + said.lemmas[0]
+    if said.functions and not said.other and not said.runs:
+        return 'refused by a function: ' + said.functions[0]
     return 'NOT COMPUTED: ' + (said.other or [line for line in said.said if line])[-1]
 
 
