@@ -8,8 +8,8 @@ from .program import Failed, Program
 from .script import Script
 from .step_lines import MOST_EVENTS
 
-# the status of a drill that cannot be meant
-REFUSED = 3
+# the statuses of a file that cannot be read, and of a drill that cannot be meant
+UNREAD, REFUSED = 1, 3
 
 
 def arguments(parser):
@@ -43,12 +43,13 @@ def script_of(path, program):
     return Script(drill.annotated(text, path, program) if drill.is_drill(path, text) else raw)
 
 
-def shown(show, words):
-    """Shows a script, and gives the status that says how that went."""
+def ended(work):
+    """Does the work, and gives the status that says how that went: the work's own, or that of what it could not read, mean or run, with
+    a line on standard error. A reader of the output that has gone is no fault."""
     try:
-        program = Program(words.program)
-        show(script_of(words.script, program), program)
+        status = work()
         sys.stdout.flush()
+        return status
     except Refused as refused:
         print(refused.shown(), file=sys.stderr)
         return REFUSED
@@ -57,7 +58,16 @@ def shown(show, words):
         return failed.status
     except BrokenPipeError:
         os.dup2(os.open(os.devnull, os.O_WRONLY), sys.stdout.fileno())
+        return 0
     except OSError as error:
         print('%s: %s' % (error.filename, error.strerror), file=sys.stderr)
-        return 1
-    return 0
+        return UNREAD
+
+
+def shown(show, words):
+    """Shows a script, and gives the status that says how that went."""
+    def work():
+        program = Program(words.program)
+        show(script_of(words.script, program), program)
+        return 0
+    return ended(work)

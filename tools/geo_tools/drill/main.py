@@ -8,18 +8,17 @@ import os
 import sys
 
 from .. import step_lines
-from ..command import read_text
+from ..command import ended, read_text
 from ..page import page_of
-from ..program import Failed, Program
+from ..program import Program
 from . import written
 from .language import Drill
 from .needed import not_needed
 from .play import Play
 from .tell import Telling
-from .words import Refused
 
-# the statuses, beside those of the program
-UNREAD, REFUSED, IN_VAIN, DIFFERS = 1, 3, 71, 72
+# the statuses, beside those of every command and of the program
+IN_VAIN, DIFFERS = 71, 72
 EPILOG = ('The status is 0; 1 where the file cannot be read; 2 for wrong words; 3 where the drill is refused; 71 with --strict where a line '
           'did nothing; 72 where an expectation is not met; else that of the program (docs/REPORT.md), 69 without a build and a toolchain, '
           '70 where the toolchain failed.')
@@ -77,19 +76,4 @@ def play_and_tell(text, words):
 def main(words):
     """The command."""
     words = arguments().parse_args(words)
-    try:
-        status = play_and_tell(read_text(words.file), words)
-        sys.stdout.flush()
-        return status
-    except Refused as refused:
-        print(refused.shown(), file=sys.stderr)
-        return REFUSED
-    except Failed as failed:
-        print(failed, file=sys.stderr)
-        return failed.status
-    except BrokenPipeError:
-        os.dup2(os.open(os.devnull, os.O_WRONLY), sys.stdout.fileno())
-        return 0
-    except OSError as error:
-        print('%s: %s' % (error.filename, error.strerror), file=sys.stderr)
-        return UNREAD
+    return ended(lambda: play_and_tell(read_text(words.file), words))
