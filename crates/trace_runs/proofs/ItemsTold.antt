@@ -3,16 +3,15 @@ use Rattle.std.proofs.Common.{◌≡◌, ℕ, suc, ◌+◌, ◌^◌, ◌<◌, �
 use Rattle.std.proofs.lemmas.Bool.{eq-eqb}
 use Rattle.std.proofs.lemmas.Bool.Decides.{nat_tests}
 use Rattle.std.proofs.lemmas.List.{append-nil}
-use Rattle.std.specs.Prelude.{Option, None, Result, Ok, Err, OnOk, if◌then◌else◌, take}
+use Rattle.std.specs.Prelude.{Option, None, Result, Ok, Err, OnErr, OnOk, if◌then◌else◌, take}
 use Rattle.geo_base.specs.declared.event.Event.{Event}
 use Rattle.geo_base.specs.declared.event.Event.TheVariants as event
-use Rattle.geo_base.specs.declared.memory.Memory.{Memory}
 use Rattle.geo_base.specs.declared.write.Write.{Write}
 use Rattle.geo_base.specs.Broker.{Broker, Site}
 use Rattle.geo_base.specs.Happening.{broker_does, broker_halts, halts_planned, happens}
 use Rattle.geo_base.specs.Plan.{Plan}
 use Rattle.geo_base.specs.Planned.{Planned, in_range, planned, planned_in}
-use Rattle.geo_base.specs.Run.{Ran, is_idle, steps}
+use Rattle.geo_base.specs.Run.{is_idle}
 use Rattle.geo_base.specs.Setup.{Setup}
 use Rattle.geo_base.specs.TraceItems.{Acks, Act, Appends, Begins, Creates, Deletes, Item, Seeks, Writes}
 use Rattle.geo_base.specs.TraceText.{item_line}
@@ -29,16 +28,15 @@ use Rattle.script_text.specs.Scenario.{IsEvent}
 use Rattle.world.specs.declared.fault.RunFault.{RunFault}
 use Rattle.world.specs.declared.fault.RunFault.TheVariants as fault
 use Rattle.world.specs.Foreseen.{IsForeseen}
-use Rattle.world.specs.Runs.{Comes}
 use Rattle.world.specs.declared.place.Place.{Place}
 use Rattle.world.specs.Steps.{Leads, place_at}
 use Rattle.world.specs.World.{IsWithin, SameWorld, WorldBook, kept_of, node_at}
 use Rattle.world.proofs.Places.{in_range_is}
 use Rattle.world_kept.proofs.Keeping.{done_is, event_plan, planned_is}
 use Rattle.world_kept.specs.Events.{IsBrokers, cluster_of, node_of, plan_in, topic_of}
-use Rattle.world_kept.specs.Kept.{Kept}
+use Rattle.world_kept.specs.Kept.{Kept, idled}
 use Rattle.world_kept.specs.Standing.{Stands}
-use Rattle.trace_runs.specs.Tracing.{IsClients, item_lines}
+use Rattle.trace_runs.specs.Tracing.{IsClients, item_lines, text_of}
 use Rattle.trace_runs.proofs.Apart.{plan_apart}
 
 -- ---- lines
@@ -77,16 +75,11 @@ both_told s is js old mid new one two =
 pub nothing_told : (s : Setup) (is : List Item) (text : List ℕ) → is ≡ [] → text ≡ text ++ item_lines s is
 nothing_told s is text none = sym (append-nil text) ∙ ap (λ (js : List Item). text ++ item_lines s js) (sym none)
 
-begin_told : (s : Setup) (n : ℕ) (is : List Item) (old new : List ℕ) → is ≡ Begins n ∷ [] → new ≡ old ++ (item_line s (Begins n) ++ 10 ∷ []) → new ≡ old ++ item_lines s is
+pub begin_told : (s : Setup) (n : ℕ) (is : List Item) (old new : List ℕ) → is ≡ Begins n ∷ [] → new ≡ old ++ (item_line s (Begins n) ++ 10 ∷ []) → new ≡ old ++ item_lines s is
 begin_told s n is old new one told =
     told ∙ (ap (λ (t : List ℕ). old ++ t) (sym (append-nil (item_line s (Begins n) ++ 10 ∷ [])) ∙ sym (one_line s (Begins n) [])) ∙ ap (λ (js : List Item). old ++ item_lines s js) (sym one))
 
 -- ---- an event of a broker
-
--- what the code told of the first k writes that it prepared
-abbrev pub text_of : Setup → List ℕ → ℕ → BrokerBook → Event → PlanBook → ℕ → List ℕ
-text_of s old events v e p k =
-    (old ++ (item_line s (Begins (events + 1)) ++ 10 ∷ [])) ++ lines_of v.site (acts_before v.site (cause_of v.broker e) v.broker (take k (book_plan v.broker p).writes))
 
 abbrev plan_items : Setup → World → ℕ → Event → List Item
 plan_items s w k e = planned_items s w k e (planned s w e)
@@ -135,9 +128,12 @@ items_if : (s : Setup) (w : World) (e : Event) (b : Bool) → is_idle s w e ≡ 
 unfolding event_items
 items_if s w e b is = ap (λ (c : Bool). if c then [] else Begins (w.events + 1) ∷ plan_items s w (all_writes (planned s w e)) e) is
 
-pub idle_told : (s : Setup) (w : World) (e : Event) (v : BrokerBook) (p : PlanBook) (text : List ℕ) → IsBrokers e → IsEvent s e → IsForeseen s w e v p → p.idle ≡ true
+-- an event of a broker that was not enabled has no line
+pub rests_told : (s : Setup) (old new : WorldBook) (w : World) (e : Event) (text : List ℕ) → SameWorld old new → Stands s (kept_of old) w → Stands s (idled (kept_of new)) (happens s w e)
     → text ≡ text ++ item_lines s (event_items s w e)
-idle_told s w e v p text brokers here f idle = nothing_told s (event_items s w e) text (items_if s w e true (event_idle s w e v p true brokers (in_range_is s e here) f idle))
+rests_told s old new w e text same stands next =
+    let idle : is_idle s w e ≡ true = eq-eqb (happens s w e).events w.events (sym next.events ∙ (ap (λ (k : Kept). k.events) same.kept ∙ stands.events)) in
+    nothing_told s (event_items s w e) text (items_if s w e true idle)
 
 many_writes : {X Y : Type 0} (f : X → Y) (ws : List X) → length (map f ws) ≡ length ws
 many_writes {X = X} {Y = Y} f [] = refl
@@ -230,9 +226,6 @@ abbrev IsWant : {T : Type 0} → Result T RunFault → Type 0
 IsWant (Err fault.Memory) = Unit {0}
 IsWant r = ⊥
 
-pub comes_wants : {T : Type 0} (s : Setup) (new : WorldBook) (r : Ran) → Comes {T = T} s new r (Err fault.Memory)
-comes_wants {T} s new r = record { done = tt; large = λ n is. absurd (subst (λ (a : Result T RunFault). IsWant a) is tt) }
-
 pub leads_wants : (s : Setup) (old new : WorldBook) (v : World) → Leads s old new v (Err fault.Memory)
 leads_wants s old new v = record { done = tt; large = λ n is. absurd (subst (λ (a : Result (Unit {0}) RunFault). IsWant a) is tt) }
 
@@ -243,6 +236,15 @@ always {E} X (Err f) x = tt
 pub on_ok : {E : Type 0} (X Y : Type 0) (r : Result (Unit {0}) E) → (X → Y) → OnOk r X → OnOk r Y
 on_ok {E} X Y (Ok u) f x = f x
 on_ok {E} X Y (Err e) f x = tt
+
+-- where the world was the same before
+pub leads_from : (s : Setup) (old mid new : WorldBook) (next : World) (r : Result (Unit {0}) RunFault) → Leads s mid new next r → Leads s old new next r
+leads_from s old mid new next r leads = record { done = leads.done; large = leads.large }
+
+pub past_from : (old mid new : WorldBook) (r : Result (Unit {0}) RunFault) → SameWorld old mid → OnErr r (SameWorld mid new) → (n : ℕ) → r ≡ Err (fault.TooLarge n) → SameWorld old new
+past_from old mid new r same err n is =
+    let still : SameWorld mid new = subst (λ (a : Result (Unit {0}) RunFault). OnErr a (SameWorld mid new)) is err in
+    record { kept = still.kept ∙ same.kept; nodes = λ s there. still.nodes s (same.nodes s there) }
 
 -- ---- the broker that was foreseen
 
@@ -274,7 +276,3 @@ reads_there s w e v p f here = reads_in s e v.site (ap (λ (h : Site). length h.
 
 pub fits_there : (s : Setup) (w : World) (e : Event) (v : BrokerBook) (p : PlanBook) → IsForeseen s w e v p → PlanFits v.site.per_ledger v.broker p
 fits_there s w e v p f = f.prepared.fits
-
--- as many events as the machine's
-pub events_are : (s : Setup) (old mid : WorldBook) (w : World) (n : ℕ) → n ≡ mid.events → SameWorld old mid → Stands s (kept_of old) w → n ≡ w.events
-events_are s old mid w n counted same stands = counted ∙ (ap (λ (k : Kept). k.events) same.kept ∙ stands.events)

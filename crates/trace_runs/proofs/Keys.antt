@@ -1,11 +1,10 @@
 -- The keys of two markers are the same exactly where they name the same.
-use Rattle.std.proofs.Common.{◌≡◌, ℕ, zero, suc, ◌+◌, ◌<◌, ◌≤◌, ◌==◌, Bool, true, false, List, [], ◌∷◌, ◌++◌, drop, get_or, length, refl, sym, ap, ◌∙◌, append_assoc}
-use Rattle.std.proofs.lemmas.List.{drop_all, drop_more}
-use Rattle.std.specs.Prelude.{◌&&◌, if◌then◌else◌}
+use Rattle.std.proofs.Common.{◌≡◌, ℕ, zero, suc, ◌+◌, ◌≤◌, ◌==◌, Bool, true, false, List, [], ◌∷◌, ◌++◌, drop, length, refl, sym, ap, ◌∙◌}
+use Rattle.std.proofs.lemmas.List.{drop_all}
+use Rattle.std.specs.Prelude.{◌&&◌}
 use Rattle.std.specs.Str.{bytes_eq}
 use Rattle.geo_base.specs.declared.marker.ClusterPosition.{ClusterPosition}
 use Rattle.geo_base.specs.declared.position.Position.{Position}
-use Rattle.geo_base.specs.Entry.{is_place}
 use Rattle.geo_base.specs.Position.{same_position}
 use Rattle.geo_base.specs.TraceItems.{names_same, same_positions}
 use Rattle.geo_base.specs.Updating.{positions_for}
@@ -38,27 +37,6 @@ pub keys_same : (a b n : ℕ) (rs qs : List ClusterPosition) → bytes_eq (snaps
 keys_same a b n rs qs = ap (λ (c : Bool). (a == b) && c) (positions_same n rs qs)
 
 -- ---- a key, number by number
-
--- the numbers of the clusters that are left
-pub one_cluster_more : (own n m : ℕ) (rs : List ClusterPosition) (old new : List ℕ) → n ≡ suc m → new ≡ old ++ key_part (positions_for m rs)
-    → old ++ positions_key n rs ≡ snapshot_key own n rs → new ++ positions_key m rs ≡ old ++ positions_key n rs
-one_cluster_more own n m rs old new is added before =
-    ap (λ (t : List ℕ). t ++ positions_key m rs) added
-    ∙ (append_assoc old (key_part (positions_for m rs)) (positions_key m rs) ∙ ap (λ (k : ℕ). old ++ positions_key k rs) (sym is))
-
--- one position named more
-pub one_named_more : (x i : ℕ) (d : ClusterPosition) (rs : List ClusterPosition) (old new total : List ℕ) → i < length rs
-    → new ≡ (if is_place x (get_or rs i d).cluster then old ++ (1 ∷ (get_or rs i d).position.ledger ∷ (get_or rs i d).position.entry ∷ []) else old)
-    → old ++ key_part (positions_for x (drop i rs)) ≡ total → new ++ key_part (positions_for x (drop (i + 1) rs)) ≡ total
-one_named_more x i d rs old new total lt is before =
-    let r = get_or rs i d in let rest = key_part (positions_for x (drop (i + 1) rs)) in
-    ap (λ (t : List ℕ). t ++ rest) is ∙ (by (is_place x r.cluster) ∙ (ap (λ (qs : List ClusterPosition). old ++ key_part (positions_for x qs)) (sym (drop_more rs i d lt)) ∙ before))
-  where
-    by : (b : Bool)
-        → (if b then old ++ (1 ∷ (get_or rs i d).position.ledger ∷ (get_or rs i d).position.entry ∷ []) else old) ++ key_part (positions_for x (drop (i + 1) rs))
-        ≡ old ++ key_part (if b then (get_or rs i d).position ∷ positions_for x (drop (i + 1) rs) else positions_for x (drop (i + 1) rs))
-    by true = append_assoc old (1 ∷ (get_or rs i d).position.ledger ∷ (get_or rs i d).position.entry ∷ []) (key_part (positions_for x (drop (i + 1) rs)))
-    by false = refl
 
 pub all_named : (x i : ℕ) (rs : List ClusterPosition) (old total : List ℕ) → length rs ≤ i → old ++ key_part (positions_for x (drop i rs)) ≡ total → old ++ 0 ∷ [] ≡ total
 all_named x i rs old total past before = ap (λ (qs : List ClusterPosition). old ++ key_part (positions_for x qs)) (sym (drop_all i rs past)) ∙ before

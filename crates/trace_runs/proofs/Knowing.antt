@@ -1,5 +1,5 @@
 -- What the tables know of each topic they know behind an event.
-use Rattle.std.proofs.Common.{◌≡◌, ℕ, ◌+◌, ◌*◌, List, [], ◌++◌, inl, inr, length, refl, sym, ap, subst, ◌∙◌, arith}
+use Rattle.std.proofs.Common.{◌≡◌, ℕ, ◌+◌, ◌*◌, List, ◌++◌, inl, inr, length, sym, ap, subst, ◌∙◌, arith}
 use Rattle.std.proofs.lemmas.Bool.{cases_eq}
 use Rattle.std.proofs.lemmas.List.{length-append, take-append-le}
 use Rattle.std.specs.Prelude.{Result, Ok, Err, OnOk, slice_index_or}
@@ -16,7 +16,6 @@ use Rattle.trace_runs.specs.SnapshotTables.{Snapshots, Tells, TellsBeginning, ta
 use Rattle.trace_runs.specs.Snapshots.{HaveSeen, Knows, number_of}
 use Rattle.world.specs.declared.fault.RunFault.{RunFault}
 use Rattle.world.specs.Foreseen.{IsForeseen}
-use Rattle.world.specs.Settling.{settled_by}
 use Rattle.world.specs.Steps.{Leads}
 use Rattle.world.specs.World.{SameWorld, WorldBook, kept_of}
 use Rattle.world_kept.specs.Events.{node_of, topic_of}
@@ -41,18 +40,12 @@ still_tells n t b b' longer h = subst (λ (es : List Entry). TellsBeginning n t 
 
 -- ---- all topics
 
--- nothing is known of any
-pub none_known : (s : Setup) (b : WorldBook) → AreTables s [] b
-none_known s b = record { at = λ k. record { within = omega arith; tells = record { at = λ own remote. refl } } }
-
-pub same_known : (s : Setup) (ts : List Snapshots) (old mid : WorldBook) → SameWorld old mid → AreTables s ts old → AreTables s ts mid
-same_known s ts old mid same h = record {
-  at = λ k. subst (λ (c : Kept). TellsBeginning (length s.clusters) (table_at ts k) (slice_index_or c.brokers k no_broker).entries) (sym same.kept) (h.at k);
-}
+pub same_known : (s : Setup) (ts : List Snapshots) (old mid : WorldBook) → SameWorld old mid → AreTables s ts (kept_of old).brokers → AreTables s ts (kept_of mid).brokers
+same_known s ts old mid same h = subst (λ (c : Kept). AreTables s ts c.brokers) (sym same.kept) h
 
 -- behind an event that leads the machine from w to v
-known_on : (s : Setup) (ts : List Snapshots) (old new : WorldBook) (w v : World) → Stands s (kept_of old) w → Stands s (kept_of new) v → AllLonger w.brokers v.brokers → AreTables s ts old
-    → AreTables s ts new
+pub known_on : (s : Setup) (ts : List Snapshots) (old new : WorldBook) (w v : World) → Stands s (kept_of old) w → Stands s (kept_of new) v → AllLonger w.brokers v.brokers → AreTables s ts (kept_of old).brokers
+    → AreTables s ts (kept_of new).brokers
 known_on s ts old new w v before behind longer h = record {
   at = λ k.
       let n = length s.clusters in let t = table_at ts k in
@@ -61,32 +54,28 @@ known_on s ts old new w v before behind longer h = record {
       (still_tells n t (slice_index_or w.brokers k no_broker) (slice_index_or v.brokers k no_broker) (longer k) here);
 }
 
-led : (s : Setup) (ts : List Snapshots) (old new : WorldBook) (w v : World) (a : Answer) → Stands s (kept_of old) w → AllLonger w.brokers v.brokers → AreTables s ts old → Leads s old new v a
-    → OnOk a (AreTables s ts new)
+led : (s : Setup) (ts : List Snapshots) (old new : WorldBook) (w v : World) (a : Answer) → Stands s (kept_of old) w → AllLonger w.brokers v.brokers → AreTables s ts (kept_of old).brokers → Leads s old new v a
+    → OnOk a (AreTables s ts (kept_of new).brokers)
 led s ts old new w v (Ok u) stands longer h leads = known_on s ts old new w v stands leads.done.0 longer h
 led s ts old new w v (Err f) stands longer h leads = tt
 
-pub event_known : (s : Setup) (ts : List Snapshots) (old new : WorldBook) (w : World) (e : Event) (a : Answer) → Stands s (kept_of old) w → AreTables s ts old → Leads s old new (happens s w e) a
-    → OnOk a (AreTables s ts new)
+pub event_known : (s : Setup) (ts : List Snapshots) (old new : WorldBook) (w : World) (e : Event) (a : Answer) → Stands s (kept_of old) w → AreTables s ts (kept_of old).brokers → Leads s old new (happens s w e) a
+    → OnOk a (AreTables s ts (kept_of new).brokers)
 event_known s ts old new w e a stands h leads = led s ts old new w (happens s w e) a stands (happens_longer s w e) h leads
 
-pub settling_known : (s : Setup) (ts : List Snapshots) (old new : WorldBook) (w : World) (e : Event) (a : Answer) → Stands s (kept_of old) w → AreTables s ts old
-    → Leads s old new (settled_by s w e) a → OnOk a (AreTables s ts new)
-settling_known s ts old new w e a stands h leads = led s ts old new w (settled_by s w e) a stands (happens_longer s w e) h leads
-
-pub halt_known : (s : Setup) (ts : List Snapshots) (old new : WorldBook) (w : World) (k : ℕ) (e : Event) (a : Answer) → Stands s (kept_of old) w → AreTables s ts old
-    → Leads s old new (halts_planned s w k (planned s w e)) a → OnOk a (AreTables s ts new)
+pub halt_known : (s : Setup) (ts : List Snapshots) (old new : WorldBook) (w : World) (k : ℕ) (e : Event) (a : Answer) → Stands s (kept_of old) w → AreTables s ts (kept_of old).brokers
+    → Leads s old new (halts_planned s w k (planned s w e)) a → OnOk a (AreTables s ts (kept_of new).brokers)
 halt_known s ts old new w k e a stands h leads = led s ts old new w (halts_planned s w k (planned s w e)) a stands (halts_longer s w k (planned s w e)) h leads
 
-pub stop_known : (s : Setup) (ts : List Snapshots) (old new : WorldBook) (w : World) (a : Answer) → Stands s (kept_of old) w → AreTables s ts old → Leads s old new (stops s w) a
-    → OnOk a (AreTables s ts new)
+pub stop_known : (s : Setup) (ts : List Snapshots) (old new : WorldBook) (w : World) (a : Answer) → Stands s (kept_of old) w → AreTables s ts (kept_of old).brokers → Leads s old new (stops s w) a
+    → OnOk a (AreTables s ts (kept_of new).brokers)
 stop_known s ts old new w a stands h leads = led s ts old new w (stops s w) a stands (stops_longer s w) h leads
 
--- a round that is counted changes no topic
-pub counted_known : (s : Setup) (ts : List Snapshots) (old new : WorldBook) → new ≡ record old { rounds = old.rounds + 1 } → AreTables s ts old → AreTables s ts new
-counted_known s ts old new is h = record {
-  at = λ k. subst (λ (b : WorldBook). TellsBeginning (length s.clusters) (table_at ts k) (slice_index_or (kept_of b).brokers k no_broker).entries) (sym is) (h.at k);
-}
+-- nor is one by an event that is counted as idle
+pub idled_known : (s : Setup) (ts : List Snapshots) (mid new : WorldBook) (r : Answer) → OnOk r (new ≡ record mid { idle = mid.idle + 1 }) → AreTables s ts (kept_of mid).brokers
+    → OnOk r (AreTables s ts (kept_of new).brokers)
+idled_known s ts mid new (Ok u) is h = rw is h
+idled_known s ts mid new (Err f) is h = tt
 
 -- ---- the topic of a broker that is foreseen
 
@@ -104,7 +93,7 @@ entries_at s b w e v p stands f =
 clusters_are : (s : Setup) (w : World) (e : Event) (v : BrokerBook) (p : PlanBook) → IsForeseen s w e v p → length v.site.clusters ≡ length s.clusters
 clusters_are s w e v p f = ap (λ (h : Site). length h.clusters) f.node.site
 
-pub knows_there : (s : Setup) (ts : List Snapshots) (b : WorldBook) (w : World) (e : Event) (v : BrokerBook) (p : PlanBook) → Stands s (kept_of b) w → IsForeseen s w e v p → AreTables s ts b
+pub knows_there : (s : Setup) (ts : List Snapshots) (b : WorldBook) (w : World) (e : Event) (v : BrokerBook) (p : PlanBook) → Stands s (kept_of b) w → IsForeseen s w e v p → AreTables s ts (kept_of b).brokers
     → Knows v ts
 knows_there s ts b w e v p stands f h =
     let t = table_at ts (number_of v) in
@@ -112,8 +101,8 @@ knows_there s ts b w e v p stands f h =
     (subst (λ (c : Broker). TellsBeginning (length s.clusters) t c.entries) (sym (entries_at s b w e v p stands f)) (h.at (number_of v)))
 
 -- more of it was seen
-pub seen_there : (s : Setup) (old new : List Snapshots) (b : WorldBook) (w : World) (e : Event) (v : BrokerBook) (p : PlanBook) → Stands s (kept_of b) w → IsForeseen s w e v p → AreTables s old b
-    → HaveSeen v old new → AreTables s new b
+pub seen_there : (s : Setup) (old new : List Snapshots) (b : WorldBook) (w : World) (e : Event) (v : BrokerBook) (p : PlanBook) → Stands s (kept_of b) w → IsForeseen s w e v p → AreTables s old (kept_of b).brokers
+    → HaveSeen v old new → AreTables s new (kept_of b).brokers
 seen_there s old new b w e v p stands f h seen = record { at = at }
   where
     n : ℕ

@@ -10,5 +10,4 @@ pub mod ItemsTold
 pub mod Growing
 pub mod Knowing
 pub mod Rounds
-pub mod RunSteps
 mod Trace_one_snapshot

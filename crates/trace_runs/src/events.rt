@@ -1,26 +1,26 @@
-//! An event with its lines, which are made before it is done.
-ghost use Rattle.std.specs.Prelude.{◌≡◌, ◌++◌, ◌+◌, ◌<◌, ◌^◌, ◌∷◌, [], take, OnErr, OnOk};
+//! An event with its lines, which are made between its two halves: it is prepared then, and not done.
+ghost use Rattle.std.specs.Prelude.{◌≡◌, ℕ, ◌++◌, ◌+◌, ◌<◌, ◌^◌, ◌∷◌, [], false, take, Ok, Err, OnErr, OnOk};
 ghost use Rattle.trace_runs.specs.Acts.{acts_before};
 ghost use Rattle.broker_state.specs.Fits.{PlanFits};
 ghost use Rattle.broker_state.specs.Plan.{plan_in};
 ghost use Rattle.trace_runs.specs.Snapshots.{HaveSeen, Knows};
 ghost use Rattle.trace_runs.specs.Writes.{ReadsWithin, lines_of};
-ghost use Rattle.geo_base.specs.declared.event.Step.TheVariants as step;
-ghost use Rattle.geo_base.specs.Run.{all_limits, steps};
+ghost use Rattle.geo_base.specs.Happening.{halts_planned, happens};
+ghost use Rattle.geo_base.specs.Planned.{planned};
 ghost use Rattle.geo_base.specs.Setup.{Setup};
 ghost use Rattle.geo_base.specs.Traced.{cause_of, event_items, halt_items};
 ghost use Rattle.geo_base.specs.TraceItems.{Begins};
 ghost use Rattle.geo_base.specs.TraceText.{item_line};
 ghost use Rattle.geo_base.specs.World.{World as Machine};
 ghost use Rattle.script_text.specs.Scenario.{IsEvent};
-ghost use Rattle.world.specs.Runs.{Comes, at_world};
-ghost use Rattle.world.specs.Settling.{IsSettlingEvent, settled_by};
-ghost use Rattle.world.specs.Steps.{IsLater, Leads};
-ghost use Rattle.world.specs.World.{IsAt, SameWorld, kept_of};
-ghost use Rattle.world_kept.specs.Events.{IsBrokers};
+ghost use Rattle.world.specs.declared.fault.RunFault.TheVariants as fault;
+ghost use Rattle.world.specs.Foreseen.{IsForeseen};
+ghost use Rattle.world.specs.Steps.{Acts, IsLater, Leads, place_at};
+ghost use Rattle.world.specs.World.{IsAt, SameWorld, kept_of, node_at};
+ghost use Rattle.world_kept.specs.Events.{IsBrokers, node_of};
 ghost use Rattle.world_kept.specs.Reached.{Reached};
 ghost use Rattle.world_kept.specs.Standing.{Stands};
-ghost use Rattle.trace_runs.specs.Tracing.{AreTables, IsClients, item_lines};
+ghost use Rattle.trace_runs.specs.Tracing.{AreTables, IsClients, item_lines, text_of};
 
 use crate::acts::add_begin;
 use crate::trace::Trace;
@@ -29,38 +29,12 @@ use broker::Broker;
 use geo_base::{Event, Memory};
 use script_text::Scenario;
 use std::alloc::Global;
-use world::{RunFault, World};
+use world::{Place, RunFault, World, place_of};
 
 impl Trace {
-    /// Does an event of the script, with its lines; it has none where it is idle.
-    pub(crate) fn event(
-        &mut self,
-        alloc: Global,
-        world: &mut World,
-        scenario: &Scenario,
-        event: &Event,
-    ) -> Result<(), RunFault>
-        requires at { IsAt scenario.now.setup world.old }
-        requires tables { AreTables scenario.now.setup self.old.telling.snapshots world.old }
-        requires scripted { IsEvent scenario.now.setup event.now }
-        ensures told { (w : Machine) → Reached scenario.now.setup w → Stands scenario.now.setup (kept_of world.old) w
-            → OnOk result (self.new.telling.text ≡ self.old.telling.text ++ item_lines scenario.now.setup (event_items scenario.now.setup w event.now)) }
-        ensures comes { (w : Machine) → Reached scenario.now.setup w → Stands scenario.now.setup (kept_of world.old) w
-            → Comes scenario.now.setup world.new (steps all_limits scenario.now.setup (at_world w) (step.Plain event.now)) result }
-        ensures at { IsAt scenario.now.setup world.new }
-        ensures tables { OnOk result (AreTables scenario.now.setup self.new.telling.snapshots world.new) }
-    {
-        match *event {
-            Event::Go { .. } | Event::Get { .. } | Event::Reconnect { .. } => {
-                self.client_event(alloc, world, scenario, event)
-            }
-            _ => self.broker_event(alloc, world, scenario, event),
-        }
-    }
-
     /// An event of a client, of which a trace tells only that it happened.
     #[tactic(auto, using(crate::proofs::ItemsTold::next_fits))]
-    fn client_event(
+    pub(crate) fn client_event(
         &mut self,
         alloc: Global,
         world: &mut World,
@@ -68,15 +42,16 @@ impl Trace {
         event: &Event,
     ) -> Result<(), RunFault>
         requires at { IsAt scenario.now.setup world.old }
-        requires tables { AreTables scenario.now.setup self.old.telling.snapshots world.old }
+        requires tables { AreTables scenario.now.setup self.old.telling.snapshots (kept_of world.old).brokers }
         requires client { IsClients event.now }
         requires scripted { IsEvent scenario.now.setup event.now }
         ensures told { (w : Machine) → Reached scenario.now.setup w → Stands scenario.now.setup (kept_of world.old) w
             → OnOk result (self.new.telling.text ≡ self.old.telling.text ++ item_lines scenario.now.setup (event_items scenario.now.setup w event.now)) }
-        ensures comes { (w : Machine) → Reached scenario.now.setup w → Stands scenario.now.setup (kept_of world.old) w
-            → Comes scenario.now.setup world.new (steps all_limits scenario.now.setup (at_world w) (step.Plain event.now)) result }
+        ensures leads { (w : Machine) → Reached scenario.now.setup w → Stands scenario.now.setup (kept_of world.old) w
+            → Leads scenario.now.setup world.old world.new (happens scenario.now.setup w event.now) result }
         ensures at { IsAt scenario.now.setup world.new }
-        ensures tables { OnOk result (AreTables scenario.now.setup self.new.telling.snapshots world.new) }
+        ensures tables { OnOk result (AreTables scenario.now.setup self.new.telling.snapshots (kept_of world.new).brokers) }
+        ensures past { (n : ℕ) → result ≡ Err (fault.TooLarge n) → SameWorld world.old world.new }
     {
         let before = world.events();
         world.event(alloc, scenario, event)?;
@@ -87,8 +62,9 @@ impl Trace {
         Ok(())
     }
 
-    /// An event of a broker.
-    fn broker_event(
+    /// An event of a broker, which is counted where it is idle; it has no line then.
+    #[tactic(auto, using(world::proofs::Acting::leads_acted))]
+    pub(crate) fn broker_event(
         &mut self,
         alloc: Global,
         world: &mut World,
@@ -96,46 +72,59 @@ impl Trace {
         event: &Event,
     ) -> Result<(), RunFault>
         requires at { IsAt scenario.now.setup world.old }
-        requires tables { AreTables scenario.now.setup self.old.telling.snapshots world.old }
+        requires tables { AreTables scenario.now.setup self.old.telling.snapshots (kept_of world.old).brokers }
         requires broker { IsBrokers event.now }
         requires scripted { IsEvent scenario.now.setup event.now }
         ensures told { (w : Machine) → Reached scenario.now.setup w → Stands scenario.now.setup (kept_of world.old) w
             → OnOk result (self.new.telling.text ≡ self.old.telling.text ++ item_lines scenario.now.setup (event_items scenario.now.setup w event.now)) }
-        ensures comes { (w : Machine) → Reached scenario.now.setup w → Stands scenario.now.setup (kept_of world.old) w
-            → Comes scenario.now.setup world.new (steps all_limits scenario.now.setup (at_world w) (step.Plain event.now)) result }
+        ensures leads { (w : Machine) → Reached scenario.now.setup w → Stands scenario.now.setup (kept_of world.old) w
+            → Leads scenario.now.setup world.old world.new (happens scenario.now.setup w event.now) result }
         ensures at { IsAt scenario.now.setup world.new }
-        ensures tables { OnOk result (AreTables scenario.now.setup self.new.telling.snapshots world.new) }
+        ensures tables { OnOk result (AreTables scenario.now.setup self.new.telling.snapshots (kept_of world.new).brokers) }
+        ensures past { (n : ℕ) → result ≡ Err (fault.TooLarge n) → SameWorld world.old world.new }
     {
-        self.foretell(alloc, world, scenario, event)?;
-        world.event(alloc, scenario, event)
+        if self.acts(alloc, world, scenario, event)? {
+            return Ok(());
+        }
+        world.idles()
     }
 
-    /// An event of settling. On an `Err` nothing of the world has changed.
-    pub(crate) fn settles(
+    /// An event of a broker, which is done where it is enabled, with its lines between its two halves; whether it was.
+    pub(crate) fn acts(
         &mut self,
         alloc: Global,
         world: &mut World,
         scenario: &Scenario,
         event: &Event,
-    ) -> Result<(), RunFault>
+    ) -> Result<bool, RunFault>
         requires at { IsAt scenario.now.setup world.old }
-        requires tables { AreTables scenario.now.setup self.old.telling.snapshots world.old }
-        requires event { IsSettlingEvent scenario.now.setup event.now }
+        requires tables { AreTables scenario.now.setup self.old.telling.snapshots (kept_of world.old).brokers }
+        requires broker { IsBrokers event.now }
+        requires scripted { IsEvent scenario.now.setup event.now }
         ensures told { (w : Machine) → Reached scenario.now.setup w → Stands scenario.now.setup (kept_of world.old) w
             → OnOk result (self.new.telling.text ≡ self.old.telling.text ++ item_lines scenario.now.setup (event_items scenario.now.setup w event.now)) }
-        ensures leads { (w : Machine) → Reached scenario.now.setup w → Stands scenario.now.setup (kept_of world.old) w
-            → Leads scenario.now.setup world.old world.new (settled_by scenario.now.setup w event.now) result }
+        ensures acts { (w : Machine) → Reached scenario.now.setup w → Stands scenario.now.setup (kept_of world.old) w
+            → Acts scenario.now.setup world.old world.new (happens scenario.now.setup w event.now) result }
         ensures at { IsAt scenario.now.setup world.new }
-        ensures tables { OnOk result (AreTables scenario.now.setup self.new.telling.snapshots world.new) }
         ensures later { IsLater world.old world.new }
+        ensures idle { result ≡ Ok false → SameWorld world.old world.new }
+        ensures tables { OnOk result (AreTables scenario.now.setup self.new.telling.snapshots (kept_of world.new).brokers) }
         ensures err { OnErr result (SameWorld world.old world.new) }
     {
-        self.foretell(alloc, world, scenario, event)?;
-        world.settles(alloc, scenario, event)
+        let place = place_of(scenario, event);
+        self.plan.clear();
+        let is_ready = world.prepare(alloc, scenario, event, place, &mut self.plan)?;
+        if !is_ready {
+            return Ok(false);
+        }
+        let writes = self.plan.write_count();
+        self.tell_at(alloc, world, scenario, event, place, writes)?;
+        world.finish(alloc, scenario, event, place, &mut self.plan)?;
+        Ok(true)
     }
 
     /// A stop of a broker behind the first `writes` durable writes of an event, which have their lines.
-    pub(crate) fn halt(
+    pub(crate) fn stop_of_broker(
         &mut self,
         alloc: Global,
         world: &mut World,
@@ -144,50 +133,48 @@ impl Trace {
         event: &Event,
     ) -> Result<(), RunFault>
         requires at { IsAt scenario.now.setup world.old }
-        requires tables { AreTables scenario.now.setup self.old.telling.snapshots world.old }
+        requires tables { AreTables scenario.now.setup self.old.telling.snapshots (kept_of world.old).brokers }
         requires broker { IsBrokers event.now }
         requires scripted { IsEvent scenario.now.setup event.now }
         ensures told { (w : Machine) → Reached scenario.now.setup w → Stands scenario.now.setup (kept_of world.old) w
             → OnOk result (self.new.telling.text ≡ self.old.telling.text ++ item_lines scenario.now.setup (halt_items scenario.now.setup w writes event.now)) }
-        ensures comes { (w : Machine) → Reached scenario.now.setup w → Stands scenario.now.setup (kept_of world.old) w
-            → Comes scenario.now.setup world.new (steps all_limits scenario.now.setup (at_world w) (step.Halt writes event.now)) result }
+        ensures leads { (w : Machine) → Reached scenario.now.setup w → Stands scenario.now.setup (kept_of world.old) w
+            → Leads scenario.now.setup world.old world.new (halts_planned scenario.now.setup w writes (planned scenario.now.setup w event.now)) result }
         ensures at { IsAt scenario.now.setup world.new }
-        ensures tables { OnOk result (AreTables scenario.now.setup self.new.telling.snapshots world.new) }
+        ensures tables { OnOk result (AreTables scenario.now.setup self.new.telling.snapshots (kept_of world.new).brokers) }
+        ensures past { (n : ℕ) → result ≡ Err (fault.TooLarge n) → SameWorld world.old world.new }
     {
+        let place = place_of(scenario, event);
         self.plan.clear();
-        let place = world.foresee(alloc, scenario, event, &mut self.plan)?;
-        let events = world.events();
-        let node = world.topic(scenario, place.topic, place.cluster);
-        self.tell(alloc, events, node, event, writes as usize)?;
+        world.prepare_halt(alloc, scenario, event, place, &mut self.plan)?;
+        self.tell_at(alloc, world, scenario, event, place, writes as usize)?;
         world.halt(alloc, scenario, writes, event)
     }
 
-    /// The lines of an event of a broker, which is not done yet; none where it is idle. Nothing of the world's state changes.
-    fn foretell(
+    /// The line of the next event, and those of the first `writes` durable writes that are prepared at its broker.
+    fn tell_at(
         &mut self,
         alloc: Global,
-        world: &mut World,
+        world: &World,
         scenario: &Scenario,
         event: &Event,
+        place: Place,
+        writes: usize,
     ) -> Result<(), Memory>
-        requires at { IsAt scenario.now.setup world.old }
-        requires tables { AreTables scenario.now.setup self.old.telling.snapshots world.old }
+        requires at { IsAt scenario.now.setup world.now }
+        requires tables { AreTables scenario.now.setup self.old.telling.snapshots (kept_of world.now).brokers }
         requires broker { IsBrokers event.now }
         requires scripted { IsEvent scenario.now.setup event.now }
-        ensures told { (w : Machine) → Reached scenario.now.setup w → Stands scenario.now.setup (kept_of world.old) w
-            → OnOk result (self.new.telling.text ≡ self.old.telling.text ++ item_lines scenario.now.setup (event_items scenario.now.setup w event.now)) }
-        ensures at { IsAt scenario.now.setup world.new }
-        ensures tables { OnOk result (AreTables scenario.now.setup self.new.telling.snapshots world.new) }
-        ensures same { SameWorld world.old world.new }
+        requires place { place ≡ place_at scenario.now.setup event.now }
+        requires foreseen { (w : Machine) → Reached scenario.now.setup w → Stands scenario.now.setup (kept_of world.now) w
+            → IsForeseen scenario.now.setup w event.now (node_at world.now.nodes (node_of scenario.now.setup event.now)) self.old.plan }
+        ensures told { (w : Machine) → Reached scenario.now.setup w → Stands scenario.now.setup (kept_of world.now) w
+            → OnOk result (self.new.telling.text ≡ text_of scenario.now.setup self.old.telling.text w.events (node_at world.now.nodes (node_of scenario.now.setup event.now)) event.now self.old.plan writes) }
+        ensures tables { OnOk result (AreTables scenario.now.setup self.new.telling.snapshots (kept_of world.now).brokers) }
+        ensures plan { self.new.plan ≡ self.old.plan }
     {
-        self.plan.clear();
-        let place = world.foresee(alloc, scenario, event, &mut self.plan)?;
-        if self.plan.is_idle() {
-            return Ok(());
-        }
         let events = world.events();
         let node = world.topic(scenario, place.topic, place.cluster);
-        let writes = self.plan.write_count();
         self.tell(alloc, events, node, event, writes)
     }
 
@@ -207,6 +194,7 @@ impl Trace {
         ensures told { (s : Setup) → OnOk result (self.new.telling.text ≡ (self.old.telling.text ++ (item_line s (Begins (events + 1)) ++ 10 ∷ []))
             ++ lines_of node.now.site (acts_before node.now.site (cause_of node.now.broker event.now) node.now.broker (take writes (plan_in node.now.broker self.old.plan).writes))) }
         ensures seen { OnOk result (HaveSeen node.now self.old.telling.snapshots self.new.telling.snapshots) }
+        ensures plan { self.new.plan ≡ self.old.plan }
     {
         add_begin(&mut self.telling.text, events + 1)?;
         add_writes(alloc, &mut self.telling, node, event, &self.plan, writes)

@@ -7,9 +7,9 @@
 //! Each line of a write looks at the broker as it is before the event. That is the broker that the line is about, too, since of the
 //! writes of an event none looks at what another one before it changed: an entry is stored once at most, and a cursor written once.
 //!
-//! An event of a broker is prepared twice. First it is foreseen, which changes nothing of the world, and its lines are made at the
-//! broker as it is then; and then it is done by the world's own call. So a trace costs at most twice its run, and the run is the very
-//! one that a report shows.
+//! A trace is an observer of the world's one loop: it has the world prepare an event of a broker, makes its lines at the broker as it is
+//! then, and has the world finish it. So a trace costs its run and its lines, and the run is the very one that a report shows. Only a
+//! stop in the midst of an event is prepared twice, for its lines and by the world's own call.
 #![tactic(auto)]
 
 mod acts;
@@ -20,7 +20,6 @@ mod name_words;
 mod naming;
 mod ranges;
 mod running;
-mod settling;
 mod snapshot_key;
 mod snapshot_lines;
 mod snapshot_table;

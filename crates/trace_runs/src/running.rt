@@ -1,27 +1,26 @@
-//! A run with its lines.
+//! A run with its lines: what the world's one loop asks of a trace.
 ghost use Rattle.std.specs.Prelude.{◌≡◌, ◌++◌, All, OnOk};
-ghost use Rattle.geo_base.specs.declared.event.Step.TheVariants as step;
-ghost use Rattle.geo_base.specs.Run.{all_limits, run_from, steps};
-ghost use Rattle.geo_base.specs.Traced.{items_from, step_items};
+ghost use Rattle.geo_base.specs.Run.{all_limits, run_from};
+ghost use Rattle.geo_base.specs.Traced.{items_from};
 ghost use Rattle.geo_base.specs.World.{World as Machine};
 ghost use Rattle.script_text.specs.Scenario.{IsStep};
 ghost use Rattle.world.specs.Runs.{Comes, at_world};
 ghost use Rattle.world.specs.World.{IsAt, kept_of};
 ghost use Rattle.world_kept.specs.Reached.{Reached};
 ghost use Rattle.world_kept.specs.Standing.{Stands};
-ghost use Rattle.trace_runs.specs.Tracing.{AreTables, item_lines};
+ghost use Rattle.trace_runs.specs.Tracing.{item_lines};
 
 use crate::acts::add_begin;
 use crate::snapshot_tables::SnapshotTables;
 use crate::trace::Trace;
-use geo_base::Step;
+use geo_base::{Event, Memory};
 use script_text::{Scenario, StepList};
 use std::alloc::Global;
-use world::{RunFault, World};
+use world::{Observer, RunFault, World};
 
 impl Trace {
-    /// Does steps of a script, one after another, as the world alone would, and appends the lines of what they write. Where they do not
-    /// come to their end it is left open what was appended. What was known of snapshots is forgotten first, since the world may be another.
+    /// Has the world do steps of a script, one after another, and appends the lines of what they write. Where they do not come to their
+    /// end it is left open what was appended. What was known of snapshots is forgotten first, since the world may be another.
     pub fn run(
         &mut self,
         alloc: Global,
@@ -38,55 +37,74 @@ impl Trace {
         ensures at { IsAt scenario.now.setup world.new }
     {
         self.telling.snapshots = SnapshotTables::new(alloc);
-        for place in 0..steps.len() {
-            self.step(alloc, world, scenario, &steps.at(place))?;
-        }
-        Ok(())
+        world.run_with(alloc, scenario, steps, self)
     }
+}
 
-    /// A step of a script.
-    fn step(
+impl Observer for Trace {
+    ghost use Rattle.std.specs.Prelude.{ℕ, List};
+    ghost use Rattle.trace_runs.specs.Tracing.{AreTables, told_lines};
+
+    ghost Seen = { List ℕ };
+
+    ghost seen = { λ o. o.telling.text };
+
+    ghost sight = { told_lines };
+
+    ghost knows = { λ o s bs. AreTables s o.telling.snapshots bs };
+
+    fn event(
         &mut self,
         alloc: Global,
         world: &mut World,
         scenario: &Scenario,
-        step: &Step,
-    ) -> Result<(), RunFault>
-        requires at { IsAt scenario.now.setup world.old }
-        requires tables { AreTables scenario.now.setup self.old.telling.snapshots world.old }
-        requires step { IsStep scenario.now.setup step.now }
-        ensures told { (w : Machine) → Reached scenario.now.setup w → Stands scenario.now.setup (kept_of world.old) w
-            → OnOk result (self.new.telling.text ≡ self.old.telling.text ++ item_lines scenario.now.setup (step_items all_limits scenario.now.setup (at_world w) step.now)) }
-        ensures comes { (w : Machine) → Reached scenario.now.setup w → Stands scenario.now.setup (kept_of world.old) w
-            → Comes scenario.now.setup world.new (steps all_limits scenario.now.setup (at_world w) step.now) result }
-        ensures at { IsAt scenario.now.setup world.new }
-        ensures tables { OnOk result (AreTables scenario.now.setup self.new.telling.snapshots world.new) }
-    {
-        match *step {
-            Step::Plain(event) => self.event(alloc, world, scenario, &event),
-            Step::Halt(writes, event) => self.halt(alloc, world, scenario, writes, &event),
-            Step::Settle => self.settle(alloc, world, scenario),
-            Step::Stop => self.stop(alloc, world, scenario),
+        event: &Event,
+    ) -> Result<(), RunFault> {
+        match *event {
+            Event::Go { .. } | Event::Get { .. } | Event::Reconnect { .. } => {
+                self.client_event(alloc, world, scenario, event)
+            }
+            _ => self.broker_event(alloc, world, scenario, event),
         }
     }
 
-    /// A stop of everything, which is one event without lines of its own.
+    fn halt(
+        &mut self,
+        alloc: Global,
+        world: &mut World,
+        scenario: &Scenario,
+        writes: u32,
+        event: &Event,
+    ) -> Result<(), RunFault> {
+        self.stop_of_broker(alloc, world, scenario, writes, event)
+    }
+
     fn stop(
         &mut self,
         alloc: Global,
         world: &mut World,
         scenario: &Scenario,
-    ) -> Result<(), RunFault>
-        requires at { IsAt scenario.now.setup world.old }
-        requires tables { AreTables scenario.now.setup self.old.telling.snapshots world.old }
-        ensures told { (w : Machine) → Reached scenario.now.setup w → Stands scenario.now.setup (kept_of world.old) w
-            → OnOk result (self.new.telling.text ≡ self.old.telling.text ++ item_lines scenario.now.setup (step_items all_limits scenario.now.setup (at_world w) step.Stop)) }
-        ensures comes { (w : Machine) → Reached scenario.now.setup w → Stands scenario.now.setup (kept_of world.old) w
-            → Comes scenario.now.setup world.new (steps all_limits scenario.now.setup (at_world w) step.Stop) result }
-        ensures at { IsAt scenario.now.setup world.new }
-        ensures tables { OnOk result (AreTables scenario.now.setup self.new.telling.snapshots world.new) }
-    {
+    ) -> Result<(), RunFault> {
         add_begin(&mut self.telling.text, world.events() + 1)?;
         world.stop(alloc, scenario)
+    }
+
+    fn settles(&mut self, _world: &World, _scenario: &Scenario) -> Result<(), Memory> {
+        Ok(())
+    }
+
+    fn settling(
+        &mut self,
+        alloc: Global,
+        world: &mut World,
+        scenario: &Scenario,
+        event: &Event,
+    ) -> Result<(), RunFault> {
+        let _enabled = self.acts(alloc, world, scenario, event)?;
+        Ok(())
+    }
+
+    fn settled(&mut self, _world: &World, _scenario: &Scenario) -> Result<(), Memory> {
+        Ok(())
     }
 }

@@ -17,11 +17,13 @@ use Rattle.world_kept.specs.Reached.{Reached}
 use Rattle.world.specs.declared.fault.RunFault.{RunFault}
 use Rattle.world.specs.declared.fault.RunFault.TheVariants as fault
 use Rattle.world.specs.declared.place.Place.{Place}
+use Rattle.broker.specs.Node.{IsReady}
+use Rattle.world.specs.Foreseen.{IsHalfDone}
 use Rattle.world.specs.Steps.{Acts, IsFinished, IsLater, Leads, PreparesAt, done_at, place_at}
 use Rattle.world.specs.World.{IsAt, SameWorld, WorldBook, kept_of, node_at}
 use Rattle.world.proofs.After.{after_event}
 use Rattle.world.proofs.Halting.{ok_err}
-use Rattle.world.proofs.Leading.{Answer, acted_stands, failed, idle_stands, leads_by, on_ok, wants}
+use Rattle.world.proofs.Leading.{Answer, failed, foreseen_stands, idle_stands, leads_by, on_ok, stands_same, wants}
 
 -- ---- what was prepared at the event's broker
 
@@ -55,38 +57,12 @@ pub prepared_there : (s : Setup) (old mid : WorldBook) (e : Event) (place : Plac
 prepared_there s old mid e place n p h =
     subst (λ (m : ℕ). PreparesAt old m (takes_of e) e p) h.number (subst (λ (a : Place). PreparesAt old n a.takes e p) h.there h.prepares)
 
--- what is kept where it was done
-abbrev acted : Setup → WorldBook → Event → PlanBook → Kept
-acted s mid e p = broker_acted (kept_of mid) (node_of s e) (sender_of s e) (takes_of e) (done_at (node_at mid.nodes (node_of s e)) p) p.sent
-
-stands_acted : (s : Setup) (old mid : WorldBook) (w : World) (e : Event) (place : Place) (n : ℕ) (p : PlanBook) → IsPlanned s old mid e place n p → p.idle ≡ false
-    → Reached s w → Stands s (kept_of old) w → Stands s (acted s mid e p) (happens s w e)
-stands_acted s old mid w e place n p h busy reached stands =
-    acted_stands s old mid w e p h.at h.same h.brokers h.scripted reached stands (prepared_there s old mid e place n p h) busy
-
 -- ---- what it leads to
 
 pub acts_idle : (s : Setup) (old mid : WorldBook) (w : World) (e : Event) (place : Place) (n : ℕ) (p : PlanBook) → IsPlanned s old mid e place n p → p.idle ≡ true
     → Reached s w → Stands s (kept_of old) w → Acts s old mid (happens s w e) (Ok false)
 acts_idle s old mid w e place n p h idle reached stands =
     idle_stands s old mid w e p h.at h.same h.brokers h.scripted reached stands (prepared_there s old mid e place n p h) idle
-
-pub acts_done : (s : Setup) (old mid new : WorldBook) (w : World) (e : Event) (place : Place) (n : ℕ) (p : PlanBook) → IsPlanned s old mid e place n p → p.idle ≡ false
-    → IsFinished place n p mid new → limit_of (mid.events + 1) mid.idle (mid.frame_bytes + bytes_of p.sent) ≡ None
-    → Reached s w → Stands s (kept_of old) w → Acts s old new (happens s w e) (Ok true)
-acts_done s old mid new w e place n p h busy finished low reached stands =
-    let next = stands_acted s old mid w e place n p h busy reached stands in
-    let there : IsFinished (place_at s e) (node_of s e) p mid new =
-    subst (λ (m : ℕ). IsFinished (place_at s e) m p mid new) h.number (subst (λ (a : Place). IsFinished a n p mid new) h.there finished) in
-    (subst (λ (k : Kept). Stands s k (happens s w e)) (sym there.kept) next, counts s (acted s mid e p) (happens s w e) next ∙ low)
-
-pub acts_past : (s : Setup) (old mid new : WorldBook) (w : World) (e : Event) (place : Place) (n : ℕ) (p : PlanBook) (f : RunFault) → IsPlanned s old mid e place n p
-    → p.idle ≡ false → ((i : ℕ) → failed f ≡ failed (fault.TooLarge i) → limit_of (mid.events + 1) mid.idle (mid.frame_bytes + bytes_of p.sent) ≡ Some i)
-    → Reached s w → Stands s (kept_of old) w → Acts s old new (happens s w e) (Err f)
-acts_past s old mid new w e place n p (fault.TooLarge i) h busy large reached stands =
-    let next = stands_acted s old mid w e place n p h busy reached stands in
-    (sym next.idle ∙ ap (λ (k : Kept). k.idle) h.same.kept, counts s (acted s mid e p) (happens s w e) next ∙ large i refl)
-acts_past s old mid new w e place n p fault.Memory h busy large reached stands = tt
 
 pub acts_wants : (s : Setup) (old new : WorldBook) (next : World) → Acts s old new next (Err fault.Memory)
 acts_wants s old new next = tt
@@ -97,16 +73,6 @@ pub later_same : (old mid : WorldBook) → SameWorld old mid → IsLater old mid
 later_same old mid same =
     let events : mid.events ≡ old.events = ap (λ (k : Kept). k.events) same.kept in
     record { events = omega (arith, events); idle = ap (λ (k : Kept). k.idle) same.kept; rounds = ap (λ (k : Kept). k.rounds) same.kept }
-
-pub later_done : (old mid new : WorldBook) (place : Place) (n : ℕ) (p : PlanBook) → SameWorld old mid → IsFinished place n p mid new → IsLater old new
-later_done old mid new place n p same done =
-    let events : mid.events ≡ old.events = ap (λ (k : Kept). k.events) same.kept in
-    let more : new.events ≡ mid.events + 1 = ap (λ (k : Kept). k.events) done.kept in
-    record {
-      events = omega (arith, events, more);
-      idle = ap (λ (k : Kept). k.idle) done.kept ∙ ap (λ (k : Kept). k.idle) same.kept;
-      rounds = ap (λ (k : Kept). k.rounds) done.kept ∙ ap (λ (k : Kept). k.rounds) same.kept;
-    }
 
 -- the answer that an event was enabled is not the one that it was not
 answer_of : Result Bool RunFault → Bool
@@ -145,9 +111,88 @@ pub leads_idled : (s : Setup) (old mid new : WorldBook) (next : World) (enabled 
 leads_idled s old mid new next true r is acts ok within large = absurd (false≢true (sym is))
 leads_idled s old mid new next false r is acts ok within large = leads_by s old new (idled (kept_of mid)) next r acts (on_ok r (λ all. ap kept_of all) ok) within large
 
+-- ---- the second half of an event
+
+-- what follows its first half
+pub record IsHalved (s : Setup) (b : WorldBook) (e : Event) (place : Place) (n : ℕ) (p : PlanBook) : Type 0 where
+  pub at : IsAt s b
+  pub brokers : IsBrokers e
+  pub scripted : IsEvent s e
+  pub there : place ≡ place_at s e
+  pub number : n ≡ node_of s e
+  pub half : IsHalfDone s b e p
+
+pub halves : (s : Setup) (b : WorldBook) (e : Event) (place : Place) (n : ℕ) (p : PlanBook) → IsAt s b → IsBrokers e → IsEvent s e → place ≡ place_at s e
+    → n ≡ node s place.topic place.cluster → IsHalfDone s b e p → IsHalved s b e place n p
+halves s b e place n p at brokers scripted there number half = record {
+  at = at;
+  brokers = brokers;
+  scripted = scripted;
+  there = there;
+  number = number_is s e place n there number;
+  half = half;
+}
+
+pub half_ready : (s : Setup) (b : WorldBook) (e : Event) (place : Place) (n : ℕ) (p : PlanBook) → IsHalved s b e place n p → IsReady (node_at b.nodes n) p
+half_ready s b e place n p h = subst (λ (m : ℕ). IsReady (node_at b.nodes m) p) (sym h.number) h.half.ready
+
+-- what is kept where it was done
+abbrev acted : Setup → WorldBook → Event → PlanBook → Kept
+acted s b e p = broker_acted (kept_of b) (node_of s e) (sender_of s e) (takes_of e) (done_at (node_at b.nodes (node_of s e)) p) p.sent
+
+stands_acted : (s : Setup) (b : WorldBook) (w : World) (e : Event) (place : Place) (n : ℕ) (p : PlanBook) → IsHalved s b e place n p → Reached s w → Stands s (kept_of b) w
+    → Stands s (acted s b e p) (happens s w e)
+stands_acted s b w e place n p h reached stands =
+    foreseen_stands s b w e p h.at h.brokers h.scripted reached stands (h.half.foreseen w reached stands).prepared h.half.busy
+
+pub acts_done : (s : Setup) (b new : WorldBook) (w : World) (e : Event) (place : Place) (n : ℕ) (p : PlanBook) → IsHalved s b e place n p → IsFinished place n p b new
+    → limit_of (b.events + 1) b.idle (b.frame_bytes + bytes_of p.sent) ≡ None → Reached s w → Stands s (kept_of b) w → Acts s b new (happens s w e) (Ok true)
+acts_done s b new w e place n p h finished low reached stands =
+    let next = stands_acted s b w e place n p h reached stands in
+    let there : IsFinished (place_at s e) (node_of s e) p b new =
+    subst (λ (m : ℕ). IsFinished (place_at s e) m p b new) h.number (subst (λ (a : Place). IsFinished a n p b new) h.there finished) in
+    (subst (λ (k : Kept). Stands s k (happens s w e)) (sym there.kept) next, counts s (acted s b e p) (happens s w e) next ∙ low)
+
+pub acts_past : (s : Setup) (b new : WorldBook) (w : World) (e : Event) (place : Place) (n : ℕ) (p : PlanBook) (f : RunFault) → IsHalved s b e place n p
+    → ((i : ℕ) → failed f ≡ failed (fault.TooLarge i) → limit_of (b.events + 1) b.idle (b.frame_bytes + bytes_of p.sent) ≡ Some i)
+    → Reached s w → Stands s (kept_of b) w → Acts s b new (happens s w e) (Err f)
+acts_past s b new w e place n p (fault.TooLarge i) h large reached stands =
+    let next = stands_acted s b w e place n p h reached stands in
+    (sym next.idle, counts s (acted s b e p) (happens s w e) next ∙ large i refl)
+acts_past s b new w e place n p fault.Memory h large reached stands = tt
+
+pub later_done : (b new : WorldBook) (place : Place) (n : ℕ) (p : PlanBook) → IsFinished place n p b new → IsLater b new
+later_done b new place n p done =
+    let more : new.events ≡ b.events + 1 = ap (λ (k : Kept). k.events) done.kept in
+    record { events = omega (arith, more); idle = ap (λ (k : Kept). k.idle) done.kept; rounds = ap (λ (k : Kept). k.rounds) done.kept }
+
 -- where it is done, the next event can begin
-pub at_done : (s : Setup) (old mid new : WorldBook) (e : Event) (place : Place) (n : ℕ) (p : PlanBook) → IsPlanned s old mid e place n p → p.idle ≡ false
-    → IsFinished place n p mid new → limit_of (mid.events + 1) mid.idle (mid.frame_bytes + bytes_of p.sent) ≡ None → IsAt s new
-at_done s old mid new e place n p h busy finished low =
-    after_event s old new e (Ok tt) h.at (λ w reached stands. leads_acted s old new (happens s w e) true refl (acts_done s old mid new w e place n p h busy finished low reached stands))
-    (finished.same s (h.same.nodes s h.at.nodes)) tt
+pub at_done : (s : Setup) (b new : WorldBook) (e : Event) (place : Place) (n : ℕ) (p : PlanBook) → IsHalved s b e place n p → IsFinished place n p b new
+    → limit_of (b.events + 1) b.idle (b.frame_bytes + bytes_of p.sent) ≡ None → IsAt s new
+at_done s b new e place n p h finished low =
+    after_event s b new e (Ok tt) h.at (λ w reached stands. leads_acted s b new (happens s w e) true refl (acts_done s b new w e place n p h finished low reached stands))
+    (finished.same s h.at.nodes) tt
+
+-- ---- both halves
+
+-- an event that acts from a world that is the same
+pub acts_from : (s : Setup) (old mid new : WorldBook) (next : World) (r : Result Bool RunFault) → SameWorld old mid → Acts s mid new next r → Acts s old new next r
+acts_from s old mid new next (Ok true) same acts = acts
+acts_from s old mid new next (Ok false) same acts = acts
+acts_from s old mid new next (Err (fault.TooLarge n)) same acts = (acts.0 ∙ ap (λ (k : Kept). k.idle) same.kept, acts.1)
+acts_from s old mid new next (Err fault.Memory) same acts = tt
+
+pub later_from : (old mid new : WorldBook) → SameWorld old mid → IsLater mid new → IsLater old new
+later_from old mid new same later =
+    let events : mid.events ≡ old.events = ap (λ (k : Kept). k.events) same.kept in
+    record {
+      events = omega (arith, events, later.events);
+      idle = later.idle ∙ ap (λ (k : Kept). k.idle) same.kept;
+      rounds = later.rounds ∙ ap (λ (k : Kept). k.rounds) same.kept;
+    }
+
+pub same_both : (old mid new : WorldBook) → SameWorld old mid → SameWorld mid new → SameWorld old new
+same_both old mid new h k = record { kept = k.kept ∙ h.kept; nodes = λ s there. k.nodes s (h.nodes s there) }
+
+pub stands_from : (s : Setup) (old mid : WorldBook) (w : World) → SameWorld old mid → Stands s (kept_of old) w → Stands s (kept_of mid) w
+stands_from s old mid w same stands = stands_same s old mid w same stands

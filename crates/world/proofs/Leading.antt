@@ -107,19 +107,18 @@ becomes s b e plan p h brokers here prepared =
 pub stands_same : (s : Setup) (old mid : WorldBook) (w : World) → SameWorld old mid → Stands s (kept_of old) w → Stands s (kept_of mid) w
 stands_same s old mid w same stands = subst (λ (k : Kept). Stands s k w) (sym same.kept) stands
 
-pub acted_stands : (s : Setup) (old mid : WorldBook) (w : World) (e : Event) (p : PlanBook) → IsAt s old → SameWorld old mid → IsBrokers e → IsEvent s e
-    → Reached s w → Stands s (kept_of old) w → PreparesAt old (node_of s e) (takes_of e) e p → p.idle ≡ false
-    → Stands s (broker_acted (kept_of mid) (node_of s e) (sender_of s e) (takes_of e) (done_at (node_at mid.nodes (node_of s e)) p) p.sent) (happens s w e)
-acted_stands s old mid w e p h same brokers here reached stands prepares busy =
-    let n : ℕ = node_of s e in let plan = plan_in s w e in let k = at_same s old mid h same in
-    let prepared = prepared_same s old mid e plan p h same brokers here (prepared_plan s old w e p h brokers here reached stands prepares) in
-    let v = node_at mid.nodes n in
+-- of what is prepared at a broker as it stands
+pub foreseen_stands : (s : Setup) (b : WorldBook) (w : World) (e : Event) (p : PlanBook) → IsAt s b → IsBrokers e → IsEvent s e → Reached s w → Stands s (kept_of b) w
+    → IsPrepared (node_at b.nodes (node_of s e)).site (node_at b.nodes (node_of s e)).broker (plan_in s w e) p → p.idle ≡ false
+    → Stands s (broker_acted (kept_of b) (node_of s e) (sender_of s e) (takes_of e) (done_at (node_at b.nodes (node_of s e)) p) p.sent) (happens s w e)
+foreseen_stands s b w e p h brokers here reached stands prepared busy =
+    let n : ℕ = node_of s e in let plan = plan_in s w e in let v = node_at b.nodes n in
     let is : p.idle ≡ plan.idle = idle_is v.site v.broker plan p prepared in
     let sent : OutsStand s.clusters p.sent plan.sent =
-    outs_stand s.clusters plan.sent p.sent (subst (λ (g : Site). ArePackets g.clusters plan.sent p.sent) (node_is s mid e k brokers here).site prepared.sent) in
-    subst (λ (c : Broker). Stands s (broker_acted (kept_of mid) n (sender_of s e) (takes_of e) c p.sent) (happens s w e))
-    (sym (becomes s mid e plan p k brokers here prepared))
-    (broker_done s (kept_of mid) w e p.sent brokers (in_range_is s e here) (ground s h.setup w reached) (stands_same s old mid w same stands) (sym is ∙ busy) sent)
+    outs_stand s.clusters plan.sent p.sent (subst (λ (g : Site). ArePackets g.clusters plan.sent p.sent) (node_is s b e h brokers here).site prepared.sent) in
+    subst (λ (c : Broker). Stands s (broker_acted (kept_of b) n (sender_of s e) (takes_of e) c p.sent) (happens s w e))
+    (sym (becomes s b e plan p h brokers here prepared))
+    (broker_done s (kept_of b) w e p.sent brokers (in_range_is s e here) (ground s h.setup w reached) stands (sym is ∙ busy) sent)
 
 pub idle_stands : (s : Setup) (old mid : WorldBook) (w : World) (e : Event) (p : PlanBook) → IsAt s old → SameWorld old mid → IsBrokers e → IsEvent s e
     → Reached s w → Stands s (kept_of old) w → PreparesAt old (node_of s e) (takes_of e) e p → p.idle ≡ true

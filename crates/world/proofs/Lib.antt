@@ -13,9 +13,9 @@ pub mod Prepared
 pub mod ManySteps
 pub mod NewWorlds
 pub mod Stopping
-pub mod RunSteps
 pub mod SettlingRuns
 pub mod SettlingSteps
+pub mod Observing
 pub mod SettlingKnown
 pub mod SettledEvent
 pub mod PairLists

@@ -61,13 +61,6 @@ one_more_node s vs t x v here h is broker =
           (λ before. h.each u y there (omega (arith, before, size))) (λ last. same_node s t x u y v here there (last ∙ size) is);
     })
 
--- a topic's brokers are behind those of the topics before it
-pub topic_begins : (s : Setup) (t : ℕ) (vs : List BrokerBook) → AreNew s (t * length s.clusters) vs → AreNew s (t * length s.clusters + 0) vs
-topic_begins s t vs h = let is : t * length s.clusters ≡ t * length s.clusters + 0 = omega arith in subst (λ (k : ℕ). AreNew s k vs) is h
-
-pub topic_ends : (s : Setup) (t x : ℕ) (vs : List BrokerBook) → x ≡ length s.clusters → AreNew s (t * length s.clusters + x) vs → AreNew s ((t + 1) * length s.clusters) vs
-topic_ends s t x vs all h = let is : t * length s.clusters + x ≡ (t + 1) * length s.clusters = grind (arith, all) in subst (λ (k : ℕ). AreNew s k vs) is h
-
 -- ---- clients
 
 pub one_client_more : (s : Setup) (c : ℕ) (ms : List Client) (m : Client) → c < length s.clients → ms ≡ map new_client (take c s.clients) → m ≡ new_client (declared_at s c)

@@ -1,5 +1,5 @@
 -- The events of settling, as loops over topics, sources and targets make them.
-use Rattle.std.proofs.Common.{◌≡◌, ℕ, suc, ◌+◌, ◌-◌, ◌<◌, ◌≤◌, Bool, List, [], ◌∷◌, ◌++◌, refl, sym, ◌∙◌, ap, subst, append_assoc, arith}
+use Rattle.std.proofs.Common.{◌≡◌, ℕ, suc, ◌+◌, ◌-◌, ◌<◌, Bool, List, [], ◌∷◌, ◌++◌, refl, sym, ◌∙◌, ap, subst, append_assoc, arith}
 use Rattle.std.proofs.lemmas.Bool.{eq-eqb}
 use Rattle.std.proofs.lemmas.List.{append-nil}
 use Rattle.std.specs.Prelude.{if◌then◌else◌}
@@ -17,12 +17,6 @@ numbers n i = range_with_len i (n - i)
 
 next_number : (n i : ℕ) → i < n → numbers n i ≡ i ∷ numbers n (i + 1)
 next_number n i lt = let more : n - i ≡ suc (n - (i + 1)) = omega (arith, lt) in rw more refl
-
-last_number : (n i : ℕ) → n ≤ i → numbers n i ≡ []
-last_number n i past = let none : n - i ≡ 0 = omega (arith, past) in rw none refl
-
-first_numbers : (n : ℕ) → numbers n 0 ≡ range_with_len 0 n
-first_numbers n = let all : n - 0 ≡ n = omega arith in rw all refl
 
 -- what is made, and what is left, are the whole
 pub record IsLeft (old now : SettlingEvents) (rest whole : List Pair) : Type 0 where
@@ -51,9 +45,6 @@ left_same old now left rest whole h is = subst (λ (ps : List Pair). IsLeft old 
 
 -- ---- each loop begins, goes on and ends
 
-pub targets_first : (old : SettlingEvents) (t x n : ℕ) → IsLeft old old (pairs_to t x (numbers n 0)) (pairs_to t x (range_with_len 0 n))
-targets_first old t x n = rw (first_numbers n) (record { resets = refl; round = refl })
-
 pub targets_more : (old mid new : SettlingEvents) (t x n y : ℕ) (whole : List Pair) → y < n → (x ≡ y → ⊥) → IsLeft old mid (pairs_to t x (numbers n y)) whole
     → Adds mid new (record { topic = t; source = x; target = y } ∷ []) → IsLeft old new (pairs_to t x (numbers n (y + 1))) whole
 targets_more old mid new t x n y whole lt apart h adds =
@@ -75,29 +66,14 @@ all_added old new left whole is h =
     let k : IsLeft old new [] whole = subst (λ (ps : List Pair). IsLeft old new ps whole) is h in
     record { resets = sym (append-nil new.resets) ∙ k.resets; round = sym (append-nil new.round) ∙ k.round }
 
-pub targets_last : (old new : SettlingEvents) (t x n y : ℕ) (whole : List Pair) → n ≤ y → IsLeft old new (pairs_to t x (numbers n y)) whole → Adds old new whole
-targets_last old new t x n y whole past h = all_added old new (pairs_to t x (numbers n y)) whole (ap (pairs_to t x) (last_number n y past)) h
-
-pub sources_first : (old : SettlingEvents) (t n : ℕ) (ys : List ℕ) → IsLeft old old (pairs_from t (numbers n 0) ys) (pairs_from t (range_with_len 0 n) ys)
-sources_first old t n ys = rw (first_numbers n) (record { resets = refl; round = refl })
-
 pub sources_more : (old mid new : SettlingEvents) (t n x : ℕ) (ys : List ℕ) (whole : List Pair) → x < n → IsLeft old mid (pairs_from t (numbers n x) ys) whole
     → Adds mid new (pairs_to t x ys) → IsLeft old new (pairs_from t (numbers n (x + 1)) ys) whole
 sources_more old mid new t n x ys whole lt h adds =
     left_more old mid new (pairs_to t x ys) (pairs_from t (numbers n (x + 1)) ys) (pairs_from t (numbers n x) ys) whole h
     (ap (λ (xs : List ℕ). pairs_from t xs ys) (next_number n x lt)) adds
 
-pub sources_last : (old new : SettlingEvents) (t n x : ℕ) (ys : List ℕ) (whole : List Pair) → n ≤ x → IsLeft old new (pairs_from t (numbers n x) ys) whole → Adds old new whole
-sources_last old new t n x ys whole past h = all_added old new (pairs_from t (numbers n x) ys) whole (ap (λ (xs : List ℕ). pairs_from t xs ys) (last_number n x past)) h
-
-pub topics_first : (old : SettlingEvents) (n : ℕ) (xs : List ℕ) → IsLeft old old (pairs_of (numbers n 0) xs) (pairs_of (range_with_len 0 n) xs)
-topics_first old n xs = rw (first_numbers n) (record { resets = refl; round = refl })
-
 pub topics_more : (old mid new : SettlingEvents) (n t : ℕ) (xs : List ℕ) (whole : List Pair) → t < n → IsLeft old mid (pairs_of (numbers n t) xs) whole
     → Adds mid new (pairs_from t xs xs) → IsLeft old new (pairs_of (numbers n (t + 1)) xs) whole
 topics_more old mid new n t xs whole lt h adds =
     left_more old mid new (pairs_from t xs xs) (pairs_of (numbers n (t + 1)) xs) (pairs_of (numbers n t) xs) whole h
     (ap (λ (ts : List ℕ). pairs_of ts xs) (next_number n t lt)) adds
-
-pub topics_last : (old new : SettlingEvents) (n t : ℕ) (xs : List ℕ) (whole : List Pair) → n ≤ t → IsLeft old new (pairs_of (numbers n t) xs) whole → Adds old new whole
-topics_last old new n t xs whole past h = all_added old new (pairs_of (numbers n t) xs) whole (ap (λ (ts : List ℕ). pairs_of ts xs) (last_number n t past)) h

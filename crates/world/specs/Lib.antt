@@ -5,5 +5,6 @@ pub mod Runs
 pub mod Opening
 pub mod Restarts
 pub mod Settling
+pub mod Observing
 pub mod Saving
 pub mod Foreseen

@@ -17,7 +17,7 @@ ghost use Rattle.world_kept.specs.Reached.{Reached};
 
 use crate::fault::RunFault;
 use crate::place::{Place, place_of};
-use crate::world::{World, node_number};
+use crate::world::World;
 use broker_state::Plan;
 use geo_base::limits::{EVENTS, SENT_BYTES};
 use geo_base::{Event, Memory, Stamp, WireOut};
@@ -104,7 +104,7 @@ impl World {
 
     /// Whether an event takes a packet and there is none, so that it is not enabled.
     #[tactic(auto, using(crate::proofs::Waiting::waits_there))]
-    fn is_waiting(&self, takes: Option<LinkName>) -> bool
+    pub(crate) fn is_waiting(&self, takes: Option<LinkName>) -> bool
         ensures { result ≡ true → Waits self.now takes }
     {
         if takes.is_none() {
@@ -138,19 +138,12 @@ impl World {
         ensures err { OnErr result (SameWorld self.old self.new) }
         ensures empty { IsEmptyPlan plan.new }
     {
-        let number = node_number(scenario, place.topic, place.cluster);
-        self.prepare_at(alloc, number, event, place.takes, plan)?;
-        if plan.is_idle() {
-            plan.clear();
+        let is_ready = self.prepare_enabled(alloc, scenario, event, place, plan)?;
+        if !is_ready {
             return Ok(false);
         }
-        match self.finish_at(alloc, place, number, plan) {
-            Ok(()) => Ok(true),
-            Err(fault) => {
-                plan.clear();
-                Err(fault)
-            }
-        }
+        self.finish(alloc, scenario, event, place, plan)?;
+        Ok(true)
     }
 
     /// What an event will do at a broker, with the packet that it takes.
@@ -177,7 +170,7 @@ impl World {
 
     /// An event that is not enabled: it is counted.
     #[tactic(auto, using(crate::proofs::Limits::one_more, crate::proofs::Limits::too_many))]
-    pub(crate) fn idles(&mut self) -> Result<(), RunFault>
+    pub fn idles(&mut self) -> Result<(), RunFault>
         requires { IsWithin self.old }
         ensures ok { OnOk result (self.new ≡ record self.old { idle = self.old.idle + 1 }) }
         ensures within { OnOk result (limit_of self.old.events (self.old.idle + 1) self.old.frame_bytes ≡ None) }
@@ -193,6 +186,8 @@ impl World {
 
     /// Sends what was prepared at a broker, takes its packet and does it; nothing of all that where a limit would be passed, or
     /// memory is wanting.
+    // Inlined with `World::finish`, as what it is made of, so that the two halves of a plain run's event are one function as before.
+    #[inline(always)]
     pub(crate) fn finish_at(
         &mut self,
         alloc: Global,
@@ -219,6 +214,7 @@ impl World {
 
     /// Sends what was prepared at a broker, in an event of this stamp, and counts its bytes; nothing of that where a limit would be
     /// passed, or memory is wanting. Most events send nothing, for which no link is asked.
+    #[inline(always)]
     fn send_at(
         &mut self,
         alloc: Global,
@@ -264,6 +260,7 @@ impl World {
     }
 
     /// Takes the packet of an event whose packets were delivered, and does what was prepared.
+    #[inline(always)]
     fn commit_at(&mut self, place: Place, number: usize, plan: &mut Plan, stamp: u64)
         requires node { number < length self.old.nodes }
         requires clock { number < length self.old.broker_clocks }

@@ -31,7 +31,7 @@ impl Place {
 }
 
 /// The place of an event of a broker.
-pub(crate) fn place_of(scenario: &Scenario, event: &Event) -> Place
+pub fn place_of(scenario: &Scenario, event: &Event) -> Place
     requires broker { IsBrokers event.now }
     requires scripted { IsEvent scenario.now.setup event.now }
     ensures { result ≡ place_at scenario.now.setup event.now }
