@@ -23,7 +23,8 @@ pub use broker_lines::add_broker;
 pub use client_lines::add_client;
 pub use entries::{add, add_entries, add_entry, add_entry_line, add_entry_words, add_got};
 pub use lines::{
-    ClientCounts, SubShown, client_line, head_line, place_line, sender_line, sub_line,
+    ClientCounts, SubShown, add_client_line, add_head_line, add_place_line, add_sender_line,
+    add_sub_line, client_line, head_line, place_line, sender_line, sub_line,
 };
 pub use tier_lines::{TieredTopic, add_read_entries, moved_line, moved_to_tier};
 pub use view_lines::{add_messages, horizon_line};
