@@ -1,5 +1,6 @@
 pub mod Cuts
 pub mod LineCounts
+mod Skipping
 pub mod Distinct
 pub mod Parts
 pub mod Answered

@@ -12,3 +12,4 @@ pub mod Kept
 pub mod Canonical
 pub mod Same
 pub mod Recent
+pub mod Said

@@ -96,7 +96,7 @@ impl<'a> Lines<'a> {
     /// The next line.
     #[tactic(auto, using(crate::proofs::Cuts::lines_cut, crate::proofs::Cuts::lines_uncut))]
     pub(crate) fn next_line(&mut self) -> Option<TextLine<'a>>
-        ensures { MatchOption result (self.old ≡ []) (λ line. self.old ≡ line ∷ self.new) }
+        ensures { MatchOption result ((self.old ≡ []) × (self.new ≡ [])) (λ line. self.old ≡ line ∷ self.new) }
     {
         if self.rest.is_empty() {
             return None;

@@ -162,8 +162,8 @@ impl Scenario {
         self.steps.list()
     }
 
-    /// What the events of the script may name.
-    pub(crate) fn names(&self, alloc: Global) -> Result<Names<'_>, Memory>
+    /// What the events of the script may name. `Memory` comes where memory is wanting.
+    pub fn names(&self, alloc: Global) -> Result<Names<'_>, Memory>
         ensures names { IfOk result (λ names. names ≡ names_of self.now.setup) }
         ensures known { OnOk result (IsDeclared self.now.setup) }
         ensures whole { OnOk result (IsScenario self.now) }

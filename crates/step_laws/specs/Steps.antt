@@ -1,6 +1,6 @@
 -- What each event of a run changed of what a report shows (own): the lines of `steps`. A line of a report that is new or other than
--- before stands under its node's line, and nothing else is told. The lines of the script and the words of an event are handed in, since
--- both stand in crates above.
+-- before stands under its node's line, and nothing else is told. The words of an event are handed in, since
+-- their table stands apart (`script_rows`).
 use Rattle.std.specs.Prelude.{ℕ, zero, suc, ◌+◌, ◌==◌, Bool, true, false, not, ◌&&◌, if◌then◌else◌, List, [], ◌∷◌, ◌++◌, length, map, filter, drop, Option, Some, None, slice_index_or, is_some, codes, decimal}
 use Rattle.geo_base.specs.declared.event.Event.{Event}
 use Rattle.geo_base.specs.declared.event.Step.{Step}
@@ -18,6 +18,7 @@ use Rattle.geo_base.specs.Setup.{Setup, declared_at, topic_name}
 use Rattle.geo_base.specs.Subscribing.{same_kind}
 use Rattle.geo_base.specs.Subscription.{Subscription}
 use Rattle.geo_base.specs.World.{World, client_at, topic_at}
+use Rattle.script_text.specs.Said.{Said}
 
 -- ---- what a report shows of a sender, a subscription and a client is the same
 
@@ -194,11 +195,6 @@ abbrev pub event_lines : (Step → List ℕ) → Setup → List ToldEvent → Li
 event_lines wording s [] = []
 event_lines wording s (d ∷ ds) =
     words (codes "event" ∷ decimal d.number ∷ wording (step.Plain d.event) ∷ []) ∷ map indented (changed_lines s d.at) ++ event_lines wording s ds
-
--- a step's line in its text: its number and its bytes
-pub record Said : Type 0 where
-  pub line : ℕ
-  pub bytes : List ℕ
 
 -- step NUMBER line LINE, `idle` where it was idle, and the line's words; behind it what it changed, or the events of a settle and the
 -- counts
