@@ -1,8 +1,11 @@
 """Prints what the heads of crates, functions and proofs say, so that no page repeats them.
 
 usage: tools/pages crates              each crate: what it stands on (crates.txt), and what its head says
+       tools/pages heads [CRATE ..]    the whole head of each crate: what it keeps and how
        tools/pages claims [CRATE ..]   each public function with clauses: what its doc line says, and the clauses' names
+       tools/pages specs [CRATE ..]    each module of definitions in its order, and what its head says
        tools/pages proofs [CRATE ..]   each file of proofs, and what its head says
+       tools/pages promises            what is claimed of each run that the program does: the fields of HoldsOf, each with its sentence
 """
 import os
 import re
@@ -11,6 +14,8 @@ import sys
 from .program import ROOT
 
 WRONG_WORDS = 2
+# the record of what is claimed of a run
+PROMISES, RECORD = 'crates/geo_top/specs/Claims.antt', 'pub record HoldsOf '
 # how much of a head is printed, in sentences
 SENTENCES = 2
 
@@ -32,23 +37,24 @@ def sentences(text, count=SENTENCES):
     return ' '.join(re.split(r'(?<=[.:]) (?=[A-Z`])', ' '.join(text.split()))[:count])
 
 
-def head(path, mark):
-    """The comment at a file's top, whose lines begin with this mark."""
+def head(path, mark, whole=False):
+    """The comment at a file's top, whose lines begin with this mark; of a crate its first paragraph, or the whole."""
     lines = []
     with open(path, encoding='utf-8') as file:
         for line in file:
             if not line.startswith(mark):
                 break
             lines.append(line[len(mark):].strip())
-    paragraph = ' '.join(lines).strip() if mark == '--' else '\n'.join(lines).split('\n\n')[0]
-    return paragraph
+    if mark == '--':
+        return ' '.join(lines).strip()
+    return '\n'.join(lines) if whole else '\n'.join(lines).split('\n\n')[0]
 
 
-def crate_head(crate):
+def crate_head(crate, whole=False):
     for name in ('lib.rt', 'main.rt'):
         path = '%s/crates/%s/src/%s' % (ROOT, crate, name)
         if os.path.exists(path):
-            return head(path, '//!')
+            return head(path, '//!', whole)
     return ''
 
 
@@ -98,6 +104,14 @@ def print_crates(words):
     return 0
 
 
+def print_heads(words):
+    for crate, _ in crates():
+        if crate is not None and (not words or crate in words):
+            print('\n%s\n' % crate)
+            print(crate_head(crate, whole=True))
+    return 0
+
+
 def print_claims(words):
     for crate, _ in crates():
         if crate is None or (words and crate not in words):
@@ -107,6 +121,25 @@ def print_claims(words):
             print('\n%s\n' % crate)
         for name, doc, clauses in found:
             print('%s: %s\n    %s' % (name, ', '.join(clauses), sentences(doc)))
+    return 0
+
+
+def modules(crate):
+    """The modules of a crate's definitions, in the order of its Lib.antt; none where it has no definitions."""
+    path = '%s/crates/%s/specs/Lib.antt' % (ROOT, crate)
+    if not os.path.exists(path):
+        return []
+    with open(path, encoding='utf-8') as file:
+        return re.findall(r'^(?:pub )?mod (\w+)$', file.read(), re.M)
+
+
+def print_specs(words):
+    for crate, _ in crates():
+        if crate is None or (words and crate not in words) or not modules(crate):
+            continue
+        print('\n%s\n' % crate)
+        for name in modules(crate):
+            print('%s\n    %s' % (name, sentences(head('%s/crates/%s/specs/%s.antt' % (ROOT, crate, name), '--'))))
     return 0
 
 
@@ -123,7 +156,28 @@ def print_proofs(words):
     return 0
 
 
-PRINTING = {'crates': print_crates, 'claims': print_claims, 'proofs': print_proofs}
+def promises():
+    """Each field of HoldsOf with the sentence above it; a field without one of its own belongs to the sentence before."""
+    with open(os.path.join(ROOT, PROMISES), encoding='utf-8') as file:
+        record = file.read().split('\n' + RECORD)[1].split('\n\n')[0]
+    said, is_new = [], True
+    for line in record.split('\n')[1:]:
+        field = re.match(r'  pub (\w+) : ', line)
+        if field:
+            yield field[1], ' '.join(said)
+            is_new = True
+        elif line.startswith('  -- '):
+            said = [line[5:]] if is_new else said + [line[5:]]
+            is_new = False
+
+
+def print_promises(words):
+    for field, said in promises():
+        print('%s\n    %s' % (field, said))
+    return 0
+
+
+PRINTING = {'promises': print_promises, 'crates': print_crates, 'heads': print_heads, 'claims': print_claims, 'specs': print_specs, 'proofs': print_proofs}
 
 
 def main(words):

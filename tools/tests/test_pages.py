@@ -12,6 +12,11 @@ def page(name):
         return file.read()
 
 
+def headings(text):
+    """The places of a page: its headings, as a browser's address has them."""
+    return {re.sub(r'[^\w\- ]', '', head.lower()).replace(' ', '-') for head in re.findall(r'^#+ (.*)$', text, re.M)}
+
+
 class Heads(unittest.TestCase):
     """Each crate, and each function with clauses, says what it is."""
 
@@ -20,6 +25,23 @@ class Heads(unittest.TestCase):
             if crate is not None:
                 with self.subTest(crate):
                     self.assertTrue(pages.crate_head(crate))
+
+    def test_each_module_of_definitions_has_a_head(self):
+        self.assertEqual(pages.modules('geo_base')[:3], ['Name', 'Metadata', 'Types'])
+        for crate, _ in pages.crates():
+            for name in pages.modules(crate) if crate else []:
+                with self.subTest('%s %s' % (crate, name)):
+                    self.assertTrue(pages.head('%s/crates/%s/specs/%s.antt' % (ROOT, crate, name), '--'))
+
+    def test_each_promise_is_told(self):
+        """The fields of HoldsOf stand in CLAIMS' table in their order, each with a sentence in the record, and README has a paragraph of each."""
+        found = list(pages.promises())
+        self.assertTrue(all(said for _, said in found))
+        rows = page('docs/CLAIMS.md').split('| field |')[1].split('\n\n')[0].split('\n')[2:]
+        told = [name for row in rows for name in re.findall(r'`(\w+)`', row.split('|')[1].split('(')[0])]
+        self.assertEqual([field for field, _ in found], told)
+        for field, _ in found:
+            self.assertTrue(re.search(r'\((?:`\w+`, )*`%s`' % field, page('README.md')), field)
 
     def test_functions_are_found(self):
         found = {name: clauses for path in pages.files_below(ROOT + '/crates/world_laws/src', '.rt') for name, _, clauses in pages.functions(path)}
@@ -78,17 +100,15 @@ class Links(unittest.TestCase):
                     with self.subTest('%s -> %s' % (name, target)):
                         self.assertTrue(os.path.exists(os.path.join(folder, target)))
 
-    def test_places_in_a_page(self):
-        """A link to a heading of the same page names one that stands there."""
+    def test_places_in_pages(self):
+        """A link to a heading, of the same page or of another one, names one that stands there."""
         for folder in ('', 'docs/'):
             for name in sorted(os.listdir(os.path.join(ROOT, folder))):
                 if not name.endswith('.md'):
                     continue
-                text = page(folder + name)
-                heads = {re.sub(r'[^\w\- ]', '', head.lower()).replace(' ', '-') for head in re.findall(r'^#+ (.*)$', text, re.M)}
-                for target in re.findall(r'\]\(#([^)]*)\)', text):
-                    with self.subTest('%s#%s' % (name, target)):
-                        self.assertIn(target, heads)
+                for to, target in re.findall(r'\]\(([^)#:]*)#([^)]*)\)', page(folder + name)):
+                    with self.subTest('%s -> %s#%s' % (name, to, target)):
+                        self.assertIn(target, headings(page(os.path.normpath(folder + (to or name)))))
 
 
 if __name__ == '__main__':
