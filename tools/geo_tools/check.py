@@ -26,8 +26,10 @@ from .program import ROOT, Failed, Program, built_program
 from .stored import examples
 
 TESTS = os.path.join(ROOT, 'tools', 'tests')
-# tests of these names need a browser: they are left out of a quick check, and skipped where there is none
+# tests of this name need a browser: they are left out of a quick check, and skipped where there is none
 BROWSER = 'browser'
+# what tests of these names need may be missing: then it is said that they did not run, and nothing fails
+MAY_BE_MISSING = (BROWSER, 'zsh')
 # the run that the definitions compute, once with its report and once with another one: what stands there, and in its place
 RIGHT = os.path.join('examples', 'one_message')
 WRONG = ('mark 1', 'mark 0')
@@ -52,7 +54,7 @@ class Count:
 
 
 class Results(unittest.TestResult):
-    """Counts unit tests. One that is skipped did not run, so it did not pass; but for those that need a browser where there is none."""
+    """Counts unit tests. One that is skipped did not run, so it did not pass; but for those that need what may be missing."""
 
     def __init__(self, count):
         super().__init__()
@@ -74,7 +76,7 @@ class Results(unittest.TestResult):
             self.count.add(subtest.id(), ''.join(traceback.format_exception(*err)))
 
     def addSkip(self, test, reason):
-        if BROWSER in test.id():
+        if any(name in test.id() for name in MAY_BE_MISSING):
             print('skipped %s: %s' % (test.id(), reason), flush=True)
         else:
             self.count.add(test.id(), 'not run: ' + reason)

@@ -32,6 +32,9 @@ class Some(unittest.TestCase):
     @unittest.skip('there is none')
     def test_in_a_browser(self):
         pass
+    @unittest.skip('no shell of that name')
+    def test_zsh(self):
+        pass
 '''
 
 
@@ -56,6 +59,7 @@ class Counts(unittest.TestCase):
         self.assertEqual((passed, failed), (1, 4))
         self.assertIn('FAILED inner_tests.test_some.Some.test_skipped: not run: it cannot', said)
         self.assertIn('skipped inner_tests.test_some.Some.test_in_a_browser: there is none', said)
+        self.assertIn('skipped inner_tests.test_some.Some.test_zsh: no shell of that name', said)
 
     def test_quick(self):
         self.assertNotIn('browser', self.counted(True)[2])
