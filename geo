@@ -16,7 +16,12 @@
 #   70  the toolchain failed; what it said is on standard error
 # Of a call that is refused, standard error has the program's line again where standard output is no terminal, and what it means.
 set -u
-top=$(cd "$(dirname "$0")" && pwd)
+# (by expansion: each process that is started is a millisecond of every call)
+case $0 in
+/*) top=${0%/*} ;;
+*/*) top=$PWD/${0%/*} ;;
+*) top=$PWD ;;
+esac
 # a byte more than the program reads, so that it refuses what is longer (docs/REPORT.md, too large 1)
 most=67108865
 # the words of tools/geo_tools, and those that this wrapper answers itself
@@ -145,8 +150,14 @@ for file in ${files+"${files[@]}"}; do
     fi
 done
 
-room=$(mktemp -d) || exit 70
-trap 'rm -rf "$room"' EXIT
+# A folder for what is kept while it runs, made where it is needed.
+room=
+make_room() {
+    if [ -z "$room" ]; then
+        room=$(mktemp -d) || exit 70
+        trap 'rm -rf "$room"' EXIT
+    fi
+}
 # The first status of several that is not 0.
 status=0
 note() { if [ "$status" = 0 ]; then status=$1; fi; }
@@ -167,6 +178,7 @@ read_input() {
         input=${files[0]}
         return
     fi
+    make_room
     input=$room/input
     if ! cat -- ${files+"${files[@]}"} 2>"$room/fault" | head -c $most >"$input" || [ -s "$room/fault" ]; then
         # what the program says of a directory and of a standard input that is closed
@@ -190,24 +202,27 @@ one_run() {
     case $ended in
     2 | 3 | 4 | 6 | 8 | 9 | 10)
         # a refusal is one line, and comes again
+        make_room
         "$program" ${words+"${words[@]}"} <"$input" >"$room/answer"
         explain $ended "$room/answer" "$1"
         ;;
     esac
 }
-name_of_input() {
+# How the input is called, in $named.
+name_input() {
     case ${#files[@]} in
-    0) echo "standard input" ;;
-    1) if [ "${files[0]}" = - ]; then echo "standard input"; else echo "${files[0]}"; fi ;;
-    *) echo "${files[*]}" ;;
+    0) named="standard input" ;;
+    1) if [ "${files[0]}" = - ]; then named="standard input"; else named=${files[0]}; fi ;;
+    *) named="${files[*]}" ;;
     esac
 }
 
 prepare_program
+name_input
 
 # One document of an answer: $1 its status, $2 the file that has it.
 as_json() {
-    GEO_PROGRAM=$program python3 "$top/tools/geo_tools" json "$1" "$2" "$input" "$(name_of_input)" ${words+"${words[@]}"}
+    GEO_PROGRAM=$program python3 "$top/tools/geo_tools" json "$1" "$2" "$input" "$named" ${words+"${words[@]}"}
     case $? in
     0) exit "$1" ;;
     2) exit 2 ;;
@@ -234,17 +249,19 @@ if [ -n "$program" ]; then
     fi
     read_input
     if [ -n "$json" ] || [ "${words[0]:-}" = live ]; then
+        make_room
         "$program" ${words+"${words[@]}"} <"$input" >"$room/answer"
         ended=$?
         if [ -n "$json" ]; then as_json $ended "$room/answer"; fi
         cat "$room/answer" 2>/dev/null || exit 5
-        if [ $ended = 0 ]; then left_over "$room/answer"; else explain $ended "$room/answer" "$(name_of_input)"; fi
+        if [ $ended = 0 ]; then left_over "$room/answer"; else explain $ended "$room/answer" "$named"; fi
         exit $ended
     fi
-    one_run "$(name_of_input)"
+    one_run "$named"
     exit "$ended"
 fi
 
+make_room
 # Compiles and runs the program; $1 has what it reads, and the toolchain's other words follow. What it writes is kept, since a
 # sink that fails is the program's own matter: status 5, and not the toolchain's.
 try() {
@@ -289,6 +306,6 @@ cat "$room/answer" 2>/dev/null || exit 5
 case $status in
 0) if [ "${words[0]:-}" = live ]; then left_over "$room/answer"; fi ;;
 5) ;;
-*) explain "$status" "$room/answer" "$(name_of_input)" ;;
+*) explain "$status" "$room/answer" "$named" ;;
 esac
 exit "$status"
