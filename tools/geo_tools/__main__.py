@@ -7,6 +7,8 @@
   check        checks the tools, the drills and what is stored          tools/check
   live         runs a script on threads for many seeds                  tools/live
   pages        prints what the heads of crates, functions and proofs say  tools/pages
+  edits        tries the edits that the prover has to refuse            tools/edits
+  weak         looks for wrong bodies that contracts let through        tools/weak
   observed     judges what clusters that really run tell after a drill  tools/observed
   help         what ./geo can be told, and the manual page              ./geo help
   completion   the completion for a shell                               ./geo completion
@@ -38,13 +40,13 @@ if not __package__:
 
 MODULES = {
     'drill': 'drill.main', 'story': 'story', 'page': 'page.document', 'why': 'refusals', 'check': 'check',
-    'live': 'live_runs', 'pages': 'pages', 'observed': 'observed.main', 'help': 'help', 'completion': 'completion',
+    'live': 'live_runs', 'pages': 'pages', 'edits': 'contracts.edits', 'weak': 'contracts.weak', 'observed': 'observed.main', 'help': 'help', 'completion': 'completion',
     'refused': 'refusals.behind', 'json': 'documents',
     'examples': 'stored.examples', 'compacted': 'stored.compacted', 'tiered': 'stored.tiered', 'states': 'stored.states', 'slow': 'stored.slow',
     'definitions': 'computed.definitions', 'planted': 'computed.planted', 'random': 'computed.random_runs',
     'audit': 'apart.audit', 'memory': 'apart.memory'}
 # those that have words of their own behind --help
-PARSING = ('drill', 'story', 'page', 'check', 'live', 'observed', 'help')
+PARSING = ('drill', 'story', 'page', 'check', 'live', 'edits', 'weak', 'observed', 'help')
 # the status of wrong words
 WRONG_WORDS = 2
 

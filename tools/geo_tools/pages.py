@@ -20,9 +20,9 @@ PROMISES, RECORD = 'crates/geo_top/specs/Claims.antt', 'pub record HoldsOf '
 SENTENCES = 2
 
 
-def crates():
+def crates(root=ROOT):
     """The crates in the order of crates.txt, each with what it stands on; a comment of that file is a heading, under None."""
-    with open(ROOT + '/crates.txt', encoding='utf-8') as file:
+    with open(root + '/crates.txt', encoding='utf-8') as file:
         for line in file:
             line = line.strip()
             if line.startswith('#') and 'NAME:' not in line:
