@@ -1,0 +1,127 @@
+use Rattle.std.proofs.Common.{Bool, true, Ok, Result, ap, subst, sym, ◌∙◌}
+use Rattle.std.proofs.lemmas.Result.{err_from_is_err_and}
+use Rattle.std.specs.Prelude.{Err}
+use Rattle.broker_state.specs.Plan.{PlanBook}
+use Rattle.geo_base.specs.declared.memory.Memory.{Memory}
+use Rattle.geo_base.specs.Happening.{happens}
+use Rattle.step_lines.specs.Texts.{telling_of}
+use Rattle.step_lines.proofs.Told.{acted, from_same, from_text, never_answered, ok_passes_none, rests, wants_no_limit}
+use Rattle.world.specs.Foreseen.{IsHalfDone}
+use Rattle.world.proofs.Acting.{acts_from, acts_wants, later_from, later_same, never_idle, same_both, stands_from}
+use Rattle.step_lines.proofs.steps.Steps.acts.Goals as goal
+
+abbrev answered : Bool → Result Bool Memory
+answered b = Ok b
+
+pub returns-in_err-is_ready : goal.returns-in_err-is_ready
+returns-in_err-is_ready c =
+    let s = c.args.scenario.now.setup in let old = c.args.world.now in let mid = c.prepare.new.self in let same = c.prepare.ensures.same in
+    let p = err_from_is_err_and c.from_residual.result c.from_residual.ensures.1 in
+    record {
+      told = λ w reached stands. rw p.1 tt;
+      acts = λ w reached stands. rw (p.1, p.2) (acts_wants s old mid (happens s w c.args.event.now));
+      at = c.prepare.ensures.at;
+      later = later_same old mid same;
+      knows = c.requires.knows;
+      idle = λ is. same;
+      past = λ n is. same;
+    }
+
+pub returns-then-not-is_ready : goal.returns-then-not-is_ready
+returns-then-not-is_ready c =
+    let s = c.args.scenario.now.setup in let old = c.args.world.now in let mid = c.prepare.new.self in let same = c.prepare.ensures.same in
+    let idle = c.in_ok-is_ready.was ∙ ap answered c.if-not-is_ready.true in
+    record {
+      told = λ w reached stands. rests c.args.indent s old mid w c.args.event.now (telling_of c.args.self.now.telling) same stands (c.prepare.ensures.idle w reached stands idle);
+      acts = λ w reached stands. c.prepare.ensures.idle w reached stands idle;
+      at = c.prepare.ensures.at;
+      later = later_same old mid same;
+      knows = c.requires.knows;
+      idle = λ is. same;
+      past = λ n is. same;
+    }
+
+pub note-requires : goal.note-requires
+note-requires c = record { at = c.prepare.ensures.at; broker = c.requires.broker; scripted = c.requires.scripted; place = c.place_of-place.ensures }
+
+pub returns-in_err-note : goal.returns-in_err-note
+returns-in_err-note c =
+    let s = c.args.scenario.now.setup in let old = c.args.world.now in let mid = c.prepare.new.self in let same = c.prepare.ensures.same in
+    let p = err_from_is_err_and c.from_residual-in_err-note.result c.from_residual-in_err-note.ensures.1 in
+    record {
+      told = λ w reached stands. rw p.1 tt;
+      acts = λ w reached stands. rw (p.1, p.2) (acts_wants s old mid (happens s w c.args.event.now));
+      at = c.prepare.ensures.at;
+      later = later_same old mid same;
+      knows = from_same s c.args.self.now.telling c.note.new.self.telling c.note.ensures.telling c.requires.knows;
+      idle = λ is. same;
+      past = λ n is. same;
+    }
+
+pub finish-requires : goal.finish-requires
+finish-requires c =
+    let half = c.prepare.ensures.ready (c.in_ok-is_ready.was ∙ ap answered c.if-not-is_ready.false) in
+    record {
+      at = c.prepare.ensures.at;
+      broker = c.requires.broker;
+      scripted = c.requires.scripted;
+      place = c.place_of-place.ensures;
+      ready = subst (λ (p : PlanBook). IsHalfDone c.args.scenario.now.setup c.prepare.new.self c.args.event.now p) (sym c.note.ensures.plan) half;
+    }
+
+pub returns-in_err-finish : goal.returns-in_err-finish
+returns-in_err-finish c =
+    let s = c.args.scenario.now.setup in let old = c.args.world.now in let mid = c.prepare.new.self in let new = c.finish.new.self in let same = c.prepare.ensures.same in
+    let p = err_from_is_err_and c.from_residual-in_err-finish.result c.from_residual-in_err-finish.ensures.1 in
+    record {
+      told = λ w reached stands. rw p.1 tt;
+      acts = λ w reached stands. rw (p.1, p.2) (acts_from s old mid new (happens s w c.args.event.now) (Err c.in_err-finish.field-0.0) same (c.in_err-finish.ensures.acts w reached (stands_from s old mid w same stands)));
+      at = c.finish.ensures.at;
+      later = later_from old mid new same c.finish.ensures.later;
+      knows = from_same s c.args.self.now.telling c.note.new.self.telling c.note.ensures.telling c.requires.knows;
+      idle = λ is. same_both old mid new same c.in_err-finish.ensures.err;
+      past = λ n is. same_both old mid new same c.in_err-finish.ensures.err;
+    }
+
+pub tell_event-requires : goal.tell_event-requires
+tell_event-requires c =
+    record {
+      at = c.finish.ensures.at;
+      knows = from_same c.args.scenario.now.setup c.args.self.now.telling c.note.new.self.telling c.note.ensures.telling c.requires.knows;
+      broker = c.requires.broker;
+      scripted = c.requires.scripted;
+      place = c.place_of-place.ensures;
+      noted = c.in_ok-note.ensures.noted.senders.many;
+    }
+
+pub returns-in_err-tell_event : goal.returns-in_err-tell_event
+returns-in_err-tell_event c =
+    let s = c.args.scenario.now.setup in let old = c.args.world.now in let mid = c.prepare.new.self in let new = c.finish.new.self in let same = c.prepare.ensures.same in
+    let p = err_from_is_err_and c.from_residual-in_err-tell_event.result c.from_residual-in_err-tell_event.ensures.1 in
+    record {
+      told = λ w reached stands. rw p.1 tt;
+      acts = λ w reached stands. rw (p.1, p.2) (acts_wants s old new (happens s w c.args.event.now));
+      at = c.finish.ensures.at;
+      later = later_from old mid new same c.finish.ensures.later;
+      knows = c.tell_event.ensures.knows;
+      idle = rw (p.1, p.2) (λ is. never_answered is);
+      past = λ n. rw (p.1, p.2) (wants_no_limit Bool _ n);
+    }
+
+pub returns : goal.returns
+returns c =
+    let s = c.args.scenario.now.setup in let old = c.args.world.now in let mid = c.prepare.new.self in let new = c.finish.new.self in let same = c.prepare.ensures.same in
+    let half = c.prepare.ensures.ready (c.in_ok-is_ready.was ∙ ap answered c.if-not-is_ready.false) in
+    record {
+      told = λ w reached stands.
+          let there = stands_from s old mid w same stands in
+          acted c.args.indent s w mid new c.args.event.now c.prepare.new.plan c.note.new.self.noted (telling_of c.args.self.now.telling) (telling_of c.tell_event.new.self.telling)
+          c.requires.broker c.requires.scripted c.prepare.ensures.at c.finish.ensures.at there (c.in_ok-finish.ensures.acts w reached there).0 (half.foreseen w reached there) half.busy
+          c.in_ok-note.ensures.noted (from_text c.args.indent s new c.args.event.now c.note.new.self.noted c.args.self.now.telling c.note.new.self.telling _ c.note.ensures.telling c.in_ok-tell_event.ensures.told);
+      acts = λ w reached stands. acts_from s old mid new (happens s w c.args.event.now) (Ok true) same (c.in_ok-finish.ensures.acts w reached (stands_from s old mid w same stands));
+      at = c.finish.ensures.at;
+      later = later_from old mid new same c.finish.ensures.later;
+      knows = c.tell_event.ensures.knows;
+      idle = λ is. never_idle is;
+      past = λ n is. ok_passes_none is;
+    }

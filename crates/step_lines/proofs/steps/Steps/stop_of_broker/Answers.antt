@@ -1,0 +1,69 @@
+use Rattle.std.proofs.Common.{Ok}
+use Rattle.std.proofs.lemmas.Result.{err_from_is_err_and}
+use Rattle.step_lines.specs.declared.heads.Indent.TheVariants as indent
+use Rattle.step_lines.specs.Texts.{telling_of}
+use Rattle.step_lines.proofs.Told.{from_same, from_text, halted, wants_no_limit}
+use Rattle.world.proofs.Leading.{wants}
+use Rattle.world.proofs.Observing.{past_of}
+use Rattle.step_lines.proofs.steps.Steps.stop_of_broker.Goals as goal
+
+pub note-requires : goal.note-requires
+note-requires c = record { at = c.requires.at; broker = c.requires.broker; scripted = c.requires.scripted; place = c.place_of-place.ensures }
+
+pub returns-in_err-note : goal.returns-in_err-note
+returns-in_err-note c =
+    let p = err_from_is_err_and c.from_residual.result c.from_residual.ensures.1 in
+    record {
+      told = λ w reached stands. rw p.1 tt;
+      leads = λ w reached stands. rw (p.1, p.2) (wants c.args.scenario.now.setup c.args.world.now c.args.world.now _);
+      at = c.requires.at;
+      knows = rw p.1 tt;
+      past = λ n. rw (p.1, p.2) (wants_no_limit (Unit {0}) _ n);
+    }
+
+pub returns-in_err-halt : goal.returns-in_err-halt
+returns-in_err-halt c =
+    let p = err_from_is_err_and c.from_residual-in_err-halt.result c.from_residual-in_err-halt.ensures.1 in
+    record {
+      told = λ w reached stands. rw p.1 tt;
+      leads = λ w reached stands. rw (p.1, p.2) (c.in_err-halt.ensures.leads w reached stands);
+      at = c.halt.ensures.at;
+      knows = rw p.1 tt;
+      past = λ n is. c.in_err-halt.ensures.err;
+    }
+
+pub tell_event-requires : goal.tell_event-requires
+tell_event-requires c =
+    record {
+      at = c.halt.ensures.at;
+      knows = from_same c.args.scenario.now.setup c.args.self.now.telling c.note.new.self.telling c.note.ensures.telling c.requires.knows;
+      broker = c.requires.broker;
+      scripted = c.requires.scripted;
+      place = c.place_of-place.ensures;
+      noted = c.in_ok-note.ensures.noted.senders.many;
+    }
+
+pub returns-in_err-tell_event : goal.returns-in_err-tell_event
+returns-in_err-tell_event c =
+    let p = err_from_is_err_and c.from_residual-in_err-tell_event.result c.from_residual-in_err-tell_event.ensures.1 in
+    record {
+      told = λ w reached stands. rw p.1 tt;
+      leads = λ w reached stands. rw (p.1, p.2) (wants c.args.scenario.now.setup c.args.world.now c.halt.new.self _);
+      at = c.halt.ensures.at;
+      knows = rw p.1 tt;
+      past = λ n. rw (p.1, p.2) (wants_no_limit (Unit {0}) _ n);
+    }
+
+pub returns : goal.returns
+returns c =
+    let s = c.args.scenario.now.setup in
+    record {
+      told = λ w reached stands.
+          halted s w c.args.writes c.args.world.now c.halt.new.self c.args.event.now c.note.new.self.noted (telling_of c.args.self.now.telling) (telling_of c.tell_event.new.self.telling)
+          c.requires.broker c.requires.scripted c.requires.at c.halt.ensures.at stands (c.in_ok-halt.ensures.leads w reached stands).done.0 c.in_ok-note.ensures.noted
+          (from_text indent.Step s c.halt.new.self c.args.event.now c.note.new.self.noted c.args.self.now.telling c.note.new.self.telling _ c.note.ensures.telling c.in_ok-tell_event.ensures.told);
+      leads = λ w reached stands. c.in_ok-halt.ensures.leads w reached stands;
+      at = c.halt.ensures.at;
+      knows = c.tell_event.ensures.knows;
+      past = past_of _ (Ok tt) tt;
+    }

@@ -1,0 +1,5 @@
+pub mod Changes
+pub mod Noted
+pub mod Telling
+pub mod Texts
+pub mod Stops

@@ -1,0 +1,230 @@
+//! An event with what it changed: its node is noted before it, and told after it.
+ghost use Rattle.std.specs.Prelude.{◌≡◌, ◌==◌, ℕ, ◌<◌, false, length, Err, Ok, OnErr, OnOk};
+ghost use Rattle.geo_base.specs.Broker.{Broker as Machine};
+ghost use Rattle.geo_base.specs.Client.{Client as MachineClient};
+ghost use Rattle.geo_base.specs.Happening.{halts_planned, happens};
+ghost use Rattle.geo_base.specs.Planned.{planned};
+ghost use Rattle.geo_base.specs.Setup.{declared_at};
+ghost use Rattle.geo_base.specs.World.{World as MachineWorld};
+ghost use Rattle.script_text.specs.Scenario.{IsEvent};
+ghost use Rattle.step_laws.specs.Steps.{did_or_idle};
+ghost use Rattle.step_lines.specs.Noted.{IsNoted, noted_client};
+ghost use Rattle.step_lines.specs.Telling.{IsActed, IsClients, IsTelling, client_step, tells_at, tells_step};
+ghost use Rattle.step_lines.specs.Texts.{telling_of};
+ghost use Rattle.world.specs.ClientSteps.{client_in};
+ghost use Rattle.world.specs.declared.fault.RunFault.TheVariants as fault;
+ghost use Rattle.world.specs.Steps.{Acts, IsLater, Leads, place_at};
+ghost use Rattle.world.specs.World.{IsAt, SameWorld, kept_of, node_at};
+ghost use Rattle.world_kept.specs.Events.{IsBrokers, node_of};
+ghost use Rattle.world_kept.specs.Reached.{Reached};
+ghost use Rattle.world_kept.specs.Standing.{Stands};
+
+use crate::broker_changes::add_broker_changes;
+use crate::client_changes::add_client_changes;
+use crate::heads::{Indent, topic_name};
+use crate::noted::{NotedClient, client_of};
+use crate::steps::Steps;
+use geo_base::{Event, Memory};
+use script_text::{ClientDecl, Scenario};
+use std::alloc::Global;
+use world::{Place, RunFault, World, place_of};
+
+impl<'a> Steps<'a> {
+    /// An event of a client, and what it changed there.
+    pub(crate) fn client_event(
+        &mut self,
+        alloc: Global,
+        world: &mut World,
+        scenario: &Scenario,
+        client: u32,
+        event: &Event,
+    ) -> Result<(), RunFault>
+        requires at { IsAt scenario.now.setup world.old }
+        requires knows { IsTelling scenario.now.setup self.old.telling.names self.old.telling.number self.old.telling.said }
+        requires client { IsClients client event.now }
+        requires scripted { IsEvent scenario.now.setup event.now }
+        ensures told { (w : MachineWorld) → Reached scenario.now.setup w → Stands scenario.now.setup (kept_of world.old) w
+            → OnOk result (telling_of self.new.telling ≡ tells_step scenario.now.setup (telling_of self.old.telling) (did_or_idle scenario.now.setup w (happens scenario.now.setup w event.now) event.now)) }
+        ensures leads { (w : MachineWorld) → Reached scenario.now.setup w → Stands scenario.now.setup (kept_of world.old) w
+            → Leads scenario.now.setup world.old world.new (happens scenario.now.setup w event.now) result }
+        ensures at { IsAt scenario.now.setup world.new }
+        ensures knows { OnOk result (IsTelling scenario.now.setup self.new.telling.names self.new.telling.number self.new.telling.said) }
+        ensures past { (n : ℕ) → result ≡ Err (fault.TooLarge n) → SameWorld world.old world.new }
+    {
+        let before = world.events();
+        let noted = client_of(world.client(client));
+        world.event(alloc, scenario, event)?;
+        self.tell_client(world, scenario, client, before, &noted)?;
+        Ok(())
+    }
+
+    /// What an event changed at the client that was noted, after so many events.
+    fn tell_client(
+        &mut self,
+        world: &World,
+        scenario: &Scenario,
+        client: u32,
+        before: u64,
+        noted: &NotedClient,
+    ) -> Result<(), Memory>
+        requires declared { client < length scenario.now.setup.clients }
+        requires client { client < length world.now.clients }
+        requires knows { IsTelling scenario.now.setup self.old.telling.names self.old.telling.number self.old.telling.said }
+        ensures told { (k : MachineClient) → noted.now ≡ noted_client k
+            → OnOk result (telling_of self.new.telling ≡ tells_step scenario.now.setup (telling_of self.old.telling) (client_step scenario.now.setup client (world.now.events == before) k (client_in world.now.clients client))) }
+        ensures knows { IsTelling scenario.now.setup self.new.telling.names self.new.telling.number self.new.telling.said }
+    {
+        if world.events() == before {
+            return self.telling.add_step(true);
+        }
+        self.telling.add_step(false)?;
+        let declared = declared_at(scenario, client);
+        let now = world.client(client);
+        add_client_changes(&mut self.telling.text, scenario, declared, now, noted)
+    }
+
+    /// An event of a broker, which is counted where it is idle.
+    pub(crate) fn broker_event(
+        &mut self,
+        alloc: Global,
+        world: &mut World,
+        scenario: &Scenario,
+        event: &Event,
+    ) -> Result<(), RunFault>
+        requires at { IsAt scenario.now.setup world.old }
+        requires knows { IsTelling scenario.now.setup self.old.telling.names self.old.telling.number self.old.telling.said }
+        requires broker { IsBrokers event.now }
+        requires scripted { IsEvent scenario.now.setup event.now }
+        ensures told { (w : MachineWorld) → Reached scenario.now.setup w → Stands scenario.now.setup (kept_of world.old) w
+            → OnOk result (telling_of self.new.telling ≡ tells_step scenario.now.setup (telling_of self.old.telling) (did_or_idle scenario.now.setup w (happens scenario.now.setup w event.now) event.now)) }
+        ensures leads { (w : MachineWorld) → Reached scenario.now.setup w → Stands scenario.now.setup (kept_of world.old) w
+            → Leads scenario.now.setup world.old world.new (happens scenario.now.setup w event.now) result }
+        ensures at { IsAt scenario.now.setup world.new }
+        ensures knows { OnOk result (IsTelling scenario.now.setup self.new.telling.names self.new.telling.number self.new.telling.said) }
+        ensures past { (n : ℕ) → result ≡ Err (fault.TooLarge n) → SameWorld world.old world.new }
+    {
+        if self.acts(alloc, world, scenario, event, Indent::Step)? {
+            return Ok(());
+        }
+        self.telling.add_step(true)?;
+        world.idles()
+    }
+
+    /// An event of a broker, which is done where it is enabled, and what it changed there; whether it was.
+    pub(crate) fn acts(
+        &mut self,
+        alloc: Global,
+        world: &mut World,
+        scenario: &Scenario,
+        event: &Event,
+        indent: Indent,
+    ) -> Result<bool, RunFault>
+        requires at { IsAt scenario.now.setup world.old }
+        requires knows { IsTelling scenario.now.setup self.old.telling.names self.old.telling.number self.old.telling.said }
+        requires broker { IsBrokers event.now }
+        requires scripted { IsEvent scenario.now.setup event.now }
+        ensures told { (w : MachineWorld) → Reached scenario.now.setup w → Stands scenario.now.setup (kept_of world.old) w
+            → IsActed indent scenario.now.setup w event.now (telling_of self.old.telling) (telling_of self.new.telling) result }
+        ensures acts { (w : MachineWorld) → Reached scenario.now.setup w → Stands scenario.now.setup (kept_of world.old) w
+            → Acts scenario.now.setup world.old world.new (happens scenario.now.setup w event.now) result }
+        ensures at { IsAt scenario.now.setup world.new }
+        ensures later { IsLater world.old world.new }
+        ensures knows { IsTelling scenario.now.setup self.new.telling.names self.new.telling.number self.new.telling.said }
+        ensures idle { result ≡ Ok false → SameWorld world.old world.new }
+        ensures past { (n : ℕ) → result ≡ Err (fault.TooLarge n) → SameWorld world.old world.new }
+    {
+        let place = place_of(scenario, event);
+        self.plan.clear();
+        let is_ready = world.prepare(alloc, scenario, event, place, &mut self.plan)?;
+        if !is_ready {
+            return Ok(false);
+        }
+        self.note(alloc, world, scenario, event, place)?;
+        world.finish(alloc, scenario, event, place, &mut self.plan)?;
+        self.tell_event(alloc, world, scenario, event, place, indent)?;
+        Ok(true)
+    }
+
+    /// A stop of a broker after the first `writes` durable writes of an event, and what it changed there.
+    pub(crate) fn stop_of_broker(
+        &mut self,
+        alloc: Global,
+        world: &mut World,
+        scenario: &Scenario,
+        writes: u32,
+        event: &Event,
+    ) -> Result<(), RunFault>
+        requires at { IsAt scenario.now.setup world.old }
+        requires knows { IsTelling scenario.now.setup self.old.telling.names self.old.telling.number self.old.telling.said }
+        requires broker { IsBrokers event.now }
+        requires scripted { IsEvent scenario.now.setup event.now }
+        ensures told { (w : MachineWorld) → Reached scenario.now.setup w → Stands scenario.now.setup (kept_of world.old) w
+            → OnOk result (telling_of self.new.telling ≡ tells_step scenario.now.setup (telling_of self.old.telling) (did_or_idle scenario.now.setup w (halts_planned scenario.now.setup w writes (planned scenario.now.setup w event.now)) event.now)) }
+        ensures leads { (w : MachineWorld) → Reached scenario.now.setup w → Stands scenario.now.setup (kept_of world.old) w
+            → Leads scenario.now.setup world.old world.new (halts_planned scenario.now.setup w writes (planned scenario.now.setup w event.now)) result }
+        ensures at { IsAt scenario.now.setup world.new }
+        ensures knows { OnOk result (IsTelling scenario.now.setup self.new.telling.names self.new.telling.number self.new.telling.said) }
+        ensures past { (n : ℕ) → result ≡ Err (fault.TooLarge n) → SameWorld world.old world.new }
+    {
+        let place = place_of(scenario, event);
+        self.note(alloc, world, scenario, event, place)?;
+        world.halt(alloc, scenario, writes, event)?;
+        self.tell_event(alloc, world, scenario, event, place, Indent::Step)?;
+        Ok(())
+    }
+
+    /// Notes the broker of an event.
+    fn note(
+        &mut self,
+        alloc: Global,
+        world: &World,
+        scenario: &Scenario,
+        event: &Event,
+        place: Place,
+    ) -> Result<(), Memory>
+        requires at { IsAt scenario.now.setup world.now }
+        requires broker { IsBrokers event.now }
+        requires scripted { IsEvent scenario.now.setup event.now }
+        requires place { place ≡ place_at scenario.now.setup event.now }
+        ensures noted { OnOk result (IsNoted (length scenario.now.setup.clusters) (node_at world.now.nodes (node_of scenario.now.setup event.now)).broker self.new.noted) }
+        ensures telling { self.new.telling ≡ self.old.telling }
+        ensures plan { self.new.plan ≡ self.old.plan }
+    {
+        let broker = world.topic(scenario, place.topic, place.cluster);
+        self.noted.note(alloc, broker)
+    }
+
+    /// The head of an event that was done, and what it changed at the broker that was noted.
+    fn tell_event(
+        &mut self,
+        alloc: Global,
+        world: &World,
+        scenario: &Scenario,
+        event: &Event,
+        place: Place,
+        indent: Indent,
+    ) -> Result<(), Memory>
+        requires at { IsAt scenario.now.setup world.now }
+        requires knows { IsTelling scenario.now.setup self.old.telling.names self.old.telling.number self.old.telling.said }
+        requires broker { IsBrokers event.now }
+        requires scripted { IsEvent scenario.now.setup event.now }
+        requires place { place ≡ place_at scenario.now.setup event.now }
+        requires noted { length self.old.noted.senders.items ≡ length scenario.now.setup.clusters }
+        ensures told { (b : Machine) → IsNoted (length scenario.now.setup.clusters) b self.old.noted
+            → OnOk result (telling_of self.new.telling ≡ tells_at indent scenario.now.setup world.now.events event.now b (node_at world.now.nodes (node_of scenario.now.setup event.now)).broker (telling_of self.old.telling)) }
+        ensures knows { IsTelling scenario.now.setup self.new.telling.names self.new.telling.number self.new.telling.said }
+    {
+        self.telling.begin(alloc, indent, world.events(), event)?;
+        let topic = topic_name(scenario.topics(), place.topic);
+        let broker = world.topic(scenario, place.topic, place.cluster);
+        add_broker_changes(&mut self.telling.text, indent, topic, broker, &self.noted)
+    }
+}
+
+/// What is declared of a client.
+fn declared_at(scenario: &Scenario, client: u32) -> &ClientDecl
+    requires { client < length scenario.now.setup.clients }
+    ensures { result.now ≡ declared_at scenario.entry.now.setup client }
+{
+    &scenario.clients()[client as usize]
+}

@@ -1,0 +1,20 @@
+//! The steps of a run: each step of the schedule, and under it the lines of a report that are new or other than before at the node where
+//! it happened.
+//!
+//! The observer of a run looks at the node of an event before it and after it, and tells what a report shows of it and is not the same.
+//! It compares values and never a text, and keeps nothing of other nodes. Each line is appended to those before it. Where memory ends in
+//! the midst, an `Err`, it is left open what was appended.
+#![tactic(auto)]
+
+mod broker_changes;
+mod client_changes;
+mod entries;
+mod events;
+mod heads;
+mod noted;
+mod senders;
+mod steps;
+mod stops;
+mod telling;
+
+pub use steps::Steps;

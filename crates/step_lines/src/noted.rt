@@ -1,0 +1,126 @@
+//! What a report shows of a node, noted before an event.
+ghost use Rattle.std.specs.Prelude.{◌≡◌, ◌<◌, length, map, IfOk, OnErr, OnOk};
+ghost use Rattle.broker_subs.specs.Table.{sub_at};
+ghost use Rattle.step_lines.specs.Noted.{AreSenders, IsNoted, noted_client, noted_sub, shown_sub};
+
+use crate::senders::{NotedSender, sender_of};
+use broker::Broker;
+use client::Client;
+use geo_base::{EntryStore, Memory, Text};
+use report_lines::SubShown;
+use std::alloc::Global;
+
+/// What a report shows of a subscription, by its name.
+#[derive(Drop)]
+pub struct NotedSub {
+    pub name: Text,
+    pub shown: SubShown,
+}
+
+/// What a report shows of a broker: how many entries there are, of each cluster's sender, and of each subscription in order of creation.
+#[derive(Drop)]
+pub struct NotedBroker {
+    pub entries: usize,
+    pub senders: Vec<NotedSender>,
+    pub subs: Vec<NotedSub>,
+}
+
+/// What a report shows of a client, and how much it got.
+#[derive(Clone, Copy, Drop)]
+pub struct NotedClient {
+    pub cluster: u32,
+    pub done: usize,
+    pub receipts: u64,
+    pub duplicates: u64,
+    pub errors: u64,
+    pub got: usize,
+}
+
+impl NotedBroker {
+    /// Nothing; takes no memory.
+    pub(crate) fn new(alloc: Global) -> NotedBroker {
+        NotedBroker {
+            entries: 0,
+            senders: Vec::new(alloc),
+            subs: Vec::new(alloc),
+        }
+    }
+
+    /// Notes a broker as it is.
+    pub(crate) fn note(&mut self, alloc: Global, broker: &Broker) -> Result<(), Memory>
+        ensures { OnOk result (IsNoted (length broker.now.site.clusters) broker.now.broker self.new) }
+    {
+        self.entries = broker.store().len();
+        note_senders(&mut self.senders, broker)?;
+        note_subs(alloc, &mut self.subs, broker)
+    }
+}
+
+/// Notes what is shown of each sender.
+fn note_senders(senders: &mut Vec<NotedSender>, broker: &Broker) -> Result<(), Memory>
+    ensures { OnOk result (AreSenders (length broker.now.site.clusters) broker.now.broker senders.new.items) }
+{
+    senders.clear();
+    for remote in 0..broker.site().clusters().len() {
+        senders.push(sender_of(broker, remote as u32))?;
+    }
+    Ok(())
+}
+
+/// Notes what is shown of each subscription.
+fn note_subs(alloc: Global, subs: &mut Vec<NotedSub>, broker: &Broker) -> Result<(), Memory>
+    ensures { OnOk result (subs.new.items ≡ map (noted_sub broker.now.broker) broker.now.broker.subs) }
+{
+    subs.clear();
+    for place in 0..broker.subs() {
+        subs.push(sub_of(alloc, broker, place)?)?;
+    }
+    Ok(())
+}
+
+/// What is noted of the subscription at a place.
+fn sub_of(alloc: Global, broker: &Broker, place: usize) -> Result<NotedSub, Memory>
+    requires { place < length broker.now.broker.subs }
+    ensures { IfOk result (λ n. n ≡ (noted_sub broker.now.broker (sub_at broker.now.broker.subs place))) }
+{
+    match broker.sub(place) {
+        Some(sub) => {
+            let name = Text::from_str(alloc, sub.name().as_str())?;
+            let shown = shown_of(broker, place);
+            Ok(NotedSub { name, shown })
+        }
+        None => unreachable!(),
+    }
+}
+
+/// What a report shows of the subscription at a place.
+pub(crate) fn shown_of(broker: &Broker, place: usize) -> SubShown
+    requires { place < length broker.now.broker.subs }
+    ensures { result ≡ shown_sub broker.now.broker (sub_at broker.now.broker.subs place) }
+{
+    match broker.sub(place) {
+        Some(sub) => SubShown {
+            kind: sub.kind(),
+            is_replicated: sub.is_replicated(),
+            mark: sub.cursor().mark_delete(),
+            backlog: broker.backlog(place),
+            seeks: sub.durable().seeks,
+        },
+        None => unreachable!(),
+    }
+}
+
+/// What is noted of a client as it is.
+pub(crate) fn client_of(client: &Client) -> NotedClient
+    ensures { result ≡ noted_client client.now }
+{
+    let view = client.view();
+    NotedClient {
+        cluster: view.cluster,
+        done: view.done,
+        receipts: view.receipts,
+        duplicates: view.duplicates,
+        errors: view.errors,
+        got: view.got.len(),
+    }
+}
