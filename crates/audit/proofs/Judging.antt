@@ -10,9 +10,13 @@ use Rattle.std.proofs.Math.Nat.{mul_comm}
 use Rattle.std.proofs.lemmas.Option.{none-some}
 use Rattle.geo_base.specs.Audit.{Refusal, act_refused, are_new, is_above, judged, refused, unless_broken}
 use Rattle.geo_base.specs.Mirror.{Mirror, MirrorSub, Mirrors, acted, mirror_at, mirror_number, mirror_sub, no_mirror, opening_mirrors, told}
+use Rattle.geo_base.specs.Run.{or_else}
 use Rattle.geo_base.specs.Setup.{Setup}
 use Rattle.geo_base.specs.Topic.{accepts}
 use Rattle.geo_base.specs.TraceItems.{Act, Acks, Appends, Begins, Creates, Deletes, Item, Seeks, Writes}
+use Rattle.audit.specs.Strict.{act_gaps, gaps, refused_by}
+use Rattle.audit.specs.declared.strictness.Strictness.{Strictness}
+use Rattle.audit.specs.declared.strictness.Strictness.TheVariants as strictness
 use Rattle.audit.specs.AuditOf.{item_refused, lines_audited, may_come, names_of, told_if}
 use Rattle.audit.specs.Numbers.{AreSized}
 use Rattle.audit.specs.Topic.{MayAct}
@@ -106,47 +110,96 @@ next_above events n lt = grind (arith, nat_tests, lt)
 pub not_next : (events n : ℕ) → n ≤ events → false ≡ (n == events + 1)
 not_next events n le = grind (arith, nat_tests, le)
 
-pub event_judged : (s : Setup) (a : Mirrors) (n : ℕ) (b : Bool) → b ≡ (n == a.events + 1) → unless_broken 1 b None ≡ refused s a (Begins n)
+pub event_judged : (k : Strictness) (s : Setup) (a : Mirrors) (n : ℕ) (b : Bool) → b ≡ (n == a.events + 1) → unless_broken 1 b None ≡ refused_by k s a (Begins n)
 unfolding refused
-event_judged s a n b is = ap (λ (q : Bool). unless_broken 1 q None) is
+event_judged strictness.Plain s a n b is = ap (λ (q : Bool). unless_broken 1 q None) is
+event_judged strictness.Whole s a n b is = ap (λ (q : Bool). unless_broken 1 q None) is ∙ no_gap (n == a.events + 1)
+  where
+    no_gap : (q : Bool) → unless_broken 1 q None ≡ or_else (unless_broken 1 q None) None
+    no_gap true = refl
+    no_gap false = refl
+
+pub begins_judged : (s : Setup) (a : Mirrors) (l : Line) (n : ℕ) (r : Option ℕ) → l ≡ line.Begins n → r ≡ refused_by strictness.Plain s a (Begins n)
+    → r ≡ item_refused strictness.Plain s a (Some (item_said l))
+begins_judged s a l n r is h = h ∙ sym (ap (λ (m : Line). item_refused strictness.Plain s a (Some (item_said m))) is)
+
+-- ---- by how strictly a line is judged
+
+-- a line that breaks a plain rule is refused by it
+pub broken_by : (k : Strictness) (s : Setup) (a : Mirrors) (o : Option Item) (r : Option ℕ) → r ≡ item_refused strictness.Plain s a o → is_some r ≡ true → r ≡ item_refused k s a o
+broken_by strictness.Plain s a o r is some = is
+broken_by strictness.Whole s a None r is some = is
+broken_by strictness.Whole s a (Some i) r is some = by (may_come a.events i) (refused s a i) r is some
+  where
+    by : (b : Bool) (o r : Option ℕ) → r ≡ (if b then o else Some 1) → is_some r ≡ true → r ≡ (if b then or_else o (gaps s a i) else Some 1)
+    by false o r is some = is
+    by true (Some rule) r is some = is
+    by true None r is some = absurd (false≢true (sym (ap is_some is) ∙ some))
+
+-- and one that breaks none is judged for a gap
+pub gap_by : (s : Setup) (a : Mirrors) (i : Item) (r g : Option ℕ) → r ≡ item_refused strictness.Plain s a (Some i) → is_some r ≡ false → g ≡ gaps s a i → g ≡ item_refused strictness.Whole s a (Some i)
+gap_by s a i r g is none gap = by (may_come a.events i) (refused s a i) r is none
+  where
+    by : (b : Bool) (o r : Option ℕ) → r ≡ (if b then o else Some 1) → is_some r ≡ false → g ≡ (if b then or_else o (gaps s a i) else Some 1)
+    by false o r is none = absurd (false≢true (sym none ∙ ap is_some is))
+    by true (Some rule) r is none = absurd (false≢true (sym none ∙ ap is_some is))
+    by true None r is none = gap
+
+-- and what is not refused breaks no plain rule
+pub plainly_told : (k : Strictness) (s : Setup) (a : Mirrors) (i : Item) → item_refused k s a (Some i) ≡ None → refused s a i ≡ None
+plainly_told strictness.Plain s a i h = by (may_come a.events i) h
+  where
+    by : (b : Bool) → (if b then refused s a i else Some 1) ≡ None → refused s a i ≡ None
+    by true g = g
+    by false g = absurd (none-some 1 (sym g))
+plainly_told strictness.Whole s a i h = by (may_come a.events i) (refused s a i) h
+  where
+    by : (b : Bool) (o : Option ℕ) → (if b then or_else o (gaps s a i) else Some 1) ≡ None → o ≡ None
+    by true None g = refl
+    by true (Some rule) g = absurd (none-some rule (sym g))
+    by false o g = absurd (none-some 1 (sym g))
+
+pub plain_by : (s : Setup) (a : Mirrors) (o : Option Item) (r : Option ℕ) → r ≡ item_refused strictness.Plain s a o → is_some r ≡ false → None ≡ item_refused strictness.Plain s a o
+plain_by s a o None is none = is
+plain_by s a o (Some rule) is none = absurd (false≢true (sym none))
 
 pub write_judged : {E : Type 0} (s : Setup) (a : Mirrors) (l : Line) (t x : ℕ) (w : Written) (r : Result (Option ℕ) E) → l ≡ line.Writes t x w → may_come a.events (item_said l) ≡ true
-    → IfOk r (λ (o : Option ℕ). o ≡ act_refused s a t x (mirror_at s a t x) (act_said w)) → IfOk r (λ (o : Option ℕ). o ≡ item_refused s a (Some (item_said l)))
+    → IfOk r (λ (o : Option ℕ). o ≡ act_refused s a t x (mirror_at s a t x) (act_said w)) → IfOk r (λ (o : Option ℕ). o ≡ item_refused strictness.Plain s a (Some (item_said l)))
 unfolding refused
 write_judged s a l t x w r is come h =
-    let e : item_refused s a (Some (item_said l)) ≡ act_refused s a t x (mirror_at s a t x) (act_said w) =
+    let e : item_refused strictness.Plain s a (Some (item_said l)) ≡ act_refused s a t x (mirror_at s a t x) (act_said w) =
     ap (λ (b : Bool). if b then refused s a (item_said l) else Some 1) come ∙ ap (λ (k : Line). refused s a (item_said k)) is in
-    IfOk-weaker r (λ (o : Option ℕ). o ≡ act_refused s a t x (mirror_at s a t x) (act_said w)) (λ (o : Option ℕ). o ≡ item_refused s a (Some (item_said l))) (λ o g. g ∙ sym e) h
+    IfOk-weaker r (λ (o : Option ℕ). o ≡ act_refused s a t x (mirror_at s a t x) (act_said w)) (λ (o : Option ℕ). o ≡ item_refused strictness.Plain s a (Some (item_said l))) (λ o g. g ∙ sym e) h
 
 -- ---- one line more is read
 
-pub line_read : (s : Setup) (a : Mirrors) (l : List ℕ) (ls : List (List ℕ)) → 0 < length ls
-    → lines_audited s a (l ∷ ls) ≡ judged a.events (item_refused s a (item_read (names_of s) l)) (lines_audited s (told_if s a (item_read (names_of s) l)) ls)
-line_read s a l [] some = absurd (omega (arith, some))
-line_read s a l (k ∷ ls) some = refl
+pub line_read : (k : Strictness) (s : Setup) (a : Mirrors) (l : List ℕ) (ls : List (List ℕ)) → 0 < length ls
+    → lines_audited k s a (l ∷ ls) ≡ judged a.events (item_refused k s a (item_read (names_of s) l)) (lines_audited k s (told_if s a (item_read (names_of s) l)) ls)
+line_read k s a l [] some = absurd (omega (arith, some))
+line_read k s a l (m ∷ ls) some = refl
 
-pub line_goes_on : (s : Setup) (a : Mirrors) (l : List ℕ) (ls : List (List ℕ)) → 0 < length ls → item_refused s a (item_read (names_of s) l) ≡ None
-    → lines_audited s a (l ∷ ls) ≡ lines_audited s (told_if s a (item_read (names_of s) l)) ls
-line_goes_on s a l ls some none =
-    line_read s a l ls some ∙ ap (λ (o : Option ℕ). judged a.events o (lines_audited s (told_if s a (item_read (names_of s) l)) ls)) none
+pub line_goes_on : (k : Strictness) (s : Setup) (a : Mirrors) (l : List ℕ) (ls : List (List ℕ)) → 0 < length ls → item_refused k s a (item_read (names_of s) l) ≡ None
+    → lines_audited k s a (l ∷ ls) ≡ lines_audited k s (told_if s a (item_read (names_of s) l)) ls
+line_goes_on k s a l ls some none =
+    line_read k s a l ls some ∙ ap (λ (o : Option ℕ). judged a.events o (lines_audited k s (told_if s a (item_read (names_of s) l)) ls)) none
 
-pub line_ends : (s : Setup) (a : Mirrors) (l : List ℕ) (ls : List (List ℕ)) (rule : ℕ) → 0 < length ls → item_refused s a (item_read (names_of s) l) ≡ Some rule
-    → lines_audited s a (l ∷ ls) ≡ Err (record { event = a.events; rule = rule })
-line_ends s a l ls rule some broken =
-    line_read s a l ls some ∙ ap (λ (o : Option ℕ). judged a.events o (lines_audited s (told_if s a (item_read (names_of s) l)) ls)) broken
+pub line_ends : (k : Strictness) (s : Setup) (a : Mirrors) (l : List ℕ) (ls : List (List ℕ)) (rule : ℕ) → 0 < length ls → item_refused k s a (item_read (names_of s) l) ≡ Some rule
+    → lines_audited k s a (l ∷ ls) ≡ Err (record { event = a.events; rule = rule })
+line_ends k s a l ls rule some broken =
+    line_read k s a l ls some ∙ ap (λ (o : Option ℕ). judged a.events o (lines_audited k s (told_if s a (item_read (names_of s) l)) ls)) broken
 
 -- the first of the lines that are left is read, or refused
-pub line_told : (s : Setup) (a b : Mirrors) (l bytes behind : List ℕ) → cut_by 10 bytes ≡ l ∷ cut_by 10 behind → item_refused s a (item_read (names_of s) l) ≡ None
-    → b ≡ told_if s a (item_read (names_of s) l) → lines_audited s b (cut_by 10 behind) ≡ lines_audited s a (cut_by 10 bytes)
-line_told s a b l bytes behind cut none is =
-    ap (λ (q : Mirrors). lines_audited s q (cut_by 10 behind)) is
-    ∙ sym (ap (lines_audited s a) cut ∙ line_goes_on s a l (cut_by 10 behind) (some_piece 10 behind) none)
+pub line_told : (k : Strictness) (s : Setup) (a b : Mirrors) (l bytes behind : List ℕ) → cut_by 10 bytes ≡ l ∷ cut_by 10 behind → item_refused k s a (item_read (names_of s) l) ≡ None
+    → b ≡ told_if s a (item_read (names_of s) l) → lines_audited k s b (cut_by 10 behind) ≡ lines_audited k s a (cut_by 10 bytes)
+line_told k s a b l bytes behind cut none is =
+    ap (λ (q : Mirrors). lines_audited k s q (cut_by 10 behind)) is
+    ∙ sym (ap (lines_audited k s a) cut ∙ line_goes_on k s a l (cut_by 10 behind) (some_piece 10 behind) none)
 
 abbrev ended : ℕ → ℕ → Result ℕ Refusal
 ended event rule = Err (record { event = event; rule = rule })
 
-pub line_refused : (s : Setup) (a : Mirrors) (l bytes behind : List ℕ) (event rule : ℕ) → cut_by 10 bytes ≡ l ∷ cut_by 10 behind → item_refused s a (item_read (names_of s) l) ≡ Some rule
-    → event ≡ a.events → lines_audited s a (cut_by 10 bytes) ≡ Err (record { event = event; rule = rule })
-line_refused s a l bytes behind event rule cut broken is =
-    ap (lines_audited s a) cut
-    ∙ (line_ends s a l (cut_by 10 behind) rule (some_piece 10 behind) broken ∙ ap (λ (k : ℕ). ended k rule) (sym is))
+pub line_refused : (k : Strictness) (s : Setup) (a : Mirrors) (l bytes behind : List ℕ) (event rule : ℕ) → cut_by 10 bytes ≡ l ∷ cut_by 10 behind → item_refused k s a (item_read (names_of s) l) ≡ Some rule
+    → event ≡ a.events → lines_audited k s a (cut_by 10 bytes) ≡ Err (record { event = event; rule = rule })
+line_refused k s a l bytes behind event rule cut broken is =
+    ap (lines_audited k s a) cut
+    ∙ (line_ends k s a l (cut_by 10 behind) rule (some_piece 10 behind) broken ∙ ap (λ (n : ℕ). ended n rule) (sym is))

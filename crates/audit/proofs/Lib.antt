@@ -5,6 +5,7 @@ mod Gains
 mod HeldSubs
 mod LastPlace
 pub mod Needing
+pub mod Bringing
 mod Passing
 mod SlotRows
 mod Tables

@@ -132,7 +132,7 @@ one_missing p (e ∷ es) (suc to) (suc k) f lt at fails = rw (one_missing p es t
 
 -- ---- topics that grow
 
-take_less : (xs ys : List Entry) (n : ℕ) → n ≤ length xs → take n (xs ++ ys) ≡ take n xs
+pub take_less : (xs ys : List Entry) (n : ℕ) → n ≤ length xs → take n (xs ++ ys) ≡ take n xs
 take_less [] ys zero le = refl
 take_less [] ys (suc n) le = absurd (omega (arith, le))
 take_less (x ∷ xs) ys zero le = refl
@@ -167,7 +167,7 @@ all_covered_more x here more n (f ∷ fs) le h = by (is_covered_in x here (lengt
 all_as_before : (x : ℕ) (here more : List Entry) (n : ℕ) (fs : List Entry) → n ≤ length here → list_all (is_covered_in x (here ++ more) n) fs ≡ list_all (is_covered_in x here n) fs
 all_as_before x here more n fs le = ap (λ (hs : List Entry). list_all (λ f. not (is_data f.content && meant_for x f) || list_any (same_entry f) hs) fs) (take_less here more n le)
 
-length_both : (xs ys : List Entry) → length xs ≤ length (xs ++ ys)
+pub length_both : (xs ys : List Entry) → length xs ≤ length (xs ++ ys)
 length_both [] ys = omega arith
 length_both (x ∷ xs) ys = let rest = length_both xs ys in omega (arith, rest)
 
@@ -210,14 +210,14 @@ append-none [] = refl
 append-none (e ∷ es) = ap (λ (fs : List Entry). e ∷ fs) (append-none es)
 
 -- one topic changes
-set_entries : (ms : List Mirror) (j k : ℕ) (m : Mirror) → Grown (entries_of ms j) m.entries → Grown (entries_of ms k) (entries_of (slice_set ms j m) k)
+pub set_entries : (ms : List Mirror) (j k : ℕ) (m : Mirror) → Grown (entries_of ms j) m.entries → Grown (entries_of ms k) (entries_of (slice_set ms j m) k)
 set_entries [] j k m g = record { more = []; is = sym (append-none (entries_of [] k)) }
 set_entries (n ∷ ms) zero zero m g = g
 set_entries (n ∷ ms) zero (suc k) m g = record { more = []; is = sym (append-none (entries_of ms k)) }
 set_entries (n ∷ ms) (suc j) zero m g = record { more = []; is = sym (append-none n.entries) }
 set_entries (n ∷ ms) (suc j) (suc k) m g = set_entries ms j k m g
 
-set_length : (ms : List Mirror) (j : ℕ) (m : Mirror) → length (slice_set ms j m) ≡ length ms
+pub set_length : (ms : List Mirror) (j : ℕ) (m : Mirror) → length (slice_set ms j m) ≡ length ms
 set_length [] j m = refl
 set_length (n ∷ ms) zero m = refl
 set_length (n ∷ ms) (suc j) m = let rest = set_length ms j m in omega (arith, rest)
@@ -230,14 +230,14 @@ none_grown es es' same = record { more = []; is = same ∙ sym (append-none es) 
 
 -- ---- one list changes
 
-set_list : (lists : List (List NeededHere)) (j k : ℕ) (cs : List NeededHere) (P : ℕ → List NeededHere → Type 0) → P j cs → ((i : ℕ) → P i (slice_index_or lists i [])) → P k (slice_index_or (slice_set lists j cs) k [])
+pub set_list : {X : Type 0} (lists : List (List X)) (j k : ℕ) (cs : List X) (P : ℕ → List X → Type 0) → P j cs → ((i : ℕ) → P i (slice_index_or lists i [])) → P k (slice_index_or (slice_set lists j cs) k [])
 set_list [] j k cs P new all = all k
 set_list (l ∷ lists) zero zero cs P new all = new
 set_list (l ∷ lists) zero (suc k) cs P new all = all (suc k)
 set_list (l ∷ lists) (suc j) zero cs P new all = all 0
 set_list (l ∷ lists) (suc j) (suc k) cs P new all = set_list lists j k cs (λ i c. P (suc i) c) new (λ i. all (suc i))
 
-lists_length : (lists : List (List NeededHere)) (j : ℕ) (cs : List NeededHere) → length (slice_set lists j cs) ≡ length lists
+pub lists_length : {X : Type 0} (lists : List (List X)) (j : ℕ) (cs : List X) → length (slice_set lists j cs) ≡ length lists
 lists_length [] j cs = refl
 lists_length (l ∷ lists) zero cs = refl
 lists_length (l ∷ lists) (suc j) cs = let rest = lists_length lists j cs in omega (arith, rest)
@@ -253,13 +253,13 @@ one_list ms lists j cs new h = record {
 abbrev no_covers : List NeededHere
 no_covers = []
 
-get_none : (n k : ℕ) → slice_index_or (replicate n no_covers) k no_covers ≡ no_covers
-get_none zero k = refl
-get_none (suc n) zero = refl
-get_none (suc n) (suc k) = get_none n k
+pub get_none : {X : Type 0} (n k : ℕ) (d : X) → slice_index_or (replicate n d) k d ≡ d
+get_none zero k d = refl
+get_none (suc n) zero d = refl
+get_none (suc n) (suc k) d = get_none n k d
 
 pub opening_covers : (n : ℕ) → AreCovers (replicate n no_mirror) (replicate n no_covers)
 opening_covers n = record {
   sized = length-replicate n no_covers ∙ sym (length-replicate n no_mirror);
-  each = λ k. subst (AreCoversOf (replicate n no_mirror) k) (sym (get_none n k)) (λ i d lt. absurd (omega (arith, lt)));
+  each = λ k. subst (AreCoversOf (replicate n no_mirror) k) (sym (get_none n k no_covers)) (λ i d lt. absurd (omega (arith, lt)));
 }

@@ -5,8 +5,10 @@ use Rattle.std.proofs.lemmas.Option.{none-some, same_Some}
 use Rattle.geo_base.specs.declared.position.Position.{Position}
 use Rattle.geo_base.specs.Mirror.{Mirror, index_at, index_from, no_mirror}
 use Rattle.geo_base.specs.Position.{same_position}
+use Rattle.audit.specs.Brought.{AreAllBrought, BroughtHere}
 use Rattle.audit.specs.Covers.{AreCovers, NeededHere}
 use Rattle.audit.specs.Stored.{TopicEntries}
+use Rattle.audit.proofs.Bringing.{opening_brought}
 use Rattle.audit.proofs.Needing.{opening_covers}
 
 index_below : (ps : List Position) (p : Position) (k i : ℕ) → index_from k ps p ≡ Some i → i < k + length ps
@@ -25,6 +27,10 @@ index_within m s p (Some i) entries positions sized is =
     let same : length m.positions ≡ length m.entries = rw (positions, entries) at sized in
     omega (arith, lt, same)
 
-pub opening_held : (ms : List Mirror) (lists : List (List NeededHere)) (n : ℕ) → ms ≡ replicate n no_mirror → lists ≡ replicate n [] → AreCovers ms lists
-opening_held ms lists n a b =
-    subst (λ (qs : List Mirror). AreCovers qs lists) (sym a) (subst (λ (cs : List (List NeededHere)). AreCovers (replicate n no_mirror) cs) (sym b) (opening_covers n))
+pub opening_held : (ms : List Mirror) (lists : List (List NeededHere)) (brought : List (List BroughtHere)) (n : ℕ) → ms ≡ replicate n no_mirror → lists ≡ replicate n []
+    → brought ≡ replicate n [] → AreCovers ms lists × AreAllBrought ms brought
+opening_held ms lists brought n a b c =
+    subst (λ (qs : List Mirror). AreCovers qs lists × AreAllBrought qs brought) (sym a) (
+      subst (λ (cs : List (List NeededHere)). AreCovers (replicate n no_mirror) cs) (sym b) (opening_covers n),
+      subst (λ (bs : List (List BroughtHere)). AreAllBrought (replicate n no_mirror) bs) (sym c) (opening_brought n),
+    )

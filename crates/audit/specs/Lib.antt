@@ -4,8 +4,10 @@ pub mod Stored
 pub mod Sub
 pub mod Subs
 pub mod Covers
+pub mod Brought
 pub mod Topic
 pub mod Acks
 pub mod Appends
 pub mod Numbers
+pub mod Strict
 pub mod AuditOf

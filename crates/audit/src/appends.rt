@@ -6,8 +6,10 @@ ghost use Rattle.geo_base.specs.TraceItems.{Appends};
 ghost use Rattle.audit.specs.Appends.{covers_other, marker_refused, place_refused};
 ghost use Rattle.audit.specs.Covers.{entries_of};
 ghost use Rattle.audit.specs.Numbers.{AreSized};
+ghost use Rattle.audit.specs.Strict.{may_follow};
 
 use crate::acks::unless_broken;
+use crate::brought::Route;
 use crate::covers::Pair;
 use crate::entries::is_meant_for;
 use crate::mirrors::{AllMirrors, At, cluster_count, number_of};
@@ -117,6 +119,31 @@ impl AllMirrors {
         let origin = number_of(scenario, at.topic, entry.ident.origin);
         let stands = self.topics()[origin].stored().has(alloc, entry)?;
         Ok(stands && is_meant_for(at.cluster, entry))
+    }
+
+    /// Whether an entry is of the own cluster, or the next one of those that its own cluster has for this one.
+    pub(crate) fn may_follow(
+        &mut self,
+        scenario: &Scenario,
+        at: At,
+        entry: &Entry,
+    ) -> Result<bool, Memory>
+        requires sized { AreSized scenario.now.setup self.old }
+        requires topic { at.topic < length scenario.now.setup.topics }
+        requires cluster { at.cluster < length scenario.now.setup.clusters }
+        requires origin { entry.now.ident.origin < length scenario.now.setup.clusters }
+        ensures same { self.new ≡ self.old }
+        ensures follows { IfOk result (λ may. may ≡ may_follow scenario.now.setup self.old at.topic at.cluster entry.now) }
+    {
+        if entry.ident.origin == at.cluster {
+            return Ok(true);
+        }
+        let route = Route {
+            origin: entry.ident.origin,
+            own: at.cluster,
+            there: number_of(scenario, at.topic, entry.ident.origin),
+        };
+        self.is_next(number_of(scenario, at.topic, at.cluster), route, entry)
     }
 
     /// Whether what a snapshot's position of another cluster covers stands in the own topic at or below an index.

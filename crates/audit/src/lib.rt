@@ -13,6 +13,7 @@
 mod acks;
 mod appends;
 mod audit_of;
+mod brought;
 mod covers;
 mod entries;
 mod fault;
@@ -24,9 +25,11 @@ mod runs;
 mod same;
 mod slots;
 mod stored;
+mod strictness;
 mod sub;
 mod subs;
 mod topic;
 
 pub use audit_of::audit;
 pub use fault::AuditFault;
+pub use strictness::Strictness;

@@ -1,42 +1,47 @@
 //! All topics of a trace.
-ghost use Rattle.std.specs.Prelude.{◌≡◌, ◌<◌, ◌+◌, ◌*◌, [], ◌∷◌, ◌++◌, None, length, replicate, take, slice_index_or, slice_set, IfOk, IfSome, OnOk};
+ghost use Rattle.std.specs.Prelude.{◌≡◌, ◌<◌, ◌+◌, ◌*◌, [], ◌∷◌, ◌++◌, None, length, replicate, take, slice_get, slice_index_or, slice_set, IfOk, IfSome, OnOk};
 ghost use Rattle.std.specs.List.{list_all};
 ghost use Rattle.cursor_acks.specs.Ranges.{indexes_of};
 ghost use Rattle.geo_base.specs.Mirror.{acted, index_at, mirror_number, no_mirror, opening_mirrors, told};
 ghost use Rattle.geo_base.specs.Audit.{refused};
+ghost use Rattle.geo_base.specs.Laws.{of_origin, outbound};
 ghost use Rattle.trace_lines.specs.Said.{act_said, item_said};
 ghost use Rattle.audit.specs.Acks.{acks_refused};
 ghost use Rattle.audit.specs.Covers.{AreCovers, entries_of, is_covered_in};
 ghost use Rattle.audit.specs.Numbers.{AreSized, IsItemOf};
+ghost use Rattle.audit.specs.Stored.{is_same_at};
 ghost use Rattle.audit.specs.Topic.{MayAct};
 
 use crate::acks::Acked;
+use crate::brought::{BroughtList, Route};
 use crate::covers::{CoverList, Pair};
 use crate::topic::TopicMirror;
-use geo_base::{Memory, Position};
+use geo_base::{Entry, Memory, Position};
 use script_text::Scenario;
 use std::alloc::Global;
 use std::marker::Model;
 use trace_lines::{Line, Written};
 
 /// All topics, topic by topic and in each cluster by cluster, and the number of the last event. Beside each topic stands what the
-/// others need of it.
+/// others need of it, and how far it has come with their entries.
 #[derive(Drop)]
 pub(crate) struct AllMirrors {
     topics: Vec<TopicMirror>,
     covers: Vec<CoverList>,
+    brought: Vec<BroughtList>,
     events: u64,
 }
 
 impl Model for AllMirrors {
     ghost use Rattle.geo_base.specs.Mirror.{Mirrors};
+    ghost use Rattle.audit.specs.Brought.{AreAllBrought};
     ghost use Rattle.audit.specs.Covers.{AreCovers};
 
     ghost Value = { Mirrors };
 
     ghost view = { λ m. record { topics = m.topics.items; events = m.events } };
 
-    ghost invariant = { λ m. AreCovers m.topics.items m.covers.items };
+    ghost invariant = { λ m. AreCovers m.topics.items m.covers.items × AreAllBrought m.topics.items m.brought.items };
 }
 
 /// A topic and a cluster, by their numbers.
@@ -75,57 +80,65 @@ fn index_in(topic: &TopicMirror, position: &Position) -> Option<usize>
     topic.index_at(position)
 }
 
-/// So many topics, where there is none, of which nothing was told, and of which nothing is needed.
+/// So many topics, where there is none, of which nothing was told and nothing is needed, and to which nothing was brought.
 #[tactic(auto, using(std::proofs::lemmas::List::replicate_more))]
 fn add_topics(
     alloc: Global,
     topics: &mut Vec<TopicMirror>,
     covers: &mut Vec<CoverList>,
+    brought: &mut Vec<BroughtList>,
     count: usize,
 ) -> Result<(), Memory>
     requires no_topic { topics.old.items ≡ [] }
     requires no_cover { covers.old.items ≡ [] }
+    requires none_brought { brought.old.items ≡ [] }
     ensures topics { OnOk result (topics.new.items ≡ replicate count no_mirror) }
     ensures covers { OnOk result (covers.new.items ≡ replicate count []) }
+    ensures brought { OnOk result (brought.new.items ≡ replicate count []) }
 {
     for _number in 0..count {
-        add_topic(alloc, topics, covers)?;
+        add_topic(alloc, topics, covers, brought)?;
     }
     Ok(())
 }
 
-/// One more topic of which nothing was told, and of which nothing is needed.
+/// One more topic of which nothing was told and nothing is needed, and to which nothing was brought.
 fn add_topic(
     alloc: Global,
     topics: &mut Vec<TopicMirror>,
     covers: &mut Vec<CoverList>,
+    brought: &mut Vec<BroughtList>,
 ) -> Result<(), Memory>
     ensures topics { OnOk result (topics.new.items ≡ topics.old.items ++ no_mirror ∷ []) }
     ensures covers { OnOk result (covers.new.items ≡ covers.old.items ++ [] ∷ []) }
+    ensures brought { OnOk result (brought.new.items ≡ brought.old.items ++ [] ∷ []) }
 {
     topics.push(TopicMirror::new(alloc))?;
     covers.push(CoverList::new(alloc))?;
+    brought.push(BroughtList::new(alloc))?;
     Ok(())
 }
 
 impl AllMirrors {
     /// Nothing was told. An `Err` is want of memory.
-    #[tactic(auto, using(crate::proofs::Within::opening_held))]
     pub(crate) fn new(alloc: Global, scenario: &Scenario) -> Result<AllMirrors, Memory>
         ensures { IfOk result (λ mirrors. mirrors ≡ opening_mirrors scenario.now.setup) }
     {
         let count = scenario.topics().len() * scenario.clusters().len();
         let mut topics = Vec::new(alloc);
         let mut covers = Vec::new(alloc);
-        match add_topics(alloc, &mut topics, &mut covers, count) {
+        let mut brought = Vec::new(alloc);
+        match add_topics(alloc, &mut topics, &mut covers, &mut brought, count) {
             Ok(()) => Ok(AllMirrors {
                 topics,
                 covers,
+                brought,
                 events: 0,
             }),
             Err(memory) => {
                 drop(topics);
                 drop(covers);
+                drop(brought);
                 Err(memory)
             }
         }
@@ -184,6 +197,21 @@ impl AllMirrors {
         ensures covers { IfOk result (λ covers. covers ≡ list_all (is_covered_in pair.own (entries_of self.old.topics pair.here) count) (take (index + 1) (entries_of self.old.topics pair.there))) }
     {
         self.covers[pair.here].covers(alloc, self.topics.as_slice(), pair, index, count)
+    }
+
+    /// Whether an entry is the next one on a way from another cluster to the topic of a number.
+    pub(crate) fn is_next(
+        &mut self,
+        here: usize,
+        route: Route,
+        entry: &Entry,
+    ) -> Result<bool, Memory>
+        requires here { here < length self.old.topics }
+        requires there { route.there < length self.old.topics }
+        ensures same { self.new ≡ self.old }
+        ensures next { IfOk result (λ next. next ≡ is_same_at entry.now (slice_get (outbound route.origin route.own (entries_of self.old.topics route.there)) (length (of_origin route.origin (entries_of self.old.topics here))))) }
+    {
+        self.brought[here].is_next(self.topics.as_slice(), here, route, entry)
     }
 
     /// The lowest rule that an acknowledgement in the topic of a number, at a cluster, breaks.

@@ -38,7 +38,10 @@ use Rattle.geo_base.specs.declared.planned.Cause.TheVariants as cause
 use Rattle.geo_base.specs.TraceItems.{Begins, Item}
 use Rattle.geo_base.specs.Traced.{acts_of, cause_of, told_at}
 use Rattle.geo_base.specs.Mirror.{Mirror, mirror_number}
-use Rattle.geo_base.specs.Audit.{audited_from, judged, refused, unless_broken}
+use Rattle.geo_base.specs.Audit.{judged, refused, unless_broken}
+use Rattle.geo_base.specs.Run.{or_else}
+use Rattle.audit.specs.Strict.{audited_from_by}
+use Rattle.audit.specs.declared.strictness.Strictness.TheVariants as strictness
 use Rattle.trace_laws.specs.Seen.{seen, sub_seen, world_seen}
 use Rattle.trace_laws.proofs.Shaped.{came_plan, fated_came, fated_senders, offers_hold, reads_hold, seeks_hold, senders_hold, served_holds, snaps_hold}
 use Rattle.trace_laws.proofs.Told.{Here, same_set}
@@ -189,24 +192,24 @@ whole_take [] = refl
 whole_take (w ∷ ws) = ap (λ (l : List Write). w ∷ l) (whole_take ws)
 
 -- its first line has the next number
-pub begins : (s : Setup) (w : World) (rest : List Item) → audited_from s (world_seen w) (Begins (w.events + 1) ∷ rest) ≡ audited_from s (record { topics = map seen w.brokers; events = w.events + 1 }) rest
+pub begins : (s : Setup) (w : World) (rest : List Item) → audited_from_by strictness.Whole s (world_seen w) (Begins (w.events + 1) ∷ rest) ≡ audited_from_by strictness.Whole s (record { topics = map seen w.brokers; events = w.events + 1 }) rest
 unfolding refused
 begins s w rest =
-    ap (λ (b : Bool). judged w.events (unless_broken 1 b None) (audited_from s (record { topics = map seen w.brokers; events = w.events + 1 }) rest)) (eq-eqb (w.events + 1) (w.events + 1) refl)
+    ap (λ (b : Bool). judged w.events (or_else (unless_broken 1 b None) None) (audited_from_by strictness.Whole s (record { topics = map seen w.brokers; events = w.events + 1 }) rest)) (eq-eqb (w.events + 1) (w.events + 1) refl)
 
 -- and then so many of its writes, behind which an audit sees what a broker's state that looks the same shows
 pub told_planned : (s : Setup) (w : World) (e : Event) (p : Planned) (ws : List Write) (b' : Broker) → IsThere s p.topic p.cluster
     → length w.brokers ≡ length s.topics * length s.clusters
     → PlanHolds s w.brokers (w.events + 1) p.topic p.cluster (cause_of (topic_at s w p.topic p.cluster) e) (topic_at s w p.topic p.cluster) ws
     → seen b' ≡ seen (all_written s.per_ledger (topic_at s w p.topic p.cluster) ws)
-    → audited_from s (world_seen w) (Begins (w.events + 1) ∷ told_at p.topic p.cluster (acts_of (site s p.topic p.cluster) (cause_of (topic_at s w p.topic p.cluster) e) (topic_at s w p.topic p.cluster) ws))
+    → audited_from_by strictness.Whole s (world_seen w) (Begins (w.events + 1) ∷ told_at p.topic p.cluster (acts_of (site s p.topic p.cluster) (cause_of (topic_at s w p.topic p.cluster) e) (topic_at s w p.topic p.cluster) ws))
     ≡ Ok (record { topics = map seen (slice_set w.brokers (node s p.topic p.cluster) b'); events = w.events + 1 })
 told_planned s w e p ws b' there size holds same =
     let t = p.topic in let x = p.cluster in let b = topic_at s w t x in let k = mirror_number s t x in let n = w.events + 1 in
     let lt : k < length w.brokers = let l = node_lt s t x there in omega (arith, l, size) in
     let rest = told_at t x (acts_of (site s t x) (cause_of b e) b ws) in
     begins s w rest
-    ∙ (ap (λ (bs : List Broker). audited_from s (record { topics = map seen bs; events = n }) rest) (sym (same_set w.brokers k))
+    ∙ (ap (λ (bs : List Broker). audited_from_by strictness.Whole s (record { topics = map seen bs; events = n }) rest) (sym (same_set w.brokers k))
     ∙ (all_accepted s w.brokers n t x (cause_of b e) b ws lt holds
     ∙ ap (λ (ms : List Mirror). Ok (record { topics = ms; events = n }))
     (map-set seen w.brokers k (all_written s.per_ledger b ws) ∙ (ap (λ (m : Mirror). slice_set (map seen w.brokers) k m) (sym same) ∙ sym (map-set seen w.brokers k b')))))

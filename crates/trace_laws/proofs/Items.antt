@@ -198,7 +198,7 @@ writes_told s bs n t x c b (write.Append e ∷ ws) topic cluster why holds told 
     let at_six = (not_broken 5 (may_snapshot s a t x e e.content) six
     (not_broken 4 (may_stand s a t x e) five
     (not_broken 3 (accepts m.entries e.ident) four
-    (not_broken 2 (is_above m.positions p) three holds.0.1).1).1).1).1 in (
+    (not_broken 2 (is_above m.positions p) three holds.0.1.0).1).1).1).1 in (
       (
         topic,
         cluster,

@@ -2,6 +2,8 @@ pub mod Lists
 pub mod Same
 pub mod Kept
 pub mod Refusals
+pub mod Strictly
+pub mod Gaps
 pub mod SnapshotLines
 pub mod UpdateLines
 pub mod AppendLines

@@ -31,6 +31,9 @@ use Rattle.geo_base.specs.TraceItems.{Acks, Appends}
 use Rattle.geo_base.specs.Traced.{cursor_of, gained}
 use Rattle.geo_base.specs.Mirror.{Mirror, MirrorSub, Mirrors, mirror_at, mirror_sub}
 use Rattle.geo_base.specs.Audit.{act_refused, are_markers, are_new, cause_refused, entry_at, entry_by, is_above, is_brought, is_marker, is_passed, may_snapshot, may_stand, may_update, only_named, passes_all, passes_at, passes_content, passes_entry, same_entry, unless_broken}
+use Rattle.geo_base.specs.Laws.{of_origin, outbound}
+use Rattle.audit.specs.Stored.{is_same_at}
+use Rattle.audit.specs.Strict.{is_next, may_follow}
 use Rattle.trace_laws.specs.Seen.{positions_in, seen, sub_seen}
 use Rattle.trace_laws.proofs.Gained.{all_from_has, gained_is}
 use Rattle.trace_laws.proofs.Places.{index_seen}
@@ -66,13 +69,16 @@ next_above per b numbered =
 
 pub append_accepted : (s : Setup) (bs : List Broker) (n t x : ℕ) (b : Broker) (e : Entry) (told : Option Position) → Numbered b.entries b.ledgers → accepts b.entries e.ident ≡ true
     → may_stand s (seen_with s bs n t x b) t x e ≡ true → may_snapshot s (seen_with s bs n t x b) t x e e.content ≡ true → may_update s (seen b) x e told e.content ≡ true
-    → IsAccepted s bs n t x b (Appends (next_position s.per_ledger b.ledgers) e told)
-append_accepted s bs n t x b e told numbered new stands snapshot update =
-    let A = seen_with s bs n t x b in
-    goes_by 2 (is_above (seen b).positions (next_position s.per_ledger b.ledgers)) _ (next_above s.per_ledger b numbered)
-    ∙ (goes_by 3 (accepts b.entries e.ident) _ new
-    ∙ (goes_by 4 (may_stand s A t x e) _ stands
-    ∙ (goes_by 5 (may_snapshot s A t x e e.content) _ snapshot ∙ goes_by 6 (may_update s (seen b) x e told e.content) None update)))
+    → may_follow s (seen_with s bs n t x b) t x e ≡ true
+    → IsAccepted s bs n t x b (Appends (next_position s.per_ledger b.ledgers) e told) × (may_follow s (seen_with s bs n t x b) t x e ≡ true)
+append_accepted s bs n t x b e told numbered new stands snapshot update follows =
+    let A = seen_with s bs n t x b in (
+      goes_by 2 (is_above (seen b).positions (next_position s.per_ledger b.ledgers)) _ (next_above s.per_ledger b numbered)
+          ∙ (goes_by 3 (accepts b.entries e.ident) _ new
+          ∙ (goes_by 4 (may_stand s A t x e) _ stands
+          ∙ (goes_by 5 (may_snapshot s A t x e e.content) _ snapshot ∙ goes_by 6 (may_update s (seen b) x e told e.content) None update))),
+      follows,
+    )
 
 -- ---- rule 4
 
@@ -84,6 +90,15 @@ came_stands s a t x e there meant =
     or_right (e.ident.origin == x) (is_brought s a t x e)
     (both (list_any (same_entry e) (mirror_at s a t e.ident.origin).entries) (meant_for x e)
     (any_of (same_entry e) (mirror_at s a t e.ident.origin).entries there.place e there.is (entry_itself e)) meant)
+
+-- ---- rule 12
+
+pub own_follows : (s : Setup) (a : Mirrors) (t x : ℕ) (e : Entry) → (e.ident.origin == x) ≡ true → may_follow s a t x e ≡ true
+own_follows s a t x e own = or_left (e.ident.origin == x) (is_next s a t x e) own
+
+pub came_follows : (s : Setup) (a : Mirrors) (t x : ℕ) (e : Entry)
+    → slice_get (outbound e.ident.origin x (mirror_at s a t e.ident.origin).entries) (length (of_origin e.ident.origin (mirror_at s a t x).entries)) ≡ Some e → may_follow s a t x e ≡ true
+came_follows s a t x e next = or_right (e.ident.origin == x) (is_next s a t x e) (ap (is_same_at e) next ∙ entry_itself e)
 
 -- ---- rules 5 and 6 of what is not asked
 

@@ -1,9 +1,9 @@
 -- What holds where a rule refuses nothing.
 use Rattle.std.proofs.Common.{◌≡◌, ℕ, Bool, true, false, refl, sym, ap, not}
-use Rattle.std.specs.Prelude.{◌||◌, Option, None, Result, Ok, Err}
+use Rattle.std.specs.Prelude.{◌||◌, Option, Some, None, Result, Ok, Err}
 use Rattle.std.proofs.lemmas.Bool.{false≢true}
 use Rattle.std.proofs.lemmas.Option.{none-some}
-use Rattle.geo_base.specs.Audit.{Refusal, unless_broken}
+use Rattle.geo_base.specs.Audit.{Refusal, judged, unless_broken}
 
 abbrev is_accepted : {A : Type 0} → Result A Refusal → Bool
 is_accepted (Ok a) = true
@@ -11,6 +11,11 @@ is_accepted (Err r) = false
 
 pub err_ok : {A : Type 0} {rule : Refusal} {a : A} → Err rule ≡ Ok a → ⊥
 err_ok h = absurd (false≢true (ap is_accepted h))
+
+-- an accepted line is not refused, and nor is what follows it
+pub accepted : {A : Type 0} (n : ℕ) (o : Option ℕ) (r : Result A Refusal) (a : A) → judged n o r ≡ Ok a → (o ≡ None) × (r ≡ Ok a)
+accepted n None r a h = (refl, h)
+accepted n (Some rule) r a h = absurd (err_ok h)
 
 pub not_broken : (rule : ℕ) (b : Bool) (rest : Option ℕ) → unless_broken rule b rest ≡ None → (b ≡ true) × (rest ≡ None)
 not_broken rule true rest h = (refl, h)

@@ -1,6 +1,6 @@
 -- An accepted line keeps all that, so what all lines make of topics and subscriptions is safe.
 use Rattle.std.proofs.Common.{◌≡◌, ℕ, ◌*◌, true, List, [], ◌∷◌, ◌++◌, length, refl, sym, ap, subst, ◌∙◌}
-use Rattle.std.specs.Prelude.{Option, Some, None, slice_index_or, Result, Ok}
+use Rattle.std.specs.Prelude.{None, slice_index_or, Ok}
 use Rattle.std.specs.List.{AllByRecursion, list_any}
 use Rattle.std.proofs.lemmas.List.{append_assoc, get_or-replicate, length-replicate}
 use Rattle.std.proofs.lemmas.Option.{none-some}
@@ -13,10 +13,10 @@ use Rattle.world_laws.proofs.Replicating.Sizes.{node_lt}
 use Rattle.world_laws.proofs.Telling.Told.{Includes, told_too}
 use Rattle.geo_base.specs.TraceItems.{Acks, Appends, Begins, Creates, Deletes, Item, Seeks, Writes}
 use Rattle.geo_base.specs.Mirror.{Mirror, Mirrors, mirror_at, no_mirror, opening_mirrors, mirror_number, settled_by, told}
-use Rattle.geo_base.specs.Audit.{Refusal, audited_from, judged, refused, settled_from}
+use Rattle.geo_base.specs.Audit.{audited_from, refused, settled_from}
 use Rattle.trace_laws.specs.Audited.{IsItemOf, LawAudited, all_told}
 use Rattle.trace_laws.proofs.Kept.{Kept, Lengthened, TopicKept, all_lengths, as_before, left_alone}
-use Rattle.trace_laws.proofs.Refusals.{err_ok}
+use Rattle.trace_laws.proofs.Refusals.{accepted}
 use Rattle.trace_laws.proofs.AppendLines.{appends_kept}
 use Rattle.trace_laws.proofs.SubLines.{acks_kept, creates_kept, deletes_kept, seeks_kept}
 
@@ -43,11 +43,6 @@ one_line s a settled (Writes t x (Creates n latest)) of kept h = creates_kept s 
 one_line s a settled (Writes t x (Deletes n)) of kept h = deletes_kept s a settled t x n (of.0, of.1) kept
 one_line s a settled (Writes t x (Acks n is c)) of kept h = acks_kept s a settled t x n is c (of.0, of.1) kept h
 one_line s a settled (Writes t x (Seeks n i)) of kept h = seeks_kept s a settled t x n i (of.0, of.1) kept h
-
--- an accepted line is not refused, and nor is what follows it
-accepted : {A : Type 0} (n : ℕ) (o : Option ℕ) (r : Result A Refusal) (a : A) → judged n o r ≡ Ok a → (o ≡ None) × (r ≡ Ok a)
-accepted n None r a h = (refl, h)
-accepted n (Some rule) r a h = absurd (err_ok h)
 
 all_lines : (s : Setup) (a b : Mirrors) (settled : SettledSoFar) (before after : List Item) → AllByRecursion (IsItemOf s) (before ++ after) → Kept s a settled
     → audited_from s a (before ++ after) ≡ Ok b → Kept s (all_told s a before) (told_too settled (λ t n. settled_from s a before t n))

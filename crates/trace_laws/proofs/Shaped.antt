@@ -38,7 +38,7 @@ use Rattle.world_laws.proofs.TopicOrder.Ledgers.{of_index}
 use Rattle.world_laws.proofs.OnceInOrder.Members.{Stands, get_last}
 use Rattle.world_laws.proofs.TopicOrder.NoSelf.{remote_other}
 use Rattle.world_laws.proofs.Telling.Passing.{passed_over_is}
-use Rattle.world_laws.proofs.Replicating.Prefixes.{is_of}
+use Rattle.world_laws.proofs.Replicating.Prefixes.{Begins as StartsAs, is_of}
 use Rattle.world_laws.proofs.Telling.ServeTells.{ack_within, acks_same}
 use Rattle.world_laws.proofs.Replicating.LinkFrames.{same_node}
 use Rattle.world_laws.proofs.TopicOrder.Order.{of_source}
@@ -46,17 +46,19 @@ use Rattle.world_laws.proofs.Snapshotting.SecondRound.{Knows}
 use Rattle.world_laws.proofs.Snapshotting.SnapshotFacts.{out_there}
 use Rattle.world_laws.proofs.Walks.Shapes.{Answered, Fated, Offers, Reads, Seeks, Served, Snaps, Taken, Updates}
 use Rattle.world_laws.proofs.Walks.Walk.{both, left, on_true, right}
-use Rattle.geo_base.specs.Mirror.{mirror_at, no_mirror}
+use Rattle.geo_base.specs.Laws.{of_origin, outbound}
+use Rattle.geo_base.specs.Mirror.{Mirror, mirror_at, no_mirror}
 use Rattle.geo_base.specs.declared.planned.Cause.{Cause}
 use Rattle.geo_base.specs.declared.planned.Cause.TheVariants as cause
 use Rattle.geo_base.specs.Traced.{cursor_of, position_read, snapshot_told}
 use Rattle.trace_laws.specs.Seen.{seen}
-use Rattle.trace_laws.proofs.Lines.{acks_accepted, append_accepted, came_stands, marker_accepted, other_snapshot, other_update, passes_accepted}
+use Rattle.trace_laws.proofs.Gaps.{next_there}
+use Rattle.trace_laws.proofs.Lines.{acks_accepted, append_accepted, came_follows, came_stands, marker_accepted, other_snapshot, other_update, passes_accepted}
 use Rattle.world_laws.proofs.Telling.Announcing.{find_stands}
 use Rattle.cursor_acks.proofs.Sets.{Rising}
 use Rattle.trace_laws.proofs.Stems.{StemsFrom}
 use Rattle.trace_laws.proofs.Told.{Here, acks_hold, completes_holds, found_after, found_self, marker_holds, numbered_here, publishes_hold, update_holds}
-use Rattle.trace_laws.proofs.Writes.{OneCursor, PlanHolds, WriteHolds, seen_with}
+use Rattle.trace_laws.proofs.Writes.{OneCursor, PlanHolds, WriteHolds, seen_here, seen_with}
 
 -- ---- lists of writes
 
@@ -330,10 +332,17 @@ came_one s w n t x y c b e h small other lt of numbered new k =
     let stands : Stands (mirror_at s A t e.ident.origin).entries e =
     subst (λ (z : ℕ). Stands (mirror_at s A t z).entries e) (sym of) (subst (λ (es : List Entry). Stands es e) same source) in
     let foreign : (e.ident.origin == y) ≡ false = differ e.ident.origin y (λ is. other (sym of ∙ is)) in
-    let meant : meant_for y e ≡ true = or_right (e.ident.origin == y) (goes_to y e.to) (right (is_of x e) (goes_to y e.to) out) in (
+    let meant : meant_for y e ≡ true = or_right (e.ident.origin == y) (goes_to y e.to) (right (is_of x e) (goes_to y e.to) out) in
+    let here : (mirror_at s A t y).entries ≡ b.entries = ap (λ (m : Mirror). m.entries) (seen_here s w.brokers n t y b lt) in
+    let begun : StartsAs x y near (b.entries ++ e ∷ []) =
+    subst (λ (z : Broker). StartsAs x y near z.entries) (set_here w.brokers (node s t y) b' lt) begins in
+    let N : ℕ → List Entry → List Entry → Type 0 = λ z there mine. slice_get (outbound z y there) (length (of_origin z mine)) ≡ Some e in
+    let next : N e.ident.origin (mirror_at s A t e.ident.origin).entries (mirror_at s A t y).entries =
+    subst (λ (z : ℕ). N z (mirror_at s A t z).entries (mirror_at s A t y).entries) (sym of)
+    (subst (N x (mirror_at s A t x).entries) (sym here) (subst (λ (es : List Entry). N x es b.entries) same (next_there x y near b.entries e begun self))) in (
       numbered,
       append_accepted s w.brokers n t y b e _ numbered new (came_stands s A t y e stands meant) (other_snapshot s A t y e e.content foreign)
-          (other_update s (seen b) y e (snapshot_told (site s t y) b e e.content) e.content foreign),
+          (other_update s (seen b) y e (snapshot_told (site s t y) b e e.content) e.content foreign) (came_follows s A t y e next),
     )
 
 pub came_plan : (s : Setup) (w : World) (n t x y : ℕ) (c : Cause) (pre ws : List Write) → Here s w t y → x < length s.clusters → (x ≡ y → ⊥) → node s t y < length w.brokers

@@ -42,7 +42,7 @@ use Rattle.geo_base.specs.Traced.{cursor_of, gained, least_snapshot, snapshot_po
 use Rattle.geo_base.specs.Mirror.{Mirror, Mirrors, mirror_number}
 use Rattle.geo_base.specs.Audit.{cause_refused, may_snapshot, may_update}
 use Rattle.trace_laws.specs.Seen.{seen}
-use Rattle.trace_laws.proofs.Lines.{acks_accepted, append_accepted, own_stands}
+use Rattle.trace_laws.proofs.Lines.{acks_accepted, append_accepted, own_follows, own_stands}
 use Rattle.world_laws.proofs.Telling.Announcing.{find_stands}
 use Rattle.trace_laws.proofs.Marks.{LocalStored, NamesItsCut, update_accepted}
 use Rattle.cursor_acks.proofs.Sets.{Rising}
@@ -153,7 +153,7 @@ publishes_hold s w n t x c e h message own new =
     let b = topic_at s w t x in let A = seen_with s w.brokers n t x b in (
       numbered_here s w t x h,
       append_accepted s w.brokers n t x b e _ (numbered_here s w t x h) new (own_stands s A t x e own) (plain_snapshot s A t x e e.content message)
-          (plain_update s (seen b) x e (snapshot_told (site s t x) b e e.content) e.content message),
+          (plain_update s (seen b) x e (snapshot_told (site s t x) b e e.content) e.content message) (own_follows s A t x e own),
     )
 
 -- a request or a response
@@ -166,7 +166,8 @@ pub marker_holds : (s : Setup) (w : World) (n t x : ℕ) (c : Cause) (m : Marker
 marker_holds s w n t x c m to names h snapshot update new =
     let b = topic_at s w t x in let e = own_marker (site s t x) b m to names in (
       numbered_here s w t x h,
-      append_accepted s w.brokers n t x b e _ (numbered_here s w t x h) new (own_stands s (seen_with s w.brokers n t x b) t x e (eq-eqb x x refl)) snapshot update,
+      append_accepted s w.brokers n t x b e _ (numbered_here s w t x h) new (own_stands s (seen_with s w.brokers n t x b) t x e (eq-eqb x x refl)) snapshot update
+          (own_follows s (seen_with s w.brokers n t x b) t x e (eq-eqb x x refl)),
     )
 
 -- ---- the snapshot
@@ -214,5 +215,5 @@ update_holds s w n t x c b v cs cut h entries ledgers found all passed new =
     let U : Option Position → Type 0 = λ o. may_update s (seen b) x e o e.content ≡ true in (
       numbered,
       append_accepted s w.brokers n t x b e (snapshot_told (site s t x) b e e.content) numbered new (own_stands s (seen_with s w.brokers n t x b) t x e (eq-eqb x x refl)) refl
-          (subst U (sym told) (or_right (not (x == x)) _ tells)),
+          (subst U (sym told) (or_right (not (x == x)) _ tells)) (own_follows s (seen_with s w.brokers n t x b) t x e (eq-eqb x x refl)),
     )

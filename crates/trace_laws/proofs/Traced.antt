@@ -42,12 +42,16 @@ use Rattle.geo_base.specs.declared.planned.Cause.{Cause}
 use Rattle.geo_base.specs.TraceItems.{Begins, Item}
 use Rattle.geo_base.specs.Traced.{acts_of, all_writes, cause_of, event_items, halt_items, items_from, planned_items, rounds_items, settling_items, step_items, told_at, traced, unless_ended}
 use Rattle.geo_base.specs.Mirror.{Mirrors, no_mirror, opening_mirrors, told}
-use Rattle.geo_base.specs.Audit.{Refusal, audited, audited_from, judged, refused}
+use Rattle.geo_base.specs.Audit.{Refusal, audited, judged}
+use Rattle.audit.specs.Strict.{audited_by, audited_from_by, refused_by}
+use Rattle.audit.specs.declared.strictness.Strictness.TheVariants as strictness
 use Rattle.trace_laws.specs.Audited.{all_told}
+use Rattle.trace_laws.specs.Gapless.{LawTracedWhole}
 use Rattle.trace_laws.specs.Seen.{seen, world_seen}
 use Rattle.trace_laws.proofs.Events.{FreshIn, begins, PlannedHolds, Whole, changes_seen, planned_holds, told_planned, whole_take}
 use Rattle.cursor_acks.proofs.Sets.{Rising, rising_range, rising_with_indexes}
 use Rattle.trace_laws.proofs.Shaped.{written_last}
+use Rattle.trace_laws.proofs.Strictly.{plainly}
 use Rattle.trace_laws.proofs.Stems.{Stemming, stemming_kept}
 use Rattle.trace_laws.proofs.Writes.{PlanHolds, opened_seen}
 
@@ -164,7 +168,7 @@ plan_told s w n e scripted h short =
 -- ---- one event
 
 abbrev pub Told : Setup → World → List Item → World → Type 0
-Told s w items w' = audited_from s (world_seen w) items ≡ Ok (world_seen w')
+Told s w items w' = audited_from_by strictness.Whole s (world_seen w) items ≡ Ok (world_seen w')
 
 abbrev seen_all : List Broker → ℕ → Mirrors
 seen_all bs n = record { topics = map seen bs; events = n }
@@ -217,18 +221,18 @@ told_outcome : (s : Setup) (w : World) (e : Event) (o : Option Planned) (w' : Wo
     → PlannedHolds s w (w.events + 1) e o
     → Told s w (if w'.events == w.events then [] else Begins (w.events + 1) ∷ planned_items s w (all_writes o) e o) w'
 told_outcome s w e o w' size (Outcome.Idle events brokers) holds =
-    ap (λ (b : Bool). audited_from s (world_seen w) (if b then [] else Begins (w.events + 1) ∷ planned_items s w (all_writes o) e o)) (same_number w.events w'.events events)
+    ap (λ (b : Bool). audited_from_by strictness.Whole s (world_seen w) (if b then [] else Begins (w.events + 1) ∷ planned_items s w (all_writes o) e o)) (same_number w.events w'.events events)
     ∙ ap accept (seen_as w.brokers w'.brokers w.events w'.events (sym brokers) (sym events))
 told_outcome s w e o w' size (Outcome.OfClient none events brokers) holds =
-    ap (λ (b : Bool). audited_from s (world_seen w) (if b then [] else Begins (w.events + 1) ∷ planned_items s w (all_writes o) e o)) (one_more w.events w'.events events)
-    ∙ (ap (λ (p : Option Planned). audited_from s (world_seen w) (Begins (w.events + 1) ∷ planned_items s w (all_writes p) e p)) none
+    ap (λ (b : Bool). audited_from_by strictness.Whole s (world_seen w) (if b then [] else Begins (w.events + 1) ∷ planned_items s w (all_writes o) e o)) (one_more w.events w'.events events)
+    ∙ (ap (λ (p : Option Planned). audited_from_by strictness.Whole s (world_seen w) (Begins (w.events + 1) ∷ planned_items s w (all_writes p) e p)) none
     ∙ (begins s w [] ∙ ap accept (seen_as w.brokers w'.brokers (w.events + 1) w'.events (sym brokers) (sym events))))
 told_outcome s w e o w' size (Outcome.OfBroker p b' some events brokers same) holds =
     let H : Option Planned → Type 0 = λ q. PlannedHolds s w (w.events + 1) e q in
     let h : H (Some p) = subst H some holds in
-    ap (λ (b : Bool). audited_from s (world_seen w) (if b then [] else Begins (w.events + 1) ∷ planned_items s w (all_writes o) e o)) (one_more w.events w'.events events)
-    ∙ (ap (λ (q : Option Planned). audited_from s (world_seen w) (Begins (w.events + 1) ∷ planned_items s w (all_writes q) e q)) some
-    ∙ (ap (λ (ws : List Write). audited_from s (world_seen w) (Begins (w.events + 1) ∷ told_at p.topic p.cluster (acts_of (site s p.topic p.cluster) (cause_of (topic_at s w p.topic p.cluster) e) (topic_at s w p.topic p.cluster) ws))) (whole_take p.plan.writes)
+    ap (λ (b : Bool). audited_from_by strictness.Whole s (world_seen w) (if b then [] else Begins (w.events + 1) ∷ planned_items s w (all_writes o) e o)) (one_more w.events w'.events events)
+    ∙ (ap (λ (q : Option Planned). audited_from_by strictness.Whole s (world_seen w) (Begins (w.events + 1) ∷ planned_items s w (all_writes q) e q)) some
+    ∙ (ap (λ (ws : List Write). audited_from_by strictness.Whole s (world_seen w) (Begins (w.events + 1) ∷ told_at p.topic p.cluster (acts_of (site s p.topic p.cluster) (cause_of (topic_at s w p.topic p.cluster) e) (topic_at s w p.topic p.cluster) ws))) (whole_take p.plan.writes)
     ∙ (told_planned s w e p p.plan.writes b' h.0 size h.1 same ∙ ap accept (seen_as (slice_set w.brokers (node s p.topic p.cluster) b') w'.brokers (w.events + 1) w'.events (sym brokers) (sym events)))))
 
 event_told : (s : Setup) (w : World) (e : Event) → IsScripted s → Tracing s w → IsShort w → Told s w (event_items s w e) (happens s w e)
@@ -258,10 +262,10 @@ halt_told s w k e scripted h short = by (planned s w e) (plan_told s w (w.events
     by : (o : Option Planned) → PlannedHolds s w (w.events + 1) e o
         → Told s w (if (halts_planned s w k o).events == w.events then [] else Begins (w.events + 1) ∷ planned_items s w k e o) (halts_planned s w k o)
     by None holds =
-        ap (λ (b : Bool). audited_from s (world_seen w) (if b then [] else Begins (w.events + 1) ∷ [])) (same_number w.events w.events refl)
+        ap (λ (b : Bool). audited_from_by strictness.Whole s (world_seen w) (if b then [] else Begins (w.events + 1) ∷ [])) (same_number w.events w.events refl)
     by (Some p) holds =
         let b = topic_at s w p.topic p.cluster in
-        ap (λ (t : Bool). audited_from s (world_seen w) (if t then [] else Begins (w.events + 1) ∷ planned_items s w k e (Some p))) (one_more w.events (w.events + 1) refl)
+        ap (λ (t : Bool). audited_from_by strictness.Whole s (world_seen w) (if t then [] else Begins (w.events + 1) ∷ planned_items s w k e (Some p))) (one_more w.events (w.events + 1) refl)
         ∙ told_planned s w e p (take k p.plan.writes) (halted s.per_ledger b k p.plan) holds.0 size
         (holds_take s w.brokers (w.events + 1) p.topic p.cluster (cause_of b e) b k p.plan.writes holds.1) (halted_seen s.per_ledger b (take k p.plan.writes))
 
@@ -292,22 +296,22 @@ err_not_ok h = false≢true (ap is_ok h)
 ok_is : {a b : Mirrors} → Ok a ≡ accept b → a ≡ b
 ok_is {a} {b} h = ap (ok_or a) h
 
-told_both : (s : Setup) (a b : Mirrors) (is js : List Item) → audited_from s a is ≡ Ok b → audited_from s a (is ++ js) ≡ audited_from s b js
-told_both s a b [] js h = ap (λ (c : Mirrors). audited_from s c js) (ok_is h)
-told_both s a b (i ∷ is) js h = by (refused s a i) h (told_both s (told s a i) b is js)
+told_both : (s : Setup) (a b : Mirrors) (is js : List Item) → audited_from_by strictness.Whole s a is ≡ Ok b → audited_from_by strictness.Whole s a (is ++ js) ≡ audited_from_by strictness.Whole s b js
+told_both s a b [] js h = ap (λ (c : Mirrors). audited_from_by strictness.Whole s c js) (ok_is h)
+told_both s a b (i ∷ is) js h = by (refused_by strictness.Whole s a i) h (told_both s (told s a i) b is js)
   where
-    by : (o : Option ℕ) → judged a.events o (audited_from s (told s a i) is) ≡ Ok b
-        → (audited_from s (told s a i) is ≡ Ok b → audited_from s (told s a i) (is ++ js) ≡ audited_from s b js)
-        → judged a.events o (audited_from s (told s a i) (is ++ js)) ≡ audited_from s b js
+    by : (o : Option ℕ) → judged a.events o (audited_from_by strictness.Whole s (told s a i) is) ≡ Ok b
+        → (audited_from_by strictness.Whole s (told s a i) is ≡ Ok b → audited_from_by strictness.Whole s (told s a i) (is ++ js) ≡ audited_from_by strictness.Whole s b js)
+        → judged a.events o (audited_from_by strictness.Whole s (told s a i) (is ++ js)) ≡ audited_from_by strictness.Whole s b js
     by None k ih = ih k
     by (Some rule) k ih = absurd (err_not_ok k)
 
 -- what accepted lines make
-pub told_is : (s : Setup) (a b : Mirrors) (is : List Item) → audited_from s a is ≡ Ok b → all_told s a is ≡ b
+pub told_is : (s : Setup) (a b : Mirrors) (is : List Item) → audited_from_by strictness.Whole s a is ≡ Ok b → all_told s a is ≡ b
 told_is s a b [] h = ok_is h
-told_is s a b (i ∷ is) h = by (refused s a i) h (told_is s (told s a i) b is)
+told_is s a b (i ∷ is) h = by (refused_by strictness.Whole s a i) h (told_is s (told s a i) b is)
   where
-    by : (o : Option ℕ) → judged a.events o (audited_from s (told s a i) is) ≡ Ok b → (audited_from s (told s a i) is ≡ Ok b → all_told s (told s a i) is ≡ b)
+    by : (o : Option ℕ) → judged a.events o (audited_from_by strictness.Whole s (told s a i) is) ≡ Ok b → (audited_from_by strictness.Whole s (told s a i) is ≡ Ok b → all_told s (told s a i) is ≡ b)
         → all_told s (told s a i) is ≡ b
     by None k ih = ih k
     by (Some rule) k ih = absurd (err_not_ok k)
@@ -446,8 +450,12 @@ opening_seen s = ap (λ ms. record { topics = ms; events = 0 }) (copies (length 
     copies zero = refl
     copies (suc n) = ap (λ ms. no_mirror ∷ ms) (copies n)
 
-pub traced_accepted : (s : Setup) → IsScripted s → (es : List Step) → audited s (traced all_limits s es) ≡ Ok (world_seen (run_under all_limits s es).world)
-traced_accepted s scripted es =
-    ap (λ (a : Mirrors). audited_from s a (traced all_limits s es)) (sym (opening_seen s))
+pub traced_wholly : LawTracedWhole
+traced_wholly s scripted es =
+    ap (λ (a : Mirrors). audited_from_by strictness.Whole s a (traced all_limits s es)) (sym (opening_seen s))
     ∙ steps_told s (record { world = opening_world s; ended = None }) es scripted
     (record { kept = (tracing_kept s (named s scripted)).opening; short = few_short (opening_world s) (omega arith) })
+
+pub traced_accepted : (s : Setup) → IsScripted s → (es : List Step) → audited s (traced all_limits s es) ≡ Ok (world_seen (run_under all_limits s es).world)
+traced_accepted s scripted es =
+    plainly strictness.Whole s (opening_mirrors s) (world_seen (run_under all_limits s es).world) (traced all_limits s es) (traced_wholly s scripted es)

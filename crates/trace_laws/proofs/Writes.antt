@@ -21,7 +21,10 @@ use Rattle.geo_base.specs.declared.planned.Cause.{Cause}
 use Rattle.geo_base.specs.TraceItems.{Acks, Act, Appends, Creates, Deletes, Item, Seeks, Writes}
 use Rattle.geo_base.specs.Traced.{act_of, acts_of, cursor_of, gained, snapshot_told, told_at}
 use Rattle.geo_base.specs.Mirror.{Mirror, MirrorSub, Mirrors, acted, mirror_at, no_mirror, mirror_number, told, with_cursor}
-use Rattle.geo_base.specs.Audit.{act_refused, audited_from, judged, refused, unless_broken}
+use Rattle.geo_base.specs.Audit.{act_refused, judged, refused, unless_broken}
+use Rattle.geo_base.specs.Run.{or_else}
+use Rattle.audit.specs.Strict.{act_gaps, audited_from_by, may_follow, refused_by}
+use Rattle.audit.specs.declared.strictness.Strictness.TheVariants as strictness
 use Rattle.trace_laws.specs.Seen.{positions_in, seen, sub_seen}
 use Rattle.trace_laws.proofs.Gained.{gains_same}
 use Rattle.trace_laws.proofs.Places.{positions_more}
@@ -159,7 +162,8 @@ IsAccepted s bs n t x b a = act_refused s (seen_with s bs n t x b) t x (seen b) 
 
 abbrev pub WriteHolds : Setup → List Broker → ℕ → ℕ → ℕ → Cause → Broker → Write → Type 0
 WriteHolds s bs n t x c b (write.Append e) =
-    Numbered b.entries b.ledgers × IsAccepted s bs n t x b (Appends (next_position s.per_ledger b.ledgers) e (snapshot_told (site s t x) b e e.content))
+    Numbered b.entries b.ledgers
+    × (IsAccepted s bs n t x b (Appends (next_position s.per_ledger b.ledgers) e (snapshot_told (site s t x) b e e.content)) × (may_follow s (seen_with s bs n t x b) t x e ≡ true))
 WriteHolds s bs n t x c b (write.Create m kind replicated latest) = sub_named b.subs m ≡ None
 WriteHolds s bs n t x c b (write.Delete m) = is_some (sub_named b.subs m) ≡ true
 WriteHolds s bs n t x c b (write.Acks m is) =
@@ -175,35 +179,37 @@ PlanHolds s bs n t x c b (w ∷ ws) = WriteHolds s bs n t x c b w × PlanHolds s
 -- ---- one line
 
 -- an accepted line makes of what an audit sees what the write makes of the broker
-one_act : (s : Setup) (bs : List Broker) (n t x : ℕ) (b b' : Broker) (a : Act) (rest : List Item) → mirror_number s t x < length bs → IsAccepted s bs n t x b a → acted (seen b) a ≡ seen b'
-    → audited_from s (seen_with s bs n t x b) (Writes t x a ∷ rest) ≡ audited_from s (seen_with s bs n t x b') rest
+one_act : (s : Setup) (bs : List Broker) (n t x : ℕ) (b b' : Broker) (a : Act) (rest : List Item) → mirror_number s t x < length bs → IsAccepted s bs n t x b a
+    → act_gaps s (seen_with s bs n t x b) t x a ≡ None → acted (seen b) a ≡ seen b'
+    → audited_from_by strictness.Whole s (seen_with s bs n t x b) (Writes t x a ∷ rest) ≡ audited_from_by strictness.Whole s (seen_with s bs n t x b') rest
 unfolding refused
-one_act s bs n t x b b' a rest lt accepted is =
+one_act s bs n t x b b' a rest lt accepted free is =
     let k = mirror_number s t x in let A = seen_with s bs n t x b in
     let here = seen_here s bs n t x b lt in
-    let fine : refused s A (Writes t x a) ≡ None = ap (λ (m : Mirror). act_refused s A t x m a) here ∙ accepted in
+    let fine : refused_by strictness.Whole s A (Writes t x a) ≡ None =
+    ap (λ (m : Mirror). or_else (act_refused s A t x m a) (act_gaps s A t x a)) here ∙ (ap (λ (o : Option ℕ). or_else o (act_gaps s A t x a)) accepted ∙ free) in
     let topics : slice_set (map seen (slice_set bs k b)) k (acted (mirror_at s A t x) a) ≡ map seen (slice_set bs k b') =
     ap (λ (m : Mirror). slice_set (map seen (slice_set bs k b)) k m) (ap (λ (m : Mirror). acted m a) here ∙ is)
     ∙ (sym (map-set seen (slice_set bs k b) k b') ∙ ap (map seen) (set_twice bs k b b')) in
-    ap (λ (o : Option ℕ). judged n o (audited_from s (told s A (Writes t x a)) rest)) fine
-    ∙ ap (λ (ms : List Mirror). audited_from s (record { topics = ms; events = n }) rest) topics
+    ap (λ (o : Option ℕ). judged n o (audited_from_by strictness.Whole s (told s A (Writes t x a)) rest)) fine
+    ∙ ap (λ (ms : List Mirror). audited_from_by strictness.Whole s (record { topics = ms; events = n }) rest) topics
 
 -- a write without a line leaves what an audit sees
 no_act : (s : Setup) (bs : List Broker) (n t x : ℕ) (b b' : Broker) (rest : List Item) → seen b ≡ seen b'
-    → audited_from s (seen_with s bs n t x b) rest ≡ audited_from s (seen_with s bs n t x b') rest
+    → audited_from_by strictness.Whole s (seen_with s bs n t x b) rest ≡ audited_from_by strictness.Whole s (seen_with s bs n t x b') rest
 no_act s bs n t x b b' rest same =
     let k = mirror_number s t x in
-    ap (λ (ms : List Mirror). audited_from s (record { topics = ms; events = n }) rest)
+    ap (λ (ms : List Mirror). audited_from_by strictness.Whole s (record { topics = ms; events = n }) rest)
     (map-set seen bs k b ∙ (ap (λ (m : Mirror). slice_set (map seen bs) k m) same ∙ sym (map-set seen bs k b')))
 
 pub one_write : (s : Setup) (bs : List Broker) (n t x : ℕ) (c : Cause) (b : Broker) (w : Write) (rest : List Act) → mirror_number s t x < length bs → WriteHolds s bs n t x c b w
-    → audited_from s (seen_with s bs n t x b) (told_at t x (act_of (site s t x) c b w ++ rest)) ≡ audited_from s (seen_with s bs n t x (written s.per_ledger b w)) (told_at t x rest)
+    → audited_from_by strictness.Whole s (seen_with s bs n t x b) (told_at t x (act_of (site s t x) c b w ++ rest)) ≡ audited_from_by strictness.Whole s (seen_with s bs n t x (written s.per_ledger b w)) (told_at t x rest)
 one_write s bs n t x c b (write.Append e) rest lt h =
-    one_act s bs n t x b _ _ (told_at t x rest) lt h.1
+    one_act s bs n t x b _ _ (told_at t x rest) lt h.1.0 (ap (λ (f : Bool). unless_broken 12 f None) h.1.1)
     (ap (λ (ps : List Position). mirror_of (b.entries ++ e ∷ []) ps (map sub_seen b.subs)) (sym (positions_more s.per_ledger b.entries e b.ledgers h.0)))
 one_write s bs n t x c b (write.Create m kind replicated latest) rest lt h =
     one_act s bs n t x b (written s.per_ledger b (write.Create m kind replicated latest)) (Creates m latest) (told_at t x rest) lt
-    (ap (λ (o : Option MirrorSub). unless_broken 7 (is_none o) None) (sub_found m b.subs ∙ ap option_seen h)) made
+    (ap (λ (o : Option MirrorSub). unless_broken 7 (is_none o) None) (sub_found m b.subs ∙ ap option_seen h)) refl made
   where
     new : Subscription
     new = new_subscription m kind replicated (if latest then below (length b.entries) else [])
@@ -218,16 +224,17 @@ one_write s bs n t x c b (write.Create m kind replicated latest) rest lt h =
     made = ap (λ (vs : List MirrorSub). mirror_of b.entries (positions_in b.ledgers 0 (length b.entries)) vs) (sym (map-append sub_seen b.subs (new ∷ []))) ∙ ap seen is
 one_write s bs n t x c b (write.Delete m) rest lt h =
     one_act s bs n t x b (written s.per_ledger b (write.Delete m)) (Deletes m) (told_at t x rest) lt
-    (ap (λ (b' : Bool). unless_broken 7 b' None) (ap is_some (sub_found m b.subs) ∙ (some_seen (sub_named b.subs m) ∙ h)))
+    (ap (λ (b' : Bool). unless_broken 7 b' None) (ap is_some (sub_found m b.subs) ∙ (some_seen (sub_named b.subs m) ∙ h))) refl
     (ap (λ (vs : List MirrorSub). mirror_of b.entries (positions_in b.ledgers 0 (length b.entries)) vs) (sym (seen_filter m b.subs)))
 one_write s bs n t x c b (write.Acks m is) rest lt h =
-    one_act s bs n t x b (written s.per_ledger b (write.Acks m is)) (Acks m (gained (cursor_of (sub_named b.subs m)) is) c) (told_at t x rest) lt h.2
+    one_act s bs n t x b (written s.per_ledger b (write.Acks m is)) (Acks m (gained (cursor_of (sub_named b.subs m)) is) c) (told_at t x rest) lt h.2 refl
     (ap (λ (vs : List MirrorSub). mirror_of b.entries (positions_in b.ledgers 0 (length b.entries)) vs)
     (sym (cursor_seen m (with_acks is) (λ set. with_indexes set (gained (cursor_of (sub_named b.subs m)) is)) b.subs (acks_seen m (cursor_of (sub_named b.subs m)) is b.subs h.0 h.1))))
 one_write s bs n t x c b (write.Seek m i) rest lt h =
     one_act s bs n t x b (written s.per_ledger b (write.Seek m i)) (Seeks m i) (told_at t x rest) lt
     (ap (λ (b' : Bool). unless_broken 7 b' (unless_broken 11 (nat_le i (length b.entries)) None)) (ap is_some (sub_found m b.subs) ∙ (some_seen (sub_named b.subs m) ∙ h.0))
     ∙ ap (λ (b' : Bool). unless_broken 11 b' None) (within_le i (length b.entries) h.1))
+    refl
     (ap (λ (vs : List MirrorSub). mirror_of b.entries (positions_in b.ledgers 0 (length b.entries)) vs) (sym (cursor_seen m (sought i) (λ set. below i) b.subs (seeks_seen m i b.subs))))
 one_write s bs n t x c b (write.Alter m kind replicated) rest lt h =
     no_act s bs n t x b (written s.per_ledger b (write.Alter m kind replicated)) (told_at t x rest)
@@ -242,7 +249,7 @@ one_write s bs n t x c b write.Ledger rest lt h =
 
 -- and so do all writes of a plan
 pub all_accepted : (s : Setup) (bs : List Broker) (n t x : ℕ) (c : Cause) (b : Broker) (ws : List Write) → mirror_number s t x < length bs → PlanHolds s bs n t x c b ws
-    → audited_from s (seen_with s bs n t x b) (told_at t x (acts_of (site s t x) c b ws)) ≡ Ok (seen_with s bs n t x (all_written s.per_ledger b ws))
+    → audited_from_by strictness.Whole s (seen_with s bs n t x b) (told_at t x (acts_of (site s t x) c b ws)) ≡ Ok (seen_with s bs n t x (all_written s.per_ledger b ws))
 all_accepted s bs n t x c b [] lt h = refl
 all_accepted s bs n t x c b (w ∷ ws) lt h =
     one_write s bs n t x c b w (acts_of (site s t x) c (written s.per_ledger b w) ws) lt h.0 ∙ all_accepted s bs n t x c (written s.per_ledger b w) ws lt h.1

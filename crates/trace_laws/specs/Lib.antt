@@ -1,3 +1,4 @@
 pub mod Audited
 pub mod Seen
 pub mod Readable
+pub mod Gapless

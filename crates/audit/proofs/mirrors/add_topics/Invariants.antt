@@ -6,4 +6,5 @@ abbrev pub invariant-loop-number : goal.invariant-loop-number
 invariant-loop-number l = record {
   topics : l.topics.items ≡ replicate l._number no_mirror;
   covers : l.covers.items ≡ replicate l._number [];
+  brought : l.brought.items ≡ replicate l._number [];
 }

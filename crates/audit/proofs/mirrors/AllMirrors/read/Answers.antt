@@ -24,7 +24,7 @@ pub returns-clause-accepted : goal.returns-clause-accepted
 returns-clause-accepted c =
     let s : Setup = c.args.scenario.now.setup in
     let read : Some (item_said c.in-Some-2.line) ≡ item_read c.args.names.now c.args.line.now = sym (ap (option_map item_said) c.in-Some-2.is) ∙ c.in_ok-line.ensures in
-    subst (λ (o : Option Item). OnOk c.take.result (item_refused s c.args.self.now o ≡ None)) read c.take.ensures.accepted
+    subst (λ (o : Option Item). OnOk c.take.result (item_refused c.args.strictness s c.args.self.now o ≡ None)) read c.take.ensures.accepted
 
 pub returns-clause-told : goal.returns-clause-told
 returns-clause-told c =
@@ -36,4 +36,4 @@ pub returns-clause-rule : goal.returns-clause-rule
 returns-clause-rule c = λ event rule is.
     let s : Setup = c.args.scenario.now.setup in
     let read : Some (item_said c.in-Some-2.line) ≡ item_read c.args.names.now c.args.line.now = sym (ap (option_map item_said) c.in-Some-2.is) ∙ c.in_ok-line.ensures in
-    subst (λ (o : Option Item). item_refused s c.args.self.now o ≡ Some rule) read (c.take.ensures.rule event rule is)
+    subst (λ (o : Option Item). item_refused c.args.strictness s c.args.self.now o ≡ Some rule) read (c.take.ensures.rule event rule is)

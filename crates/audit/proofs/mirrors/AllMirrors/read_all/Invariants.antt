@@ -6,7 +6,7 @@ use Rattle.audit.proofs.mirrors.AllMirrors.read_all.Given as goal
 
 abbrev pub invariant-loop-line : goal.invariant-loop-line
 invariant-loop-line l = record {
-  rest : lines_audited l.scenario.setup l.self (cut_by 10 l.rest) ≡ lines_audited l.scenario.setup l.initial.self (cut_by 10 l.lines);
+  rest : lines_audited l.strictness l.scenario.setup l.self (cut_by 10 l.rest) ≡ lines_audited l.strictness l.scenario.setup l.initial.self (cut_by 10 l.lines);
   sized : AreSized l.scenario.setup l.self;
 }
 

@@ -2,6 +2,7 @@ use Rattle.std.proofs.Common.{◌≡◌, ◌<◌, ◌∙◌, List, ap, arith, ge
 use Rattle.std.proofs.lemmas.List.{get_or_default}
 use Rattle.geo_base.specs.Mirror.{Mirror, Mirrors, no_mirror}
 use Rattle.trace_lines.specs.Said.{act_said}
+use Rattle.audit.proofs.Bringing.{one_brought_grows}
 use Rattle.audit.proofs.Needing.{Grown, one_grows}
 use Rattle.audit.proofs.Judging.{grown_after}
 use Rattle.audit.proofs.mirrors.AllMirrors.write.Goals as goal
@@ -14,4 +15,7 @@ invariant_of-self c =
     let is : c.index_mut.result.now ≡ get_or topics n no_mirror = c.index_mut.ensures.value ∙ get_or_default topics n c.index_mut.result.now no_mirror within in
     let grown : Grown c.index_mut.result.now.entries c.write.new.self.entries =
     grown_after c.write.result c.index_mut.result.now c.write.new.self (act_said c.args.written) c.write.ensures.ok c.write.ensures.err in
-    one_grows topics c.self.inside.covers.items n c.write.new.self (subst (λ (m : Mirror). Grown m.entries c.write.new.self.entries) is grown) c.self.invariant
+    let more : Grown (get_or topics n no_mirror).entries c.write.new.self.entries = subst (λ (m : Mirror). Grown m.entries c.write.new.self.entries) is grown in (
+      one_grows topics c.self.inside.covers.items n c.write.new.self more c.self.invariant.0,
+      one_brought_grows topics c.self.inside.brought.items n c.write.new.self more c.self.invariant.1,
+    )
