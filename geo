@@ -4,6 +4,7 @@
 #   ./geo run SCRIPT          a file behind a command is read in place of standard input, which is what the program itself reads;
 #   ./geo run SCRIPT ..       several behind run are several runs, each answer under a line `== SCRIPT`,
 #   ./geo resume STATE ..     and several behind resume are read one after the other, as a state and the events that go on from it
+#   ./geo steps from STATE .. and so behind steps from; ./geo show STATE is that of a state alone
 #   ./geo drill FILE          words that are no command of the program are of tools/geo_tools
 #
 # What runs is the first of these that no source is newer than: the proved program that tools/build made (.built/geo), the unproved one that a
@@ -118,10 +119,21 @@ if [[ $tool_words == *" ${words[0]:-.} "* ]]; then
     tool "$@"
 fi
 
+# a state alone: its steps, of which there are none
+if [ "${words[0]:-}" = show ]; then words=(steps from "${words[@]:1}"); fi
+
 # which words stand before the files
 own=0
 case "${words[0]:-}:${#words[@]}" in
 run:* | resume:* | save:2 | trace:2 | audit:2) own=1 ;;
+steps:1) ;;
+steps:*)
+    case ${words[1]} in
+    from) own=2 ;;
+    big) ;;
+    *) if [ ${#words[@]} = 2 ]; then own=1; fi ;;
+    esac
+    ;;
 compact:3 | tiered:3) own=2 ;;
 live:4) own=3 ;;
 save:* | trace:* | audit:* | compact:* | tiered:* | live:* | big:*) ;;
@@ -170,8 +182,8 @@ is_known() { [ -n "$program" ] && "$program" </dev/null 2>/dev/null | tr -c 'a-z
 read_input() {
     input=/dev/null
     case "${words[*]-}" in
-    run | save | resume | trace | audit | compact\ * | tiered\ * | live\ *) ;;
-    '' | big*) return ;;
+    run | save | resume | trace | audit | steps | steps\ from | compact\ * | tiered\ * | live\ *) ;;
+    '' | big* | steps\ *) return ;;
     *) if [ ${#files[@]} = 0 ] && ! is_known "${words[0]}"; then return; fi ;;
     esac
     if [ ${#files[@]} = 1 ] && [ -f "${files[0]}" ]; then

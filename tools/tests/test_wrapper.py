@@ -57,6 +57,35 @@ class Files(unittest.TestCase):
         self.assertEqual(done.returncode, 0)
         self.assertTrue(done.stdout.startswith('events 23 idle 0 rounds 1\n'))
 
+    def test_steps_of_a_state_and_its_events(self):
+        with tempfile.TemporaryDirectory() as folder:
+            state, events = os.path.join(folder, 'state'), os.path.join(folder, 'events')
+            with open(state, 'wb') as file:
+                subprocess.run([ROOT + '/geo', 'save', ONE], cwd=ROOT, env={**os.environ, 'GEO_PROGRAM': built_program()}, stdout=file, check=True)
+            with open(events, 'w', encoding='utf-8') as file:
+                file.write('# what goes on\nsettle\n')
+            status, out, said = asked('steps', 'from', state, events)
+            self.assertEqual((status, said), (0, ''))
+            self.assertIn('\nsteps\nevents 16 idle 0 rounds 0\n', out)
+            self.assertIn('\nstep 1 line 2 settle\n  event 17 ', out)
+            self.assertTrue(out.endswith('\nevents 23 idle 0 rounds 1\n'))
+            self.assertEqual(asked('show', state), asked('steps', 'from', state))
+            # a line that is refused is counted in the events
+            with open(events, 'w', encoding='utf-8') as file:
+                file.write('settle\ngo q\n')
+            status, out, said = asked('steps', 'from', state, events)
+            self.assertEqual((status, out), (BAD_SCRIPT, 'bad script line 2 rule 15\n'))
+            self.assertIn('(behind the state):2:4', said)
+
+    def test_steps_of_a_script(self):
+        status, out, said = asked('steps', ONE)
+        self.assertEqual((status, said), (0, ''))
+        self.assertEqual(asked('steps', given=content(ONE)), (0, out, ''))
+        self.assertTrue(out.endswith('\n' + content('examples/one_message.report').splitlines()[0] + '\n'))
+        status, out, said = asked('steps', 'big')
+        self.assertEqual(status, USAGE)
+        self.assertIn('steps big NUMBER', said)
+
     def test_what_cannot_be_read(self):
         status, out, said = asked('run', 'nowhere.geo')
         self.assertEqual((status, out, said), (NO_FILE, '', "geo: nowhere.geo can't be read\n"))

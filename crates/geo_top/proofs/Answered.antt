@@ -18,11 +18,12 @@ use Rattle.geo_top.specs.Claims.{HoldsOf, HoldsWithin}
 use Rattle.geo_top.specs.Commands.{Reads}
 use Rattle.geo_top.specs.Founded.{IsFounded, IsKnown, IsReady, IsSent}
 use Rattle.geo_top.specs.OneRun.{GoesOnAlike, IsKept}
-use Rattle.geo_top.specs.Outputs.{IsAnswerFor, IsAnswerToBytes, UnlessLarge, answer_to_big, output_of, refused, report_of}
+use Rattle.geo_top.specs.Outputs.{IsAnswerFor, IsAnswerToBytes, UnlessLarge, answer_to_big, answer_to_big_steps, output_of, refused, report_of}
 use Rattle.geo_top.specs.States.{file_of, gone_on, stopped}
 use Rattle.geo_top.specs.Statuses.{IsDue, IsMade, refusal_line}
+use Rattle.geo_top.specs.Stepped.{steps_of}
 use Rattle.geo_top.proofs.Accepted.{traced_accepted}
-use Rattle.geo_top.proofs.Answering.{big_is, counted, of_saved, of_script, ok_audited, ok_big, ok_resumed, ok_saved, safe_audited}
+use Rattle.geo_top.proofs.Answering.{big_is, counted, of_saved, of_script, ok_audited, ok_big, ok_big_steps, ok_resumed, ok_saved, ok_told, ok_told_on, safe_audited}
 use Rattle.geo_top.proofs.Causing.{IsCaused, caused, caused_made, lined}
 use Rattle.geo_top.proofs.Claims.{generated_holds, holds_of}
 use Rattle.geo_top.proofs.GoingOut.{only_answer, same_due, went, went_is, writes}
@@ -63,6 +64,9 @@ answered c input a f founded stood = record {
   audited = ok_audited c input a founded;
   audited_safe = safe_audited c input a founded;
   accepted = traced_accepted;
+  stepped = ok_told c input a founded (λ n. (a.bytes ≡ steps_of input n) × HoldsWithin n) (λ n k is none. (is, (none, holds_of n k.setup none)));
+  stepped_on = ok_told_on c input a founded;
+  stepped_big = λ number ok is. let big = ok_big_steps c input a number founded ok is in (big.0, (big.1, generated_holds number big.1));
   summary = λ number ok is. let big = ok_big c input a number founded ok is in (big.0, (big.1, generated_holds number big.1));
   quiet = generated_quiet;
   cause = cause_of c input f a.status (caused c input a founded.due);
@@ -89,6 +93,9 @@ founded_usage input a is = record { due = is; known = tt }
 
 pub founded_big : (input : List ℕ) (number : ℕ) (a : Answer) → a ≡ answer_to_big number → IsFounded (Some (command.Big number)) input a
 founded_big input number a is = record { due = is; known = tt }
+
+pub founded_big_steps : (input : List ℕ) (number : ℕ) (a : Answer) → a ≡ answer_to_big_steps number → IsFounded (Some (command.BigSteps number)) input a
+founded_big_steps input number a is = record { due = is; known = tt }
 
 pub founded_large : (r : Reading) (input : List ℕ) (a : Answer) → a ≡ refused (status.TooLarge 1) → 67108864 < length input → IsFounded (Some (command.Reads r)) input a
 founded_large r input a is long = record {
@@ -132,6 +139,9 @@ failed c input output f s fault cause out line = record {
   audited = λ is audit. absurd (other is);
   audited_safe = λ is audit. absurd (other is);
   accepted = traced_accepted;
+  stepped = λ is steps. absurd (other is);
+  stepped_on = λ is steps. absurd (other is);
+  stepped_big = λ number is big. absurd (other is);
   summary = λ number is big. absurd (other is);
   quiet = generated_quiet;
   cause = cause;
@@ -217,6 +227,9 @@ counted_again c input output f g s made stood h = record {
   audited = h.audited;
   audited_safe = h.audited_safe;
   accepted = h.accepted;
+  stepped = h.stepped;
+  stepped_on = h.stepped_on;
+  stepped_big = h.stepped_big;
   summary = h.summary;
   quiet = h.quiet;
   cause = cause_again c input f g s made h.cause;

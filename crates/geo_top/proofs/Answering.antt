@@ -17,6 +17,7 @@ use Rattle.script_inputs.specs.Starts.{declarations_in, trace_in}
 use Rattle.geo_top.specs.declared.top.answer.Answer.{Answer}
 use Rattle.geo_top.specs.declared.top.command.Command.{Command}
 use Rattle.geo_top.specs.declared.top.command.Command.TheVariants as command
+use Rattle.geo_top.specs.declared.top.command.GoingOn.TheVariants as going_on
 use Rattle.geo_top.specs.declared.top.command.Reading.{Reading}
 use Rattle.geo_top.specs.declared.top.command.Reading.TheVariants as reading
 use Rattle.geo_top.specs.declared.top.command.Shown.{Shown}
@@ -24,11 +25,12 @@ use Rattle.geo_top.specs.declared.top.command.Shown.TheVariants as shown
 use Rattle.geo_top.specs.declared.top.status.Status.TheVariants as status
 use Rattle.geo_top.specs.Answered.{OfSaved, OfScript}
 use Rattle.geo_top.specs.Audits.{IsAuditedSafe, audit_line}
-use Rattle.geo_top.specs.Commands.{audit_command, resume_command, save_command}
+use Rattle.geo_top.specs.Commands.{audit_command, resume_command, save_command, steps_command, steps_on_command}
 use Rattle.geo_top.specs.Founded.{IsAccepted, IsFounded, IsKnown, IsKnownFor}
 use Rattle.geo_top.specs.OneRun.{IsKept, IsSavedWith, counted_on, lines_before, text_on}
-use Rattle.geo_top.specs.Outputs.{IsAnswerFor, IsAnswerToBytes, IsAnswerToFile, IsAnswerToInput, UnlessLarge, answer_to, answer_to_audited, answer_to_big, answer_to_judged, answer_to_loaded, answer_to_resumed, answer_to_save, output_of, passed_limit, resumed_limit, resumed_report, summary_of, unless_passed}
+use Rattle.geo_top.specs.Outputs.{IsAnswerFor, IsAnswerToBytes, IsAnswerToFile, IsAnswerToInput, UnlessLarge, answer_to, answer_to_audited, answer_to_big, answer_to_judged, answer_to_loaded, answer_to_resumed, answer_to_save, answer_to_steps, answer_to_steps_on, big_steps, output_of, passed_limit, resumed_limit, resumed_report, summary_of, unless_passed}
 use Rattle.geo_top.specs.States.{file_of, state_of_run, stopped}
+use Rattle.geo_top.specs.Stepped.{steps_of, steps_on}
 use Rattle.script_inputs.specs.Generated.{generated_run}
 use Rattle.geo_top.proofs.Auditing.{accepted_safe}
 use Rattle.geo_top.proofs.OneRun.{counted_same, kept_is}
@@ -65,6 +67,16 @@ pub of_script : (c : Option Command) (input : List ℕ) (a : Answer) → IsFound
 of_script c input a f P holds = λ v ok is.
     by_script v a (script_of input) (P v) (ok_bytes (reading.Script v) c input a f ok is) ok (known_of (reading.Script v) c input a f ok is) (holds v)
 
+-- ---- to a script whose steps are told
+by_told : (a : Answer) (text : List ℕ) (r : Result Script Fault) (P : Script → Type 0) → a ≡ answer_to_steps text r → a.status ≡ status.Ok → IsAccepted r
+    → ((m : Script) → IsScenario m → a.bytes ≡ steps_of text m → passed_limit m ≡ None → P m) → IsOkAnd r P
+by_told a text (Ok m) P is ok known f = let p = ok_passed a (steps_of text m) (passed_limit m) is ok in f m known p.0 p.1
+by_told a text (Err e) P is ok known f = absurd (cc (ap (λ (a : Answer). a.status) is))
+
+pub ok_told : (c : Option Command) (input : List ℕ) (a : Answer) → IsFounded c input a → (P : Script → Type 0)
+    → ((m : Script) → IsScenario m → a.bytes ≡ steps_of input m → passed_limit m ≡ None → P m) → a.status ≡ status.Ok → c ≡ Some steps_command → IsOkAnd (script_of input) P
+ok_told c input a f P holds ok is = by_told a input (script_of input) P (ok_bytes reading.Steps c input a f ok is) ok (known_of reading.Steps c input a f ok is) holds
+
 -- ---- to a script whose run is saved
 by_save : (a : Answer) (r : Result Script Fault) → a ≡ answer_to_save r → a.status ≡ status.Ok → IsAccepted r → IsOkAnd r (λ m. IsKept m × (a.bytes ≡ file_of m))
 by_save a (Ok m) is ok known = let p = ok_passed a (file_of m) (passed_limit (stopped m)) is ok in (record { scenario = known; within = p.1 }, p.0)
@@ -85,13 +97,33 @@ by_steps : (a : Answer) (g : SavedState) (r : Result (List Step) Fault) → a �
 by_steps a g (Ok es) is ok = ok_passed a (resumed_report g es) (resumed_limit g es) is ok
 by_steps a g (Err e) is ok = absurd (cc (ap (λ (a : Answer). a.status) is))
 
-by_loaded : (input : List ℕ) (a : Answer) (l : Loaded) → IsLoaded input l → a ≡ answer_to_loaded input l → a.status ≡ status.Ok → GoesOn input a.bytes
+by_loaded : (input : List ℕ) (a : Answer) (l : Loaded) → IsLoaded input l → a ≡ answer_to_loaded going_on.Report input l → a.status ≡ status.Ok → GoesOn input a.bytes
 by_loaded input a (Ok x) loaded is ok = (x.0, x.1, loaded, by_steps a x.0 (schedule_of x.0.scenario.setup (drop x.1 input)) is ok)
 by_loaded input a (Err (bad_state offset rule)) loaded is ok = absurd (cc (ap (λ (a : Answer). a.status) is))
 by_loaded input a (Err (version number)) loaded is ok = absurd (cc (ap (λ (a : Answer). a.status) is))
 
 pub ok_resumed : (c : Option Command) (input : List ℕ) (a : Answer) → IsFounded c input a → a.status ≡ status.Ok → c ≡ Some resume_command → GoesOn input a.bytes
-ok_resumed c input a f ok is = let file = ok_bytes reading.Resume c input a f ok is in by_loaded input a file.0 file.1 file.2 ok
+ok_resumed c input a f ok is = let file = ok_bytes (reading.Resume going_on.Report) c input a f ok is in by_loaded input a file.0 file.1 file.2 ok
+
+-- with its steps told
+abbrev pub Tells : List ℕ → SavedState → List ℕ → List Step → Type 0
+Tells output g lines es = (output ≡ steps_on g lines es) × (resumed_limit g es ≡ None)
+
+abbrev pub TellsOn : List ℕ → List ℕ → Type 0
+TellsOn input output =
+    (g : SavedState) × (used : ℕ) × IsLoaded input (Ok (g, used)) × IsOkAnd (schedule_of g.scenario.setup (drop used input)) (Tells output g (drop used input))
+
+by_steps_told : (a : Answer) (g : SavedState) (lines : List ℕ) (r : Result (List Step) Fault) → a ≡ answer_to_steps_on g lines r → a.status ≡ status.Ok → IsOkAnd r (Tells a.bytes g lines)
+by_steps_told a g lines (Ok es) is ok = ok_passed a (steps_on g lines es) (resumed_limit g es) is ok
+by_steps_told a g lines (Err e) is ok = absurd (cc (ap (λ (a : Answer). a.status) is))
+
+by_told_on : (input : List ℕ) (a : Answer) (l : Loaded) → IsLoaded input l → a ≡ answer_to_loaded going_on.Steps input l → a.status ≡ status.Ok → TellsOn input a.bytes
+by_told_on input a (Ok x) loaded is ok = (x.0, x.1, loaded, by_steps_told a x.0 (drop x.1 input) (schedule_of x.0.scenario.setup (drop x.1 input)) is ok)
+by_told_on input a (Err (bad_state offset rule)) loaded is ok = absurd (cc (ap (λ (a : Answer). a.status) is))
+by_told_on input a (Err (version number)) loaded is ok = absurd (cc (ap (λ (a : Answer). a.status) is))
+
+pub ok_told_on : (c : Option Command) (input : List ℕ) (a : Answer) → IsFounded c input a → a.status ≡ status.Ok → c ≡ Some steps_on_command → TellsOn input a.bytes
+ok_told_on c input a f ok is = let file = ok_bytes (reading.Resume going_on.Steps) c input a f ok is in by_told_on input a file.0 file.1 file.2 ok
 
 -- and where it is what `save` wrote of a script
 pub of_saved : (c : Option Command) (input : List ℕ) (a : Answer) → IsFounded c input a → (Q : Script → List Step → Type 0)
@@ -102,7 +134,7 @@ of_saved c input a f Q holds = λ n lines ok is k.
     (loaded_holds n lines input g.0 g.1 (Reports a.bytes) k g.2 g.3)
 
 -- what is read is small
-small_file : (t : Bool) (input : List ℕ) (a : Answer) → nat_lt 67108864 (length input) ≡ t → t ≡ false → UnlessLarge t a (IsAnswerToFile input a) → IsAnswerToFile input a
+small_file : (t : Bool) (input : List ℕ) (a : Answer) → nat_lt 67108864 (length input) ≡ t → t ≡ false → UnlessLarge t a (IsAnswerToFile going_on.Report input a) → IsAnswerToFile going_on.Report input a
 small_file true input a is small due = absurd (cc small)
 small_file false input a is small due = due
 
@@ -111,7 +143,7 @@ pub counted : (c : Option Command) (input : List ℕ) (a : Answer) → IsFounded
     → counted_on (lines_before text) a a.status ≡ answer_to shown.Report (script_of (text_on text lines))
 counted c input a f text lines n small is said k =
     counted_same resumed_law text lines input n a (reached_law.opening n.setup) (kept_is reached_law n k.kept) said k
-    (small_file (nat_lt 67108864 (length input)) input a refl small (of_reading reading.Resume c input a is f.due))
+    (small_file (nat_lt 67108864 (length input)) input a refl small (of_reading (reading.Resume going_on.Report) c input a is f.due))
 
 -- ---- to a trace
 abbrev pub IsTold : List ℕ → Setup → List ℕ → Type 0
@@ -142,3 +174,8 @@ big_is c input a number f is = subst (λ (c : Option Command). IsAnswerFor c inp
 pub ok_big : (c : Option Command) (input : List ℕ) (a : Answer) (number : ℕ) → IsFounded c input a → a.status ≡ status.Ok → c ≡ Some (command.Big number)
     → (a.bytes ≡ summary_of number) × (passed_limit (generated_run number) ≡ None)
 ok_big c input a number f ok is = ok_passed a (summary_of number) (passed_limit (generated_run number)) (big_is c input a number f is) ok
+
+pub ok_big_steps : (c : Option Command) (input : List ℕ) (a : Answer) (number : ℕ) → IsFounded c input a → a.status ≡ status.Ok → c ≡ Some (command.BigSteps number)
+    → (a.bytes ≡ big_steps number) × (passed_limit (generated_run number) ≡ None)
+ok_big_steps c input a number f ok is =
+    ok_passed a (big_steps number) (passed_limit (generated_run number)) (subst (λ (c : Option Command). IsAnswerFor c input a) is f.due) ok

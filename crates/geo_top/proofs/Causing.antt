@@ -14,16 +14,19 @@ use Rattle.script_inputs.specs.Starts.{declarations_in, trace_in}
 use Rattle.geo_top.specs.declared.top.answer.Answer.{Answer}
 use Rattle.geo_top.specs.declared.top.command.Command.{Command}
 use Rattle.geo_top.specs.declared.top.command.Command.TheVariants as command
+use Rattle.geo_top.specs.declared.top.command.GoingOn.{GoingOn}
+use Rattle.geo_top.specs.declared.top.command.GoingOn.TheVariants as going_on
 use Rattle.geo_top.specs.declared.top.command.Reading.{Reading}
 use Rattle.geo_top.specs.declared.top.command.Reading.TheVariants as reading
 use Rattle.geo_top.specs.declared.top.command.Shown.{Shown}
 use Rattle.geo_top.specs.declared.top.status.Status.{Status}
 use Rattle.geo_top.specs.declared.top.status.Status.TheVariants as status
 use Rattle.geo_top.specs.Causes.{HasBadLine, HasBadState, HasRefusedLine, IsPassed, RunPasses}
-use Rattle.geo_top.specs.Commands.{audit_command, command_showing}
-use Rattle.geo_top.specs.Outputs.{IsAnswerFor, IsAnswerToBytes, UnlessLarge, answer_to, answer_to_audited, answer_to_generated, answer_to_judged, answer_to_loaded, answer_to_resumed, answer_to_save, output_of, passed_limit, resumed_limit, resumed_report, summary_of, unless_passed}
+use Rattle.geo_top.specs.Commands.{audit_command, command_resuming, command_showing, resume_command, steps_on_command}
+use Rattle.geo_top.specs.Outputs.{IsAnswerFor, IsAnswerToBytes, UnlessLarge, answer_going_on, answer_to, answer_to_audited, answer_to_generated, answer_to_judged, answer_to_loaded, answer_to_resumed, answer_to_save, answer_to_steps, answer_to_steps_on, big_steps, output_of, passed_limit, resumed_limit, resumed_report, summary_of, unless_passed}
 use Rattle.geo_top.specs.States.{file_of, stopped}
 use Rattle.geo_top.specs.Statuses.{IsMade, refusal_line}
+use Rattle.geo_top.specs.Stepped.{steps_of, steps_on}
 use Rattle.script_inputs.specs.Generated.{generated_run}
 use Rattle.geo_top.proofs.Limits.{IsOnlyLimit, only_limit, only_limit_from}
 
@@ -58,6 +61,12 @@ caused_script v input (Ok m) script =
     (λ limit passed. ok_with (script_of input) m (λ n. passed_limit n ≡ Some limit) script passed)
 caused_script v input (Err f) script = script
 
+caused_told : (input : List ℕ) (r : Result Script Fault) → script_of input ≡ r → IsCaused (Some (command.Reads reading.Steps)) input (answer_to_steps input r).status
+caused_told input (Ok m) script =
+    caused_passed reading.Steps input (steps_of input m) (passed_limit m) (only_limit m.setup m.steps)
+    (λ limit passed. ok_with (script_of input) m (λ n. passed_limit n ≡ Some limit) script passed)
+caused_told input (Err f) script = script
+
 caused_save : (input : List ℕ) (r : Result Script Fault) → script_of input ≡ r → IsCaused (Some (command.Reads reading.Save)) input (answer_to_save r).status
 caused_save input (Ok m) script =
     caused_passed reading.Save input (file_of m) (passed_limit (stopped m)) (only_limit m.setup (stopped m).steps)
@@ -65,16 +74,27 @@ caused_save input (Ok m) script =
 caused_save input (Err f) script = script
 
 caused_steps : (input : List ℕ) (g : SavedState) (used : ℕ) (r : Result (List Step) Fault) → IsLoaded input (Ok (g, used)) → schedule_of g.scenario.setup (drop used input) ≡ r
-    → IsCaused (Some (command.Reads reading.Resume)) input (answer_to_resumed g r).status
+    → IsCaused (Some resume_command) input (answer_to_resumed g r).status
 caused_steps input g used (Ok es) loaded is =
-    caused_passed reading.Resume input (resumed_report g es) (resumed_limit g es) (only_limit_from g.scenario.setup _ es refl)
+    caused_passed (reading.Resume going_on.Report) input (resumed_report g es) (resumed_limit g es) (only_limit_from g.scenario.setup _ es refl)
     (λ limit passed. (g, used, loaded, ok_with (schedule_of g.scenario.setup (drop used input)) es (λ fs. resumed_limit g fs ≡ Some limit) is passed))
 caused_steps input g used (Err e) loaded is = (g, used, loaded, is)
 
-caused_resume : (input : List ℕ) (l : Loaded) → IsLoaded input l → IsCaused (Some (command.Reads reading.Resume)) input (answer_to_loaded input l).status
-caused_resume input (Ok x) loaded = caused_steps input x.0 x.1 (schedule_of x.0.scenario.setup (drop x.1 input)) loaded refl
-caused_resume input (Err (bad_state offset rule)) loaded = (refl, loaded)
-caused_resume input (Err (version number)) loaded = (refl, loaded)
+caused_steps_on : (input : List ℕ) (g : SavedState) (used : ℕ) (r : Result (List Step) Fault) → IsLoaded input (Ok (g, used)) → schedule_of g.scenario.setup (drop used input) ≡ r
+    → IsCaused (Some steps_on_command) input (answer_to_steps_on g (drop used input) r).status
+caused_steps_on input g used (Ok es) loaded is =
+    caused_passed (reading.Resume going_on.Steps) input (steps_on g (drop used input) es) (resumed_limit g es) (only_limit_from g.scenario.setup _ es refl)
+    (λ limit passed. (g, used, loaded, ok_with (schedule_of g.scenario.setup (drop used input)) es (λ fs. resumed_limit g fs ≡ Some limit) is passed))
+caused_steps_on input g used (Err e) loaded is = (g, used, loaded, is)
+
+caused_on : (v : GoingOn) (input : List ℕ) (g : SavedState) (used : ℕ) → IsLoaded input (Ok (g, used)) → IsCaused (Some (command_resuming v)) input (answer_going_on v g (drop used input)).status
+caused_on going_on.Report input g used loaded = caused_steps input g used (schedule_of g.scenario.setup (drop used input)) loaded refl
+caused_on going_on.Steps input g used loaded = caused_steps_on input g used (schedule_of g.scenario.setup (drop used input)) loaded refl
+
+caused_resume : (v : GoingOn) (input : List ℕ) (l : Loaded) → IsLoaded input l → IsCaused (Some (command_resuming v)) input (answer_to_loaded v input l).status
+caused_resume v input (Ok x) loaded = caused_on v input x.0 x.1 loaded
+caused_resume v input (Err (bad_state offset rule)) loaded = (v, refl, loaded)
+caused_resume v input (Err (version number)) loaded = (v, refl, loaded)
 
 caused_judged : (input : List ℕ) (n : Script) (r : Result ℕ RefusedLine) → script_of (declarations_in input) ≡ Ok n → audit_of n.setup (trace_in input) ≡ r
     → IsCaused (Some audit_command) input (answer_to_judged r).status
@@ -90,16 +110,23 @@ caused_bytes (reading.Script v) input a is =
     subst (λ (a : Answer). IsCaused (Some (command_showing v)) input a.status) (sym is) (caused_script v input (script_of input) refl)
 caused_bytes reading.Save input a is =
     subst (λ (a : Answer). IsCaused (Some (command.Reads reading.Save)) input a.status) (sym is) (caused_save input (script_of input) refl)
-caused_bytes reading.Resume input a is =
-    subst (λ (a : Answer). IsCaused (Some (command.Reads reading.Resume)) input a.status) (sym is.2) (caused_resume input is.0 is.1)
+caused_bytes (reading.Resume v) input a is =
+    subst (λ (a : Answer). IsCaused (Some (command_resuming v)) input a.status) (sym is.2) (caused_resume v input is.0 is.1)
 caused_bytes reading.Audit input a is =
     subst (λ (a : Answer). IsCaused (Some audit_command) input a.status) (sym is) (caused_audit input (script_of (declarations_in input)) refl)
+caused_bytes reading.Steps input a is =
+    subst (λ (a : Answer). IsCaused (Some (command.Reads reading.Steps)) input a.status) (sym is) (caused_told input (script_of input) refl)
 
 caused_input : (t : Bool) (r : Reading) (input : List ℕ) (a : Answer) → nat_lt 67108864 (length input) ≡ t → UnlessLarge t a (IsAnswerToBytes r input a)
     → IsCaused (Some (command.Reads r)) input a.status
 caused_input true r input a long is =
     subst (λ (a : Answer). IsCaused (Some (command.Reads r)) input a.status) (sym is) (inl ((r, refl), refl, ltb-true 67108864 (length input) long))
 caused_input false r input a long is = caused_bytes r input a is
+
+caused_big_steps : (input : List ℕ) (number : ℕ) (o : Option ℕ) → passed_limit (generated_run number) ≡ o → IsOnlyLimit o
+    → IsCaused (Some (command.BigSteps number)) input (unless_passed (big_steps number) o).status
+caused_big_steps input number None passed only = some_command (command.BigSteps number)
+caused_big_steps input number (Some limit) passed only = inr (only, passed)
 
 caused_big : (input : List ℕ) (number : ℕ) (o : Option ℕ) → passed_limit (generated_run number) ≡ o → IsOnlyLimit o
     → IsCaused (Some (command.Big number)) input (answer_to_generated number o).status
@@ -112,6 +139,9 @@ caused (Some (command.Reads r)) input a is = caused_input (nat_lt 67108864 (leng
 caused (Some (command.Big number)) input a is =
     let m = generated_run number in
     subst (λ (a : Answer). IsCaused (Some (command.Big number)) input a.status) (sym is) (caused_big input number (passed_limit m) refl (only_limit m.setup m.steps))
+caused (Some (command.BigSteps number)) input a is =
+    let m = generated_run number in
+    subst (λ (a : Answer). IsCaused (Some (command.BigSteps number)) input a.status) (sym is) (caused_big_steps input number (passed_limit m) refl (only_limit m.setup m.steps))
 
 -- so neither a fault nor want of memory is answered
 pub caused_made : (c : Option Command) (input : List ℕ) (s : Status) → IsCaused c input s → IsMade s
@@ -142,6 +172,10 @@ line_script : (v : Shown) (r : Result Script Fault) → Lined (answer_to v r)
 line_script v (Ok m) = line_passed (output_of v m) (passed_limit m)
 line_script v (Err f) = refl
 
+line_told : (text : List ℕ) (r : Result Script Fault) → Lined (answer_to_steps text r)
+line_told text (Ok m) = line_passed (steps_of text m) (passed_limit m)
+line_told text (Err f) = refl
+
 line_save : (r : Result Script Fault) → Lined (answer_to_save r)
 line_save (Ok m) = line_passed (file_of m) (passed_limit (stopped m))
 line_save (Err f) = refl
@@ -150,10 +184,18 @@ line_steps : (g : SavedState) (r : Result (List Step) Fault) → Lined (answer_t
 line_steps g (Ok es) = line_passed (resumed_report g es) (resumed_limit g es)
 line_steps g (Err e) = refl
 
-line_loaded : (input : List ℕ) (l : Loaded) → Lined (answer_to_loaded input l)
-line_loaded input (Ok x) = line_steps x.0 (schedule_of x.0.scenario.setup (drop x.1 input))
-line_loaded input (Err (bad_state offset rule)) = refl
-line_loaded input (Err (version number)) = refl
+line_steps_on : (g : SavedState) (lines : List ℕ) (r : Result (List Step) Fault) → Lined (answer_to_steps_on g lines r)
+line_steps_on g lines (Ok es) = line_passed (steps_on g lines es) (resumed_limit g es)
+line_steps_on g lines (Err e) = refl
+
+line_on : (v : GoingOn) (g : SavedState) (lines : List ℕ) → Lined (answer_going_on v g lines)
+line_on going_on.Report g lines = line_steps g (schedule_of g.scenario.setup lines)
+line_on going_on.Steps g lines = line_steps_on g lines (schedule_of g.scenario.setup lines)
+
+line_loaded : (v : GoingOn) (input : List ℕ) (l : Loaded) → Lined (answer_to_loaded v input l)
+line_loaded v input (Ok x) = line_on v x.0 (drop x.1 input)
+line_loaded v input (Err (bad_state offset rule)) = refl
+line_loaded v input (Err (version number)) = refl
 
 line_judged : (r : Result ℕ RefusedLine) → Lined (answer_to_judged r)
 line_judged (Ok events) = tt
@@ -166,8 +208,9 @@ line_audit trace (Err f) = refl
 line_bytes : (r : Reading) (input : List ℕ) (a : Answer) → IsAnswerToBytes r input a → Lined a
 line_bytes (reading.Script v) input a is = subst Lined (sym is) (line_script v (script_of input))
 line_bytes reading.Save input a is = subst Lined (sym is) (line_save (script_of input))
-line_bytes reading.Resume input a is = subst Lined (sym is.2) (line_loaded input is.0)
+line_bytes (reading.Resume v) input a is = subst Lined (sym is.2) (line_loaded v input is.0)
 line_bytes reading.Audit input a is = subst Lined (sym is) (line_audit (trace_in input) (script_of (declarations_in input)))
+line_bytes reading.Steps input a is = subst Lined (sym is) (line_told input (script_of input))
 
 line_input : (t : Bool) (r : Reading) (input : List ℕ) (a : Answer) → UnlessLarge t a (IsAnswerToBytes r input a) → Lined a
 line_input true r input a is = subst Lined (sym is) refl
@@ -177,3 +220,4 @@ pub lined : (c : Option Command) (input : List ℕ) (a : Answer) → IsAnswerFor
 lined None input a is = subst Lined (sym is) refl
 lined (Some (command.Reads r)) input a is = line_input (nat_lt 67108864 (length input)) r input a is
 lined (Some (command.Big number)) input a is = subst Lined (sym is) (line_passed (summary_of number) (passed_limit (generated_run number)))
+lined (Some (command.BigSteps number)) input a is = subst Lined (sym is) (line_passed (big_steps number) (passed_limit (generated_run number)))

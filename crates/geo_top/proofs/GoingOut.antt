@@ -5,6 +5,7 @@ use Rattle.state_file.proofs.One.{loaded_one}
 use Rattle.geo_top.specs.declared.top.answer.Answer.{Answer}
 use Rattle.geo_top.specs.declared.top.command.Command.{Command}
 use Rattle.geo_top.specs.declared.top.command.Command.TheVariants as command
+use Rattle.geo_top.specs.declared.top.command.GoingOn.{GoingOn}
 use Rattle.geo_top.specs.declared.top.command.Reading.{Reading}
 use Rattle.geo_top.specs.declared.top.command.Reading.TheVariants as reading
 use Rattle.geo_top.specs.declared.top.status.Status.{Status}
@@ -15,15 +16,16 @@ use Rattle.geo_top.specs.Statuses.{IsDue, IsMade}
 use Rattle.geo_top.proofs.Causing.{IsLine}
 
 -- ---- words and an input have one answer at most
-one_file : (input : List ℕ) (a d : Answer) → IsAnswerToFile input a → IsAnswerToFile input d → a ≡ d
-one_file input a d own is =
-    own.2 ∙ (ap (answer_to_loaded input) (loaded_one input own.0 is.0 own.1 is.1) ∙ sym is.2)
+one_file : (v : GoingOn) (input : List ℕ) (a d : Answer) → IsAnswerToFile v input a → IsAnswerToFile v input d → a ≡ d
+one_file v input a d own is =
+    own.2 ∙ (ap (answer_to_loaded v input) (loaded_one input own.0 is.0 own.1 is.1) ∙ sym is.2)
 
 one_bytes : (r : Reading) (input : List ℕ) (a d : Answer) → IsAnswerToBytes r input a → IsAnswerToBytes r input d → a ≡ d
 one_bytes (reading.Script v) input a d own is = own ∙ sym is
 one_bytes reading.Save input a d own is = own ∙ sym is
-one_bytes reading.Resume input a d own is = one_file input a d own is
+one_bytes (reading.Resume v) input a d own is = one_file v input a d own is
 one_bytes reading.Audit input a d own is = own ∙ sym is
+one_bytes reading.Steps input a d own is = own ∙ sym is
 
 one_input : (t : Bool) (r : Reading) (input : List ℕ) (a d : Answer) → UnlessLarge t a (IsAnswerToBytes r input a) → UnlessLarge t d (IsAnswerToBytes r input d) → a ≡ d
 one_input true r input a d own is = own ∙ sym is
@@ -33,6 +35,7 @@ pub only_answer : (c : Option Command) (input : List ℕ) (a d : Answer) → IsA
 only_answer None input a d own is = own ∙ sym is
 only_answer (Some (command.Reads r)) input a d own is = one_input (nat_lt 67108864 (length input)) r input a d own is
 only_answer (Some (command.Big number)) input a d own is = own ∙ sym is
+only_answer (Some (command.BigSteps number)) input a d own is = own ∙ sym is
 
 -- ---- what is due
 itself_due : (s : Status) → IsDue s s

@@ -87,11 +87,13 @@ pub input_some : (c : Option Command) → has_input c ≡ true → Reads c
 input_some None is = absurd (cc is)
 input_some (Some (command.Reads r)) is = (r, refl)
 input_some (Some (command.Big number)) is = absurd (cc is)
+input_some (Some (command.BigSteps number)) is = absurd (cc is)
 
 pub input_none : (c : Option Command) → has_input c ≡ false → Reads c → ⊥
 input_none None is reads = cc reads.1
 input_none (Some (command.Reads r)) is reads = cc is
 input_none (Some (command.Big number)) is reads = cc reads.1
+input_none (Some (command.BigSteps number)) is reads = cc reads.1
 
 -- ---- what was read, and an answer to it
 abbrev OnMade : Result Answer Memory → Type 0

@@ -32,3 +32,5 @@ pub mod GoingOut
 pub mod Answered
 pub mod Inputs
 pub mod TracedRuns
+pub mod SaidSteps
+pub mod SteppedRuns

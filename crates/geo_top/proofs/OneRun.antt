@@ -23,6 +23,7 @@ use Rattle.world_laws.specs.AlikeWorlds.{LawResumed, RunsAlike, kept_behind}
 use Rattle.world_laws.specs.Reached.{LawReached}
 use Rattle.world_laws.specs.Starts.{IsStart, resumed_world}
 use Rattle.geo_top.specs.declared.top.answer.Answer.{Answer}
+use Rattle.geo_top.specs.declared.top.command.GoingOn.TheVariants as going_on
 use Rattle.geo_top.specs.declared.top.command.Shown.TheVariants as shown
 use Rattle.geo_top.specs.declared.top.status.Status.TheVariants as status
 use Rattle.geo_top.specs.OneRun.{IsGoneOn, IsKept, IsSavedWith, IsTextOn, counted_on, lines_before, text_on}
@@ -103,7 +104,7 @@ text_is text lines n k is =
 
 -- ---- the file
 pub files_same : (law : LawResumed) (text lines input : List ℕ) (n : Script) (es : List Step) (a : Answer) → IsStart n.setup (opening_world n.setup)
-    → world_from (state_of_run n) ≡ kept_behind n.setup n.steps → script_of (text ++ 10 ∷ []) ≡ Ok n → IsSavedWith n lines input → schedule_of n.setup lines ≡ Ok es → IsAnswerToFile input a
+    → world_from (state_of_run n) ≡ kept_behind n.setup n.steps → script_of (text ++ 10 ∷ []) ≡ Ok n → IsSavedWith n lines input → schedule_of n.setup lines ≡ Ok es → IsAnswerToFile going_on.Report input a
     → a ≡ answer_to shown.Report (script_of (text_on text lines))
 files_same law text lines input n es a start kept is k said answer =
     let on = (text_is text lines n k.kept is).accepted es said in
@@ -118,7 +119,7 @@ counted_passed before bytes (Some limit) = refl
 
 -- so it is of a line that is refused, by its number there
 pub counted_same : (law : LawResumed) (text lines input : List ℕ) (n : Script) (a : Answer) → IsStart n.setup (opening_world n.setup)
-    → world_from (state_of_run n) ≡ kept_behind n.setup n.steps → script_of (text ++ 10 ∷ []) ≡ Ok n → IsSavedWith n lines input → IsAnswerToFile input a
+    → world_from (state_of_run n) ≡ kept_behind n.setup n.steps → script_of (text ++ 10 ∷ []) ≡ Ok n → IsSavedWith n lines input → IsAnswerToFile going_on.Report input a
     → counted_on (lines_before text) a a.status ≡ answer_to shown.Report (script_of (text_on text lines))
 counted_same law text lines input n a start kept is k answer = by (schedule_of n.setup lines) refl
   where

@@ -9,6 +9,7 @@ use Rattle.state_file.specs.Loading.{IsLoaded, Loaded}
 use Rattle.state_file.specs.State.{SavedState}
 use Rattle.state_file.proofs.One.{loaded_one}
 use Rattle.geo_top.specs.declared.top.answer.Answer.{Answer}
+use Rattle.geo_top.specs.declared.top.command.GoingOn.TheVariants as going_on
 use Rattle.geo_top.specs.OneRun.{IsSavedWith}
 use Rattle.geo_top.specs.Outputs.{IsAnswerToFile, answer_to_loaded, answer_to_resumed}
 use Rattle.geo_top.specs.States.{file_of, state_of_run}
@@ -22,9 +23,9 @@ lines_behind n lines input k = ap (drop (length (file_of n))) k.is ∙ drop-appe
 state_loaded : (n : Script) (lines input : List ℕ) (l : Loaded) → IsSavedWith n lines input → IsLoaded input l → l ≡ Ok (state_of_run n, length (file_of n))
 state_loaded n lines input l k loaded = loaded_one input l (Ok (state_of_run n, length (file_of n))) loaded (loaded_again n lines input k.kept k.is k.read)
 
-pub answer_is : (n : Script) (lines input : List ℕ) (a : Answer) → IsSavedWith n lines input → IsAnswerToFile input a → a ≡ answer_to_resumed (state_of_run n) (schedule_of n.setup lines)
+pub answer_is : (n : Script) (lines input : List ℕ) (a : Answer) → IsSavedWith n lines input → IsAnswerToFile going_on.Report input a → a ≡ answer_to_resumed (state_of_run n) (schedule_of n.setup lines)
 answer_is n lines input a k is =
-    is.2 ∙ (ap (answer_to_loaded input) (state_loaded n lines input is.0 k is.1) ∙ ap (λ (bytes : List ℕ). answer_to_resumed (state_of_run n) (schedule_of n.setup bytes)) (lines_behind n lines input k))
+    is.2 ∙ (ap (answer_to_loaded going_on.Report input) (state_loaded n lines input is.0 k is.1) ∙ ap (λ (bytes : List ℕ). answer_to_resumed (state_of_run n) (schedule_of n.setup bytes)) (lines_behind n lines input k))
 
 -- what holds of the state that is loaded and the steps behind it
 abbrev HoldsLoaded : (SavedState → List Step → Type 0) → List ℕ → SavedState × ℕ → Type 0

@@ -6,15 +6,16 @@ use Rattle.geo_base.specs.declared.memory.Memory.{Memory}
 use Rattle.geo_base.specs.Report.{report}
 use Rattle.geo_base.specs.Run.{all_limits}
 use Rattle.world.specs.World.{WorldBook}
-use Rattle.script_text.specs.Schedule.{schedule_of}
 use Rattle.script_text.specs.Script.{Script}
 use Rattle.state_file.specs.Loading.{IsLoaded, bad_state, version}
 use Rattle.state_file.specs.State.{SavedState}
 use Rattle.geo_top.specs.declared.top.answer.Answer.{Answer}
+use Rattle.geo_top.specs.declared.top.command.GoingOn.{GoingOn}
 use Rattle.geo_top.specs.declared.top.status.Status.TheVariants as status
 use Rattle.geo_top.specs.Finished.{IsResumed}
-use Rattle.geo_top.specs.Outputs.{IsAnswerToFile, answer_to_resumed, answer_to_saved, passed_limit, refused, resumed_report, unless_passed}
+use Rattle.geo_top.specs.Outputs.{IsAnswerToFile, answer_going_on, answer_to_resumed, answer_to_saved, answer_to_steps_on, passed_limit, refused, resumed_report, unless_passed}
 use Rattle.geo_top.specs.Shown.{shown_world}
+use Rattle.geo_top.specs.Stepped.{steps_on}
 use Rattle.geo_top.specs.States.{file_of, resumed_under, stopped}
 use Rattle.geo_top.proofs.Shown.{shown_resumed}
 
@@ -45,16 +46,23 @@ pub resumed_refused : (f : SavedState) (es : List Step) (limit : ℕ) (a : Answe
     → a ≡ answer_to_resumed f (Ok es)
 resumed_refused f es limit a some is = over (resumed_report f es) (resumed_under all_limits f es).ended limit a some is
 
-pub file_answered : (input rest : List ℕ) (f : SavedState) (used : ℕ) (r : Result Answer Memory) → IsLoaded input (Ok (f, used)) → rest ≡ drop used input
-    → IfOk r (λ a. a ≡ answer_to_resumed f (schedule_of f.scenario.setup rest)) → IfOk r (IsAnswerToFile input)
-file_answered input rest f used (Ok a) loaded behind is =
-    (Ok (f, used), loaded, is ∙ ap (λ (bytes : List ℕ). answer_to_resumed f (schedule_of f.scenario.setup bytes)) behind)
-file_answered input rest f used (Err e) loaded behind is = tt
+pub stepped_whole : (f : SavedState) (lines : List ℕ) (es : List Step) (bytes : List ℕ) → bytes ≡ steps_on f lines es → (resumed_under all_limits f es).ended ≡ None
+    → ok_answer bytes ≡ answer_to_steps_on f lines (Ok es)
+stepped_whole f lines es bytes is none = whole bytes (steps_on f lines es) (resumed_under all_limits f es).ended is none
 
-pub file_refused : (input : List ℕ) (offset rule : ℕ) (r : Result Answer Memory) → IsLoaded input (Err (bad_state offset rule)) → IfOk r (λ a. a ≡ refused (status.BadState offset rule)) → IfOk r (IsAnswerToFile input)
-file_refused input offset rule (Ok a) loaded is = (Err (bad_state offset rule), loaded, is)
-file_refused input offset rule (Err e) loaded is = tt
+pub stepped_refused : (f : SavedState) (lines : List ℕ) (es : List Step) (limit : ℕ) (a : Answer) → (resumed_under all_limits f es).ended ≡ Some limit → a ≡ refused (status.TooLarge limit)
+    → a ≡ answer_to_steps_on f lines (Ok es)
+stepped_refused f lines es limit a some is = over (steps_on f lines es) (resumed_under all_limits f es).ended limit a some is
 
-pub file_strange : (input : List ℕ) (number : ℕ) (r : Result Answer Memory) → IsLoaded input (Err (version number)) → IfOk r (λ a. a ≡ refused (status.StateVersion number)) → IfOk r (IsAnswerToFile input)
-file_strange input number (Ok a) loaded is = (Err (version number), loaded, is)
-file_strange input number (Err e) loaded is = tt
+pub file_answered : (v : GoingOn) (input rest : List ℕ) (f : SavedState) (used : ℕ) (r : Result Answer Memory) → IsLoaded input (Ok (f, used)) → rest ≡ drop used input
+    → IfOk r (λ a. a ≡ answer_going_on v f rest) → IfOk r (IsAnswerToFile v input)
+file_answered v input rest f used (Ok a) loaded behind is = (Ok (f, used), loaded, is ∙ ap (answer_going_on v f) behind)
+file_answered v input rest f used (Err e) loaded behind is = tt
+
+pub file_refused : (v : GoingOn) (input : List ℕ) (offset rule : ℕ) (r : Result Answer Memory) → IsLoaded input (Err (bad_state offset rule)) → IfOk r (λ a. a ≡ refused (status.BadState offset rule)) → IfOk r (IsAnswerToFile v input)
+file_refused v input offset rule (Ok a) loaded is = (Err (bad_state offset rule), loaded, is)
+file_refused v input offset rule (Err e) loaded is = tt
+
+pub file_strange : (v : GoingOn) (input : List ℕ) (number : ℕ) (r : Result Answer Memory) → IsLoaded input (Err (version number)) → IfOk r (λ a. a ≡ refused (status.StateVersion number)) → IfOk r (IsAnswerToFile v input)
+file_strange v input number (Ok a) loaded is = (Err (version number), loaded, is)
+file_strange v input number (Err e) loaded is = tt

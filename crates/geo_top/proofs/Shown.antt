@@ -56,6 +56,10 @@ unfolding summary_lines
 same_summary number s w =
     ap (λ (ls : List (List ℕ)). with_line_feeds (big_line number ∷ ls ++ (codes "quiet" ∷ head_line w ∷ []))) (same_stored s w 0 s.clusters)
 
+-- the report that is shown of a world is that of the machine's
+pub shown_same : (s : Setup) (b : WorldBook) (w : World) → Stands s (kept_of b) w → report s (shown_world b) ≡ report s w
+shown_same s b w h = ap (report s) (shown_is s b w h) ∙ same_report s w
+
 pub shown_report : (n : Script) (b : WorldBook) (bytes : List ℕ) → IsFinished n b → bytes ≡ report n.setup (shown_world b) → bytes ≡ report_of n
 shown_report n b bytes f is =
     let w = run n.setup n.steps in is ∙ (ap (report n.setup) (shown_is n.setup b w f.stands) ∙ same_report n.setup w)

@@ -23,11 +23,12 @@ use Rattle.geo_top.specs.declared.top.status.Status.TheVariants as status
 use Rattle.geo_top.specs.Audits.{IsAuditedSafe, audit_line}
 use Rattle.geo_top.specs.Causes.{HasBadLine, HasBadState, HasRefusedLine, IsPassed}
 use Rattle.geo_top.specs.Claims.{HoldsOf, HoldsWithin}
-use Rattle.geo_top.specs.Commands.{Reads, audit_command, command_showing, resume_command, run_command, save_command}
+use Rattle.geo_top.specs.Commands.{Reads, audit_command, command_showing, resume_command, run_command, save_command, steps_command, steps_on_command}
 use Rattle.geo_top.specs.OneRun.{GoesOnAlike, IsKept, IsSavedWith, counted_on, lines_before, text_on}
-use Rattle.geo_top.specs.Outputs.{IsAnswerFor, answer_to, answer_to_audit, answer_to_big, output_of, report_of, resumed_limit, resumed_report, summary_of}
+use Rattle.geo_top.specs.Outputs.{IsAnswerFor, answer_to, answer_to_audit, answer_to_big, big_steps, output_of, report_of, resumed_limit, resumed_report, summary_of}
 use Rattle.geo_top.specs.States.{file_of, gone_on, stopped}
 use Rattle.geo_top.specs.Statuses.{IsDue, IsMade, refusal_line}
+use Rattle.geo_top.specs.Stepped.{steps_of, steps_on}
 use Rattle.geo_top.specs.Traced.{traced_of}
 
 -- how often source and sink had failed before a call, and by its end
@@ -111,6 +112,14 @@ pub record IsAnswered (c : Option Command) (input output : List ℕ) (f : FaultC
   pub audited_safe : s ≡ status.Ok → c ≡ Some audit_command → IsOkAnd (script_of (declarations_in input)) (λ n. IsAuditedSafe n.setup (trace_in input))
   -- and what `trace` writes of any accepted script `audit` accepts, and counts the events of that run.
   pub accepted : (n : Script) → IsScenario n → answer_to_audit (traced_of n) ≡ record { status = status.Ok; bytes = audit_line (run_under all_limits n.setup n.steps).world.events }
+  -- `steps` writes each step of that run, as the line that says it, with what it changed of what a report shows, between the report of
+  -- where the run begins and the counts where it ends;
+  pub stepped : s ≡ status.Ok → c ≡ Some steps_command → IsOkAnd (script_of input) (λ n. (output ≡ steps_of input n) × HoldsWithin n)
+  -- `steps from` the same of the run that goes on from the state that the input begins with, by the lines of the schedule behind its bytes;
+  pub stepped_on : s ≡ status.Ok → c ≡ Some steps_on_command → (g : SavedState) × (used : ℕ) × IsLoaded input (Ok (g, used))
+      × IsOkAnd (schedule_of g.scenario.setup (drop used input)) (λ es. (output ≡ steps_on g (drop used input) es) × (resumed_limit g es ≡ None))
+  -- and `steps big` of the run that a number generates, by its schedule as it is written.
+  pub stepped_big : (number : ℕ) → s ≡ status.Ok → c ≡ Some (command.BigSteps number) → (output ≡ big_steps number) × HoldsWithin (generated_run number)
   -- `big` writes the summary of the machine's run over the generated schedule, of which all holds too; at its end all is quiet.
   pub summary : (number : ℕ) → s ≡ status.Ok → c ≡ Some (command.Big number) → (output ≡ summary_of number) × HoldsWithin (generated_run number)
   pub quiet : (number : ℕ) → let n = generated_run number in is_quiet n.setup (run n.setup n.steps) ≡ true

@@ -10,9 +10,10 @@ use Rattle.state_file.specs.State.{SavedState}
 use Rattle.script_inputs.specs.Starts.{declarations_in, trace_in}
 use Rattle.geo_top.specs.declared.top.command.Command.{Command}
 use Rattle.geo_top.specs.declared.top.command.Command.TheVariants as command
+use Rattle.geo_top.specs.declared.top.command.GoingOn.{GoingOn}
 use Rattle.geo_top.specs.declared.top.command.Reading.{Reading}
 use Rattle.geo_top.specs.declared.top.command.Reading.TheVariants as reading
-use Rattle.geo_top.specs.Commands.{Reads, audit_command, resume_command}
+use Rattle.geo_top.specs.Commands.{Reads, audit_command, command_resuming}
 use Rattle.geo_top.specs.Outputs.{passed_limit, resumed_limit}
 use Rattle.geo_top.specs.States.{stopped}
 use Rattle.script_inputs.specs.Generated.{generated_run}
@@ -21,27 +22,31 @@ use Rattle.script_inputs.specs.Generated.{generated_run}
 abbrev pub HasBadLineIn : Reading → List ℕ → Fault → Type 0
 HasBadLineIn (reading.Script v) input f = script_of input ≡ Err f
 HasBadLineIn reading.Save input f = script_of input ≡ Err f
-HasBadLineIn reading.Resume input f =
+HasBadLineIn (reading.Resume v) input f =
     (s : SavedState) × (used : ℕ) × IsLoaded input (Ok (s, used)) × (schedule_of s.scenario.setup (drop used input) ≡ Err f)
 HasBadLineIn reading.Audit input f = script_of (declarations_in input) ≡ Err f
+HasBadLineIn reading.Steps input f = script_of input ≡ Err f
 
 abbrev pub HasBadLine : Option Command → List ℕ → Fault → Type 0
 HasBadLine None input f = ⊥
 HasBadLine (Some (command.Reads r)) input f = HasBadLineIn r input f
 HasBadLine (Some (command.Big number)) input f = ⊥
+HasBadLine (Some (command.BigSteps number)) input f = ⊥
 
 -- A limit that a command passes: 1, more bytes than are read; 2, more events than are done; 3, more bytes of frames than are sent.
 abbrev pub RunPasses : Reading → List ℕ → ℕ → Type 0
 RunPasses (reading.Script v) input limit = IsOkAnd (script_of input) (λ n. passed_limit n ≡ Some limit)
 RunPasses reading.Save input limit = IsOkAnd (script_of input) (λ n. passed_limit (stopped n) ≡ Some limit)
-RunPasses reading.Resume input limit = (s : SavedState) × (used : ℕ) × IsLoaded input (Ok (s, used))
+RunPasses (reading.Resume v) input limit = (s : SavedState) × (used : ℕ) × IsLoaded input (Ok (s, used))
     × IsOkAnd (schedule_of s.scenario.setup (drop used input)) (λ es. resumed_limit s es ≡ Some limit)
 RunPasses reading.Audit input limit = ⊥
+RunPasses reading.Steps input limit = IsOkAnd (script_of input) (λ n. passed_limit n ≡ Some limit)
 
 abbrev pub PassesRunning : Option Command → List ℕ → ℕ → Type 0
 PassesRunning None input limit = ⊥
 PassesRunning (Some (command.Reads r)) input limit = RunPasses r input limit
 PassesRunning (Some (command.Big number)) input limit = passed_limit (generated_run number) ≡ Some limit
+PassesRunning (Some (command.BigSteps number)) input limit = passed_limit (generated_run number) ≡ Some limit
 
 abbrev pub IsPassed : Option Command → List ℕ → ℕ → Type 0
 IsPassed c input limit =
@@ -49,7 +54,7 @@ IsPassed c input limit =
 
 -- a state that is refused
 abbrev pub HasBadState : Option Command → List ℕ → Refusal → Type 0
-HasBadState c input r = (c ≡ Some resume_command) × IsLoaded input (Err r)
+HasBadState c input r = (v : GoingOn) × (c ≡ Some (command_resuming v)) × IsLoaded input (Err r)
 
 -- a line of a trace that is refused: behind this event, by this rule
 abbrev pub HasRefusedLine : Option Command → List ℕ → RefusedLine → Type 0

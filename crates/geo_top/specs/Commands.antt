@@ -1,10 +1,13 @@
--- The commands of the program, by its words: `run`, `save`, `resume`, `audit`, `trace`, `big NUMBER`, `compact HORIZON` and `tiered KEEP`.
+-- The commands of the program, by its words: `run`, `save`, `resume`, `audit`, `trace`, `steps`, `steps from`, `steps big NUMBER`,
+-- `big NUMBER`, `compact HORIZON` and `tiered KEEP`.
 -- Any other words are none (own).
-use Rattle.std.specs.Prelude.{◌≡◌, ℕ, Bool, true, false, if◌then◌else◌, List, [], ◌∷◌, Option, Some, None, codes}
+use Rattle.std.specs.Prelude.{◌≡◌, ℕ, Bool, true, false, ◌&&◌, if◌then◌else◌, List, [], ◌∷◌, Option, Some, None, codes}
 use Rattle.std.specs.Str.{bytes_eq}
 use Rattle.script_rows.specs.Numbers.{number_of}
 use Rattle.geo_top.specs.declared.top.command.Command.{Command}
 use Rattle.geo_top.specs.declared.top.command.Command.TheVariants as command
+use Rattle.geo_top.specs.declared.top.command.GoingOn.{GoingOn}
+use Rattle.geo_top.specs.declared.top.command.GoingOn.TheVariants as going_on
 use Rattle.geo_top.specs.declared.top.command.Reading.{Reading}
 use Rattle.geo_top.specs.declared.top.command.Reading.TheVariants as reading
 use Rattle.geo_top.specs.declared.top.command.Shown.{Shown}
@@ -31,11 +34,21 @@ trace_command = command_showing shown.Trace
 abbrev pub save_command : Command
 save_command = command.Reads reading.Save
 
+-- a command that shows something of the run that goes on from a state
+abbrev pub command_resuming : GoingOn → Command
+command_resuming v = command.Reads (reading.Resume v)
+
 abbrev pub resume_command : Command
-resume_command = command.Reads reading.Resume
+resume_command = command_resuming going_on.Report
+
+abbrev pub steps_on_command : Command
+steps_on_command = command_resuming going_on.Steps
 
 abbrev pub audit_command : Command
 audit_command = command.Reads reading.Audit
+
+abbrev pub steps_command : Command
+steps_command = command.Reads reading.Steps
 
 -- the horizon of a compacted view: no run stores more entries than it has events
 abbrev pub most_horizon : ℕ
@@ -67,27 +80,44 @@ alone_of w =
     else if bytes_eq w (codes "resume") then Some resume_command
     else if bytes_eq w (codes "audit") then Some audit_command
     else if bytes_eq w (codes "trace") then Some trace_command
+    else if bytes_eq w (codes "steps") then Some steps_command
     else None
 
--- a word with a number
+-- `steps` with a word
+abbrev pub steps_with : List ℕ → Option Command
+steps_with n = if bytes_eq n (codes "from") then Some steps_on_command else None
+
+-- a word with another, which is mostly a number
 abbrev pub numbered_of : List ℕ → List ℕ → Option Command
 numbered_of w n =
     if bytes_eq w (codes "big") then big_of (number_of most_number n)
     else if bytes_eq w (codes "compact") then compact_of (number_of most_horizon n)
     else if bytes_eq w (codes "tiered") then tier_of (number_of most_keep n)
+    else if bytes_eq w (codes "steps") then steps_with n
     else None
+
+-- the steps of a generated run
+abbrev pub big_steps_of : Option ℕ → Option Command
+big_steps_of None = None
+big_steps_of (Some number) = Some (command.BigSteps number)
+
+-- `steps big` with a number
+abbrev pub stepped_of : List ℕ → List ℕ → List ℕ → Option Command
+stepped_of w v n = if bytes_eq w (codes "steps") && bytes_eq v (codes "big") then big_steps_of (number_of most_number n) else None
 
 abbrev pub command_of : List (List ℕ) → Option Command
 command_of [] = None
 command_of (w ∷ []) = alone_of w
 command_of (w ∷ n ∷ []) = numbered_of w n
-command_of (w ∷ n ∷ v ∷ ws) = None
+command_of (w ∷ v ∷ n ∷ []) = stepped_of w v n
+command_of (w ∷ v ∷ n ∷ u ∷ ws) = None
 
 -- words that have an input
 abbrev pub has_input : Option Command → Bool
 has_input None = false
 has_input (Some (command.Reads r)) = true
 has_input (Some (command.Big number)) = false
+has_input (Some (command.BigSteps number)) = false
 
 -- the command reads its input
 abbrev pub Reads : Option Command → Type 0

@@ -21,13 +21,15 @@ IsAccepted r = IfOk r IsScenario
 abbrev pub IsKnown : Reading → List ℕ → Type 0
 IsKnown (reading.Script v) input = IsAccepted (script_of input)
 IsKnown reading.Save input = IsAccepted (script_of input)
-IsKnown reading.Resume input = ⊤
+IsKnown (reading.Resume v) input = ⊤
 IsKnown reading.Audit input = ⊤
+IsKnown reading.Steps input = IsAccepted (script_of input)
 
 abbrev pub IsKnownFor : Option Command → List ℕ → Status → Type 0
 IsKnownFor None input s = ⊤
 IsKnownFor (Some (command.Reads r)) input s = s ≡ status.Ok → IsKnown r input
 IsKnownFor (Some (command.Big number)) input s = ⊤
+IsKnownFor (Some (command.BigSteps number)) input s = ⊤
 
 -- on the words, the input and what made it
 pub record IsFounded (c : Option Command) (input : List ℕ) (a : Answer) : Type 0 where

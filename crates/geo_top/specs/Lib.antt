@@ -9,6 +9,7 @@ pub mod Summary
 pub mod States
 pub mod Audits
 pub mod Traced
+pub mod Stepped
 pub mod Outputs
 pub mod Causes
 pub mod Finished

@@ -12,6 +12,7 @@ use Rattle.script_text.specs.Schedule.{schedule_of}
 use Rattle.script_text.specs.Script.{Fault, Script}
 use Rattle.world_laws.specs.AlikeWorlds.{AreAlike, world_on}
 use Rattle.geo_top.specs.declared.top.answer.Answer.{Answer}
+use Rattle.geo_top.specs.declared.top.command.GoingOn.TheVariants as going_on
 use Rattle.geo_top.specs.declared.top.command.Shown.TheVariants as shown
 use Rattle.geo_top.specs.declared.top.status.Status.{Status}
 use Rattle.geo_top.specs.declared.top.status.Status.TheVariants as status
@@ -67,7 +68,7 @@ TextsAlike = (text lines : List ℕ) (n : Script) → IsKept n → script_of (te
 -- so what `resume` answers to the file that `save` wrote, with lines behind it, `run` answers to that text
 abbrev pub FilesAlike : Type 0
 FilesAlike = (text lines input : List ℕ) (n : Script) (es : List Step) (a : Answer) → script_of (text ++ 10 ∷ []) ≡ Ok n
-    → IsSavedWith n lines input → schedule_of n.setup lines ≡ Ok es → IsAnswerToFile input a → a ≡ answer_to shown.Report (script_of (text_on text lines))
+    → IsSavedWith n lines input → schedule_of n.setup lines ≡ Ok es → IsAnswerToFile going_on.Report input a → a ≡ answer_to shown.Report (script_of (text_on text lines))
 
 -- an answer to lines that stand behind so many others: a line that is refused has a greater number there
 abbrev pub counted_on : ℕ → Answer → Status → Answer

@@ -14,6 +14,8 @@ use Rattle.script_inputs.specs.Starts.{declarations_in, trace_in}
 use Rattle.geo_top.specs.declared.top.answer.Answer.{Answer}
 use Rattle.geo_top.specs.declared.top.command.Command.{Command}
 use Rattle.geo_top.specs.declared.top.command.Command.TheVariants as command
+use Rattle.geo_top.specs.declared.top.command.GoingOn.{GoingOn}
+use Rattle.geo_top.specs.declared.top.command.GoingOn.TheVariants as going_on
 use Rattle.geo_top.specs.declared.top.command.Reading.{Reading}
 use Rattle.geo_top.specs.declared.top.command.Reading.TheVariants as reading
 use Rattle.geo_top.specs.declared.top.command.Shown.{Shown}
@@ -24,6 +26,7 @@ use Rattle.geo_top.specs.Audits.{audit_line}
 use Rattle.geo_top.specs.Compacted.{compacted}
 use Rattle.geo_top.specs.States.{file_of, resumed, resumed_under, stopped}
 use Rattle.geo_top.specs.Statuses.{refusal_line}
+use Rattle.geo_top.specs.Stepped.{steps_by_schedule, steps_of, steps_on}
 use Rattle.geo_top.specs.Summary.{summary}
 use Rattle.geo_top.specs.Tiered.{tiered}
 use Rattle.geo_top.specs.Traced.{traced_of}
@@ -78,6 +81,11 @@ abbrev pub answer_to_save : Result Script Fault → Answer
 answer_to_save (Ok n) = answer_to_saved n
 answer_to_save (Err f) = refused (status.BadScript f.line f.rule)
 
+-- ---- to a script whose steps are told, each with the line of the text that says it
+abbrev pub answer_to_steps : List ℕ → Result Script Fault → Answer
+answer_to_steps text (Ok n) = unless_passed (steps_of text n) (passed_limit n)
+answer_to_steps text (Err f) = refused (status.BadScript f.line f.rule)
+
 -- ---- to a state with a schedule behind it, from which a run goes on
 -- the bytes of its report
 abbrev pub resumed_report : SavedState → List Step → List ℕ
@@ -91,14 +99,23 @@ abbrev pub answer_to_resumed : SavedState → Result (List Step) Fault → Answe
 answer_to_resumed f (Ok es) = unless_passed (resumed_report f es) (resumed_limit f es)
 answer_to_resumed f (Err e) = refused (status.BadScript e.line e.rule)
 
--- what stands behind the bytes of a state is its schedule
-abbrev pub answer_to_loaded : List ℕ → Loaded → Answer
-answer_to_loaded input (Ok x) = answer_to_resumed x.0 (schedule_of x.0.scenario.setup (drop x.1 input))
-answer_to_loaded input (Err (bad_state offset rule)) = refused (status.BadState offset rule)
-answer_to_loaded input (Err (version number)) = refused (status.StateVersion number)
+-- its steps, each with the line that says it
+abbrev pub answer_to_steps_on : SavedState → List ℕ → Result (List Step) Fault → Answer
+answer_to_steps_on f lines (Ok es) = unless_passed (steps_on f lines es) (resumed_limit f es)
+answer_to_steps_on f lines (Err e) = refused (status.BadScript e.line e.rule)
 
-abbrev pub IsAnswerToFile : List ℕ → Answer → Type 0
-IsAnswerToFile input a = (l : Loaded) × IsLoaded input l × (a ≡ answer_to_loaded input l)
+abbrev pub answer_going_on : GoingOn → SavedState → List ℕ → Answer
+answer_going_on going_on.Report f lines = answer_to_resumed f (schedule_of f.scenario.setup lines)
+answer_going_on going_on.Steps f lines = answer_to_steps_on f lines (schedule_of f.scenario.setup lines)
+
+-- what stands behind the bytes of a state is its schedule
+abbrev pub answer_to_loaded : GoingOn → List ℕ → Loaded → Answer
+answer_to_loaded v input (Ok x) = answer_going_on v x.0 (drop x.1 input)
+answer_to_loaded v input (Err (bad_state offset rule)) = refused (status.BadState offset rule)
+answer_to_loaded v input (Err (version number)) = refused (status.StateVersion number)
+
+abbrev pub IsAnswerToFile : GoingOn → List ℕ → Answer → Type 0
+IsAnswerToFile v input a = (l : Loaded) × IsLoaded input l × (a ≡ answer_to_loaded v input l)
 
 -- ---- to a script's declarations with a trace behind them. Steps of the script are read, and not looked at
 abbrev pub answer_to_judged : Result ℕ Refusal → Answer
@@ -124,12 +141,20 @@ answer_to_generated number o = unless_passed (summary_of number) o
 abbrev pub answer_to_big : ℕ → Answer
 answer_to_big number = answer_to_generated number (passed_limit (generated_run number))
 
+-- the bytes of the steps of that run, and the answer
+abbrev pub big_steps : ℕ → List ℕ
+big_steps number = steps_by_schedule (generated_run number)
+
+abbrev pub answer_to_big_steps : ℕ → Answer
+answer_to_big_steps number = unless_passed (big_steps number) (passed_limit (generated_run number))
+
 -- ---- to an input: 67,108,864 bytes at most are read (limit 1; own, so that reading ends)
 abbrev pub IsAnswerToBytes : Reading → List ℕ → Answer → Type 0
 IsAnswerToBytes (reading.Script v) input a = a ≡ answer_to v (script_of input)
 IsAnswerToBytes reading.Save input a = a ≡ answer_to_save (script_of input)
-IsAnswerToBytes reading.Resume input a = IsAnswerToFile input a
+IsAnswerToBytes (reading.Resume v) input a = IsAnswerToFile v input a
 IsAnswerToBytes reading.Audit input a = a ≡ answer_to_audit input
+IsAnswerToBytes reading.Steps input a = a ≡ answer_to_steps input (script_of input)
 
 abbrev pub UnlessLarge : Bool → Answer → Type 0 → Type 0
 UnlessLarge true a P = a ≡ refused (status.TooLarge 1)
@@ -143,3 +168,4 @@ abbrev pub IsAnswerFor : Option Command → List ℕ → Answer → Type 0
 IsAnswerFor None input a = a ≡ refused status.Usage
 IsAnswerFor (Some (command.Reads r)) input a = IsAnswerToInput r input a
 IsAnswerFor (Some (command.Big number)) input a = a ≡ answer_to_big number
+IsAnswerFor (Some (command.BigSteps number)) input a = a ≡ answer_to_big_steps number

@@ -8,6 +8,7 @@
 mod compacted;
 mod law;
 mod run;
+mod stepped;
 mod summary;
 mod tiered;
 mod top;

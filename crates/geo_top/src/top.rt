@@ -8,3 +8,4 @@ mod given_back;
 pub mod scripts;
 pub mod states;
 pub mod status;
+pub mod stepping;

@@ -16,8 +16,12 @@ from . import audits, rules, scripts, states
 from .forms import near
 from .told import Refusal, document, words_of
 
-COMMANDS = {'run': 0, 'live': 2, 'big': 1, 'save': 0, 'resume': 0, 'audit': 0, 'compact': 1, 'tiered': 1, 'trace': 0}
+COMMANDS = {'run': 0, 'live': 2, 'big': 1, 'save': 0, 'resume': 0, 'audit': 0, 'compact': 1, 'tiered': 1, 'trace': 0, 'steps': 0}
 TOOLS = ('drill', 'story', 'page', 'why', 'check', 'help')
+# what goes on from a state as resume does
+STEPS_FROM = ['steps', 'from']
+# what the words of `steps` may be
+STEPS = 'geo steps FILE, geo steps from FILE, or geo steps big NUMBER; NUMBER is 0 to 4294967295'
 TOO_LARGE = {
     1: 'more than 67,108,864 bytes came: a script of fewer lines, or the run in parts, by save and resume',
     2: 'events and idle events together would pass 2,000,000: fewer events, or the run in parts, by save and resume, does not help, since the '
@@ -35,6 +39,8 @@ def of_words(words, usage=''):
         return Refusal(file='geo', said='no command is named', expected='geo COMMAND; ./geo help lists them')
     if first not in COMMANDS:
         return Refusal(file='geo', said='%s is no command' % first, near=near(first.lower(), [*COMMANDS, *TOOLS]), expected='./geo help lists the commands')
+    if first == 'steps':
+        return Refusal(file='geo', said='steps does not take %s' % ' '.join(words[1:]), expected=STEPS)
     shown = {'live': 'live WORKERS TURNS', 'big': 'big NUMBER', 'compact': 'compact HORIZON', 'tiered': 'tiered KEEP'}.get(first, first)
     ranges = {'live': 'WORKERS is 1 to 64, and WORKERS times TURNS 2000000 at most', 'big': 'NUMBER is 0 to 4294967295',
               'compact': 'HORIZON is 0 to 2000000, or end', 'tiered': 'KEEP is 0 to 1000000'}.get(first)
@@ -48,14 +54,14 @@ def of_words(words, usage=''):
 
 def of_script(raw, name, line, rule, command):
     """The refusal of a line of a script, of the declarations of a trace, or of what stands behind a state."""
-    state = states.split(raw) if command == 'resume' else None
+    state = states.split(raw) if command[:1] == ['resume'] or command[:2] == STEPS_FROM else None
     if state:
         declared, events = state
         told = scripts.told(scripts.Script(events, declared), name + ' (behind the state)', line, rule)
         if rule in (3, 6) and told.text is not None and told.text.startswith('GEOSTATE'):
-            return told._replace(said='a second state stands here: resume goes on from one')
+            return told._replace(said='a second state stands here: %s goes on from one' % ' '.join(command))
         return told
-    if command == 'audit':
+    if command[:1] == ['audit']:
         head = raw.split(b'\ntrace\n', 1)
         raw = head[0] + b'\n' if len(head) > 1 else raw
     if states.is_state(raw):
@@ -100,7 +106,7 @@ def refusal(status, answer, raw, name, command):
     """What is to be told of an answer of the program; None where nothing is."""
     found = re.fullmatch(r'bad script line (\d+) rule (\d+)\n', answer)
     if found:
-        return of_script(raw, name, int(found[1]), int(found[2]), command[0] if command else 'run')
+        return of_script(raw, name, int(found[1]), int(found[2]), command)
     found = re.fullmatch(r'audit refused (\d+) rule (\d+)\n', answer)
     if found:
         return of_audit(raw, name, int(found[1]), int(found[2]))

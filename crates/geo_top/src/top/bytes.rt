@@ -13,6 +13,7 @@ use crate::top::command::{Command, Reading, Word};
 use crate::top::scripts::{answer_to_number, answer_to_script};
 use crate::top::states::{answer_to_file, answer_to_saving};
 use crate::top::status::Status;
+use crate::top::stepping::{answer_to_big_steps, answer_to_steps};
 use geo_base::limits::INPUT_BYTES;
 use geo_base::{Blob, Memory};
 use std::alloc::Global;
@@ -20,15 +21,16 @@ use std::alloc::Global;
 /// The whole program but for the words of `live`, over the bytes of its input: how it ends, and the bytes that it writes. For `run` the
 /// input is a script, and the output the report of its run; for `compact HORIZON` it is the compacted view of each topic at the run's
 /// end; for `tiered KEEP` the entries of each topic there, read back once its closed ledgers but the last ones moved to a tier; for
-/// `trace` each event of the run with what it wrote durably; for `save` it is the state file of the run and a stop behind it; for
-/// `resume` the input is a state file and a schedule behind it, and the output the report of the run that goes on from there; for
-/// `audit` the input is what a script declares and a trace behind it, and the output how many events the trace tells; for `big NUMBER`
-/// it is the summary of the run that the number generates. Else, and where it refuses, it is one line.
+/// `trace` each event of the run with what it wrote durably; for `steps` each step with what it changed of a report; for `save` it is the
+/// state file of the run and a stop behind it; for `resume` the input is a state file and a schedule behind it, and the output the report
+/// of the run that goes on from there, and for `steps from` its steps; for `audit` the input is what a script declares and a trace behind
+/// it, and the output how many events the trace tells; for `big NUMBER` it is the summary of the run that the number generates, and for
+/// `steps big NUMBER` its steps. Else, and where it refuses, it is one line.
 ///
-/// It takes the input, and gives the memory of a script back before the run. The first of these refusals wins: words that are no
-/// command; more than 67,108,864 bytes; an item of the state that breaks a rule, or its version; a line of the script or the schedule
-/// that breaks a rule; a line of the trace that does; more than 2,000,000 events and idle events, or more than 1 GiB of frames. `Memory`
-/// comes where a growth of memory is refused.
+/// It takes the input, and gives the memory of a script back before the run, but for `steps`, whose lines it cites. The first of these
+/// refusals wins: words that are no command; more than 67,108,864 bytes; an item of the state that breaks a rule, or its version; a line
+/// of the script or the schedule that breaks a rule; a line of the trace that does; more than 2,000,000 events and idle events, or more
+/// than 1 GiB of frames. `Memory` comes where a growth of memory is refused.
 #[tactic(auto, using(crate::proofs::Answered::answered_free, crate::proofs::Answered::founded_made))]
 pub fn answer(alloc: Global, words: &[Word], input: Blob) -> Result<Answer, Memory>
     // All that is promised of it, of which neither source nor sink fails.
@@ -39,13 +41,14 @@ pub fn answer(alloc: Global, words: &[Word], input: Blob) -> Result<Answer, Memo
 }
 
 /// The answer to a command, or to words that are none.
-#[tactic(auto, using(crate::proofs::Answered::founded_usage, crate::proofs::Answered::founded_big))]
+#[tactic(auto, using(crate::proofs::Answered::founded_usage, crate::proofs::Answered::founded_big, crate::proofs::Answered::founded_big_steps))]
 fn answer_to_command(alloc: Global, asked: Option<Command>, input: Blob) -> Result<Answer, Memory>
     ensures { IfOk result (IsFounded asked input) }
 {
     match asked {
         Some(Command::Reads(reading)) => answer_to_input(alloc, reading, input),
         Some(Command::Big(number)) => answer_to_number(alloc, number),
+        Some(Command::BigSteps(number)) => answer_to_big_steps(alloc, number),
         None => refusal(alloc, Status::Usage),
     }
 }
@@ -70,7 +73,8 @@ fn answer_to_bytes(alloc: Global, reading: Reading, bytes: Blob) -> Result<Answe
     match reading {
         Reading::Script(shown) => answer_to_script(alloc, shown, bytes),
         Reading::Save => answer_to_saving(alloc, bytes),
-        Reading::Resume => answer_to_file(alloc, bytes.as_slice()),
+        Reading::Resume(shown) => answer_to_file(alloc, shown, bytes.as_slice()),
         Reading::Audit => answer_to_audit(alloc, bytes.as_slice()),
+        Reading::Steps => answer_to_steps(alloc, bytes.as_slice()),
     }
 }

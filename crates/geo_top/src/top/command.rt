@@ -1,6 +1,6 @@
 //! The commands of the program.
 ghost use Rattle.std.specs.Prelude.{◌≡◌};
-ghost use Rattle.geo_top.specs.Commands.{alone_of, big_of, command_of, compact_of, has_input, most_horizon, most_keep, most_number, numbered_of, tier_of};
+ghost use Rattle.geo_top.specs.Commands.{alone_of, big_of, command_of, compact_of, has_input, most_horizon, most_keep, most_number, numbered_of, stepped_of, steps_with, tier_of};
 ghost use Rattle.script_rows.specs.Numbers.{number_of};
 
 use geo_base::Text;
@@ -25,6 +25,8 @@ pub enum Command {
     Reads(Reading),
     /// Do the run that a number generates, and sum it up.
     Big(u32),
+    /// Do that run, and show each of its steps.
+    BigSteps(u32),
 }
 
 /// What is done with an input.
@@ -34,10 +36,12 @@ pub enum Reading {
     Script(Shown),
     /// A script is run, everything is stopped, and the state file of what is left is written.
     Save,
-    /// A run goes on from a state file with the steps behind it, and is reported.
-    Resume,
+    /// A run goes on from a state file with the steps behind it, and something of it is shown.
+    Resume(GoingOn),
     /// The trace of a run that stands behind a script's declarations is judged.
     Audit,
+    /// A script is run, and each of its steps is shown with what it changed of a report.
+    Steps,
 }
 
 /// What is shown of the run of a script.
@@ -53,6 +57,15 @@ pub enum Shown {
     Trace,
 }
 
+/// What is shown of a run that goes on from a state.
+#[derive(Clone, Copy, Drop)]
+pub enum GoingOn {
+    /// Its report.
+    Report,
+    /// Each of its steps with what it changed of a report.
+    Steps,
+}
+
 impl Command {
     /// The command that words are.
     pub fn read(words: &[Word]) -> Option<Command>
@@ -61,6 +74,7 @@ impl Command {
         match words {
             [word] => Command::alone(word),
             [word, number] => Command::numbered(word, number),
+            [word, what, number] => Command::stepped(word, what, number),
             _ => None,
         }
     }
@@ -82,17 +96,19 @@ impl Command {
         } else if bytes == b"save".as_slice() {
             Some(Command::Reads(Reading::Save))
         } else if bytes == b"resume".as_slice() {
-            Some(Command::Reads(Reading::Resume))
+            Some(Command::Reads(Reading::Resume(GoingOn::Report)))
         } else if bytes == b"audit".as_slice() {
             Some(Command::Reads(Reading::Audit))
         } else if bytes == b"trace".as_slice() {
             Some(Command::Reads(Reading::Script(Shown::Trace)))
+        } else if bytes == b"steps".as_slice() {
+            Some(Command::Reads(Reading::Steps))
         } else {
             None
         }
     }
 
-    /// The command of a word with a number.
+    /// The command of a word with another, which is mostly a number.
     fn numbered(word: &Word, number: &Word) -> Option<Command>
         ensures { result ≡ numbered_of word.now number.now }
     {
@@ -103,8 +119,35 @@ impl Command {
             Command::compact(number)
         } else if bytes == b"tiered".as_slice() {
             Command::tiered(number)
+        } else if bytes == b"steps".as_slice() {
+            Command::steps_with(number)
         } else {
             None
+        }
+    }
+
+    /// The steps of what a word names.
+    fn steps_with(word: &Word) -> Option<Command>
+        ensures { result ≡ steps_with word.now }
+    {
+        if word.as_bytes() == b"from".as_slice() {
+            Some(Command::Reads(Reading::Resume(GoingOn::Steps)))
+        } else {
+            None
+        }
+    }
+
+    /// The steps of a generated run.
+    #[tactic(auto, using(script_rows::proofs::Chosen::number_small))]
+    fn stepped(word: &Word, what: &Word, number: &Word) -> Option<Command>
+        ensures { result ≡ stepped_of word.now what.now number.now }
+    {
+        if word.as_bytes() != b"steps".as_slice() || what.as_bytes() != b"big".as_slice() {
+            return None;
+        }
+        match number_of(number.as_bytes(), MOST_NUMBER) {
+            Some(number) => Some(Command::BigSteps(number as u32)),
+            None => None,
         }
     }
 

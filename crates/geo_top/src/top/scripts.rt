@@ -152,7 +152,7 @@ fn summed_up(alloc: Global, number: u32, scenario: &Scenario) -> Result<Blob, Ru
 }
 
 /// The script of a number's run.
-fn generated(alloc: Global, number: u32) -> Result<Scenario, Memory>
+pub fn generated(alloc: Global, number: u32) -> Result<Scenario, Memory>
     ensures { IfOk result (λ s. s ≡ generated_run number) }
 {
     let parts = generate(alloc, number)?;

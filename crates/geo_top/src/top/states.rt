@@ -1,7 +1,7 @@
-//! The answers of the two commands on state files.
+//! The answers of the commands on state files.
 ghost use Rattle.std.specs.Prelude.{◌≡◌, ◌<◌, ◌≤◌, ◌^◌, ℕ, All, Err, IfOk, None, OnOk, Ok, Some, drop, length};
 ghost use Rattle.geo_top.specs.Founded.{IsAccepted};
-ghost use Rattle.geo_top.specs.Outputs.{IsAnswerToFile, answer_to_resumed, answer_to_save, answer_to_saved, resumed_limit, resumed_report};
+ghost use Rattle.geo_top.specs.Outputs.{IsAnswerToFile, answer_going_on, answer_to_resumed, answer_to_save, answer_to_saved, answer_to_steps_on, resumed_limit, resumed_report};
 ghost use Rattle.script_text.specs.Rules.{script_of};
 ghost use Rattle.script_text.specs.Scenario.{IsStep};
 ghost use Rattle.script_text.specs.Schedule.{schedule_of};
@@ -9,7 +9,9 @@ ghost use Rattle.state_file.specs.Known.{IsKnownState};
 ghost use Rattle.state_file.specs.State.{state_of};
 
 use crate::run::{Resumed, resume, save_script};
+use crate::stepped::steps_on_state;
 use crate::top::answer::{Answer, refusal};
+use crate::top::command::GoingOn;
 use crate::top::given_back::give_back;
 use crate::top::status::Status;
 use crate::world_report::report;
@@ -51,12 +53,12 @@ fn saved_answer(alloc: Global, scenario: Scenario) -> Result<Answer, Memory>
 }
 
 /// The answer to a state file and the lines behind it.
-pub fn answer_to_file(alloc: Global, bytes: &[u8]) -> Result<Answer, Memory>
+pub fn answer_to_file(alloc: Global, shown: GoingOn, bytes: &[u8]) -> Result<Answer, Memory>
     requires { length bytes.now ≤ INPUT_BYTES }
-    ensures { IfOk result (IsAnswerToFile bytes.now) }
+    ensures { IfOk result (IsAnswerToFile shown bytes.now) }
 {
     match load(alloc, bytes) {
-        Ok((saved, used)) => resumed_answer(alloc, saved, behind(bytes, used)),
+        Ok((saved, used)) => going_on_answer(alloc, shown, saved, behind(bytes, used)),
         Err(StateFault::BadState { offset, rule }) => refusal(
             alloc,
             Status::BadState {
@@ -82,14 +84,22 @@ fn behind(bytes: &[u8], used: usize) -> &[u8]
 }
 
 /// The answer to a state and the lines behind it.
-fn resumed_answer(alloc: Global, saved: Saved, lines: &[u8]) -> Result<Answer, Memory>
+fn going_on_answer(
+    alloc: Global,
+    shown: GoingOn,
+    saved: Saved,
+    lines: &[u8],
+) -> Result<Answer, Memory>
     requires known { IsKnownState (state_of saved) }
     requires few { length lines.now < 2 ^ 32 }
-    ensures { IfOk result (λ a. a ≡ answer_to_resumed (state_of saved) (schedule_of (state_of saved).scenario.setup lines.now)) }
+    ensures { IfOk result (λ a. a ≡ answer_going_on shown (state_of saved) lines.now) }
 {
     match read_schedule(alloc, &saved.scenario, lines) {
         Ok(steps) => {
-            let answer = run_on(alloc, saved, &steps);
+            let answer = match shown {
+                GoingOn::Report => run_on(alloc, saved, &steps),
+                GoingOn::Steps => step_on(alloc, saved, &steps, lines),
+            };
             drop(steps);
             answer
         }
@@ -113,6 +123,24 @@ fn run_on(alloc: Global, saved: Saved, steps: &StepList) -> Result<Answer, Memor
     ensures { IfOk result (λ a. a ≡ answer_to_resumed (state_of saved) (Ok steps.now)) }
 {
     match reported_on(alloc, saved, steps) {
+        Ok(bytes) => Ok(Answer {
+            status: Status::Ok,
+            bytes,
+        }),
+        Err(RunFault::TooLarge(limit)) => refusal(alloc, Status::TooLarge(limit)),
+        Err(RunFault::Memory) => Err(Memory),
+    }
+}
+
+/// The steps of the run that goes on from a state, with the lines that say them, or the limit that it passes.
+#[tactic(auto, using(crate::proofs::Saving::stepped_whole, crate::proofs::Saving::stepped_refused))]
+fn step_on(alloc: Global, saved: Saved, steps: &StepList, lines: &[u8]) -> Result<Answer, Memory>
+    requires known { IsKnownState (state_of saved) }
+    requires steps { All (IsStep (state_of saved).scenario.setup) steps.now }
+    requires said { schedule_of (state_of saved).scenario.setup lines.now ≡ Ok steps.now }
+    ensures { IfOk result (λ a. a ≡ answer_to_steps_on (state_of saved) lines.now (Ok steps.now)) }
+{
+    match steps_on_state(alloc, saved, steps, lines) {
         Ok(bytes) => Ok(Answer {
             status: Status::Ok,
             bytes,

@@ -19,6 +19,15 @@ returns-in-Ok-clause-ready g c =
 pub returns-in-Ok-clause-unread : goal.returns-in-Ok-clause-unread
 returns-in-Ok-clause-unread g c = λ unread. absurd (unread (input_some (command_of c.args.words.now) (sym c.has_input.ensures ∙ c.if-has_input.true)))
 
+pub returns-in-Err-Failed-clause-unread : goal.returns-in-Err-Failed-clause-unread
+returns-in-Err-Failed-clause-unread g c = λ unread. absurd (unread (input_some (command_of c.args.words.now) (sym c.has_input.ensures ∙ c.if-has_input.true)))
+
+pub returns-in-Err-TooLong-clause-unread : goal.returns-in-Err-TooLong-clause-unread
+returns-in-Err-TooLong-clause-unread g c = λ unread. absurd (unread (input_some (command_of c.args.words.now) (sym c.has_input.ensures ∙ c.if-has_input.true)))
+
+pub returns-in-Err-Memory-clause-unread : goal.returns-in-Err-Memory-clause-unread
+returns-in-Err-Memory-clause-unread g c = λ unread. absurd (unread (input_some (command_of c.args.words.now) (sym c.has_input.ensures ∙ c.if-has_input.true)))
+
 pub returns-in-Err-Failed-clause-ready : goal.returns-in-Err-Failed-clause-ready
 returns-in-Err-Failed-clause-ready g c =
     failed_ready (command_of c.args.words.now) (g.S.Source.given c.args.source.now c.read_all.new.source) (g.S.Source.left c.args.source.now) (g.S.Source.left c.read_all.new.source)

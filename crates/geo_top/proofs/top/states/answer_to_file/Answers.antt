@@ -3,17 +3,17 @@ use Rattle.state_file.proofs.Known.{loaded_known}
 use Rattle.geo_top.proofs.Saving.{file_answered, file_refused, file_strange}
 use Rattle.geo_top.proofs.top.states.answer_to_file.Goals as goal
 
-pub resumed_answer-requires-clause-known : goal.resumed_answer-requires-clause-known
-resumed_answer-requires-clause-known c = loaded_known c.args.bytes.now (state_of c.in-Ok.saved) c.in-Ok.used c.in-Ok.ensures
+pub going_on_answer-requires-clause-known : goal.going_on_answer-requires-clause-known
+going_on_answer-requires-clause-known c = loaded_known c.args.bytes.now (state_of c.in-Ok.saved) c.in-Ok.used c.in-Ok.ensures
 
 pub returns-in-Ok : goal.returns-in-Ok
 returns-in-Ok c =
-    file_answered c.args.bytes.now c.behind.result.now (state_of c.in-Ok.saved) c.in-Ok.used c.resumed_answer.result c.in-Ok.ensures c.behind.ensures.behind c.resumed_answer.ensures
+    file_answered c.args.shown c.args.bytes.now c.behind.result.now (state_of c.in-Ok.saved) c.in-Ok.used c.going_on_answer.result c.in-Ok.ensures c.behind.ensures.behind c.going_on_answer.ensures
 
 pub returns-in-Err-BadState : goal.returns-in-Err-BadState
 returns-in-Err-BadState c =
-    file_refused c.args.bytes.now c.in-Err-BadState.offset c.in-Err-BadState.rule c.refusal.result (rw c.in-Err-BadState.field-0-is at c.in-Err-BadState.ensures) c.refusal.ensures
+    file_refused c.args.shown c.args.bytes.now c.in-Err-BadState.offset c.in-Err-BadState.rule c.refusal.result (rw c.in-Err-BadState.field-0-is at c.in-Err-BadState.ensures) (rw c.in-Err-BadState.field-0-is at c.refusal.ensures)
 
 pub returns-in-Err-Version : goal.returns-in-Err-Version
 returns-in-Err-Version c =
-    file_strange c.args.bytes.now c.in-Err-Version.number c.refusal-in-Err-Version.result (rw c.in-Err-Version.field-0-is at c.in-Err-Version.ensures) c.refusal-in-Err-Version.ensures
+    file_strange c.args.shown c.args.bytes.now c.in-Err-Version.number c.refusal-in-Err-Version.result (rw c.in-Err-Version.field-0-is at c.in-Err-Version.ensures) (rw c.in-Err-Version.field-0-is at c.refusal-in-Err-Version.ensures)
