@@ -22,8 +22,8 @@ use Rattle.geo_top.specs.Outputs.{IsAnswerFor, IsAnswerToBytes, UnlessLarge, ans
 use Rattle.geo_top.specs.States.{file_of, gone_on, stopped}
 use Rattle.geo_top.specs.Statuses.{IsDue, IsMade, refusal_line}
 use Rattle.geo_top.specs.Stepped.{steps_of}
-use Rattle.geo_top.proofs.Accepted.{traced_accepted}
-use Rattle.geo_top.proofs.Answering.{big_is, counted, of_saved, of_script, ok_audited, ok_big, ok_big_steps, ok_resumed, ok_saved, ok_told, ok_told_on, safe_audited}
+use Rattle.geo_top.proofs.Accepted.{traced_accepted, traced_whole}
+use Rattle.geo_top.proofs.Answering.{big_is, counted, judged_whole, of_saved, of_script, ok_audited, ok_big, ok_big_steps, ok_resumed, ok_saved, ok_told, ok_told_on, safe_audited}
 use Rattle.geo_top.proofs.Causing.{IsCaused, caused, caused_made, lined}
 use Rattle.geo_top.proofs.Claims.{generated_holds, holds_of}
 use Rattle.geo_top.proofs.GoingOut.{only_answer, same_due, went, went_is, writes}
@@ -64,6 +64,7 @@ answered c input a f founded stood = record {
   audited = ok_audited c input a founded;
   audited_safe = safe_audited c input a founded;
   accepted = traced_accepted;
+  whole = judged_whole c input a founded;
   stepped = ok_told c input a founded (λ n. (a.bytes ≡ steps_of input n) × HoldsWithin n) (λ n k is none. (is, (none, holds_of n k.setup none)));
   stepped_on = ok_told_on c input a founded;
   stepped_big = λ number ok is. let big = ok_big_steps c input a number founded ok is in (big.0, (big.1, generated_holds number big.1));
@@ -139,6 +140,7 @@ failed c input output f s fault cause out line = record {
   audited = λ is audit. absurd (other is);
   audited_safe = λ is audit. absurd (other is);
   accepted = traced_accepted;
+  whole = record { judged = λ is audit. absurd (other is); gapless = λ is audit. absurd (other is); accepted = traced_whole };
   stepped = λ is steps. absurd (other is);
   stepped_on = λ is steps. absurd (other is);
   stepped_big = λ number is big. absurd (other is);
@@ -227,6 +229,7 @@ counted_again c input output f g s made stood h = record {
   audited = h.audited;
   audited_safe = h.audited_safe;
   accepted = h.accepted;
+  whole = h.whole;
   stepped = h.stepped;
   stepped_on = h.stepped_on;
   stepped_big = h.stepped_big;

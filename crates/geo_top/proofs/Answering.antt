@@ -1,7 +1,8 @@
 -- What an answer is where it is Ok, and what holds of the run behind it.
 use Rattle.std.proofs.Common.{◌≡◌, ℕ, Bool, true, false, List, [], ◌∷◌, ◌++◌, refl, ap, subst}
 use Rattle.std.specs.Prelude.{Option, Some, None, Result, Ok, Err, IsOkAnd, length, drop, nat_lt}
-use Rattle.audit.specs.AuditOf.{audit_of}
+use Rattle.audit.specs.AuditOf.{audit_by, audit_of}
+use Rattle.audit.specs.declared.strictness.Strictness.TheVariants as strictness
 use Rattle.geo_base.specs.declared.event.Step.{Step}
 use Rattle.geo_base.specs.Audit.{Refusal as RefusedLine}
 use Rattle.geo_base.specs.Setup.{Setup}
@@ -25,14 +26,16 @@ use Rattle.geo_top.specs.declared.top.command.Shown.TheVariants as shown
 use Rattle.geo_top.specs.declared.top.status.Status.TheVariants as status
 use Rattle.geo_top.specs.Answered.{OfSaved, OfScript}
 use Rattle.geo_top.specs.Audits.{IsAuditedSafe, audit_line}
-use Rattle.geo_top.specs.Commands.{audit_command, resume_command, save_command, steps_command, steps_on_command}
+use Rattle.geo_top.specs.Commands.{audit_command, resume_command, save_command, steps_command, steps_on_command, whole_command}
 use Rattle.geo_top.specs.Founded.{IsAccepted, IsFounded, IsKnown, IsKnownFor}
 use Rattle.geo_top.specs.OneRun.{IsKept, IsSavedWith, counted_on, lines_before, text_on}
 use Rattle.geo_top.specs.Outputs.{IsAnswerFor, IsAnswerToBytes, IsAnswerToFile, IsAnswerToInput, UnlessLarge, answer_to, answer_to_audited, answer_to_big, answer_to_judged, answer_to_loaded, answer_to_resumed, answer_to_save, answer_to_steps, answer_to_steps_on, big_steps, output_of, passed_limit, resumed_limit, resumed_report, summary_of, unless_passed}
 use Rattle.geo_top.specs.States.{file_of, state_of_run, stopped}
 use Rattle.geo_top.specs.Stepped.{steps_of, steps_on}
 use Rattle.script_inputs.specs.Generated.{generated_run}
-use Rattle.geo_top.proofs.Auditing.{accepted_safe}
+use Rattle.geo_top.specs.Wholly.{IsAuditedWhole, IsJudgedWhole}
+use Rattle.geo_top.proofs.Accepted.{traced_whole}
+use Rattle.geo_top.proofs.Auditing.{accepted_safe, accepted_whole}
 use Rattle.geo_top.proofs.OneRun.{counted_same, kept_is}
 use Rattle.geo_top.proofs.SavedWith.{loaded_holds, ok_maps}
 
@@ -153,19 +156,45 @@ by_judged : (a : Answer) (s : Setup) (trace : List ℕ) (r : Result ℕ RefusedL
 by_judged a s trace (Ok events) judged is ok = (events, judged, ap (λ (a : Answer). a.bytes) is)
 by_judged a s trace (Err r) judged is ok = absurd (cc (ap (λ (a : Answer). a.status) is))
 
-by_audited : (a : Answer) (trace : List ℕ) (r : Result Script Fault) → a ≡ answer_to_audited trace r → a.status ≡ status.Ok → IsOkAnd r (λ n. IsTold a.bytes n.setup trace)
+by_audited : (a : Answer) (trace : List ℕ) (r : Result Script Fault) → a ≡ answer_to_audited strictness.Plain trace r → a.status ≡ status.Ok → IsOkAnd r (λ n. IsTold a.bytes n.setup trace)
 by_audited a trace (Ok n) is ok = by_judged a n.setup trace (audit_of n.setup trace) refl is ok
 by_audited a trace (Err f) is ok = absurd (cc (ap (λ (a : Answer). a.status) is))
 
 pub ok_audited : (c : Option Command) (input : List ℕ) (a : Answer) → IsFounded c input a → a.status ≡ status.Ok → c ≡ Some audit_command
     → IsOkAnd (script_of (declarations_in input)) (λ n. IsTold a.bytes n.setup (trace_in input))
-ok_audited c input a f ok is = by_audited a (trace_in input) (script_of (declarations_in input)) (ok_bytes reading.Audit c input a f ok is) ok
+ok_audited c input a f ok is = by_audited a (trace_in input) (script_of (declarations_in input)) (ok_bytes (reading.Audit strictness.Plain) c input a f ok is) ok
 
 pub safe_audited : (c : Option Command) (input : List ℕ) (a : Answer) → IsFounded c input a → a.status ≡ status.Ok → c ≡ Some audit_command
     → IsOkAnd (script_of (declarations_in input)) (λ n. IsAuditedSafe n.setup (trace_in input))
 safe_audited c input a f ok is =
     ok_maps (script_of (declarations_in input)) (λ n. IsTold a.bytes n.setup (trace_in input)) (λ n. IsAuditedSafe n.setup (trace_in input))
     (λ n told. accepted_safe n.setup (trace_in input) told.0 told.1) (ok_audited c input a f ok is)
+
+-- and to one that is judged for gaps
+abbrev pub IsToldWhole : List ℕ → Setup → List ℕ → Type 0
+IsToldWhole output s trace = (events : ℕ) × (audit_by strictness.Whole s trace ≡ Ok events) × (output ≡ audit_line events)
+
+by_judged_whole : (a : Answer) (s : Setup) (trace : List ℕ) (r : Result ℕ RefusedLine) → audit_by strictness.Whole s trace ≡ r → a ≡ answer_to_judged r → a.status ≡ status.Ok
+    → IsToldWhole a.bytes s trace
+by_judged_whole a s trace (Ok events) judged is ok = (events, judged, ap (λ (a : Answer). a.bytes) is)
+by_judged_whole a s trace (Err r) judged is ok = absurd (cc (ap (λ (a : Answer). a.status) is))
+
+by_whole : (a : Answer) (trace : List ℕ) (r : Result Script Fault) → a ≡ answer_to_audited strictness.Whole trace r → a.status ≡ status.Ok → IsOkAnd r (λ n. IsToldWhole a.bytes n.setup trace)
+by_whole a trace (Ok n) is ok = by_judged_whole a n.setup trace (audit_by strictness.Whole n.setup trace) refl is ok
+by_whole a trace (Err f) is ok = absurd (cc (ap (λ (a : Answer). a.status) is))
+
+ok_whole : (c : Option Command) (input : List ℕ) (a : Answer) → IsFounded c input a → a.status ≡ status.Ok → c ≡ Some whole_command
+    → IsOkAnd (script_of (declarations_in input)) (λ n. IsToldWhole a.bytes n.setup (trace_in input))
+ok_whole c input a f ok is = by_whole a (trace_in input) (script_of (declarations_in input)) (ok_bytes (reading.Audit strictness.Whole) c input a f ok is) ok
+
+pub judged_whole : (c : Option Command) (input : List ℕ) (a : Answer) → IsFounded c input a → IsJudgedWhole c input a.bytes a.status
+judged_whole c input a f = record {
+  judged = ok_whole c input a f;
+  gapless = λ ok is.
+      ok_maps (script_of (declarations_in input)) (λ n. IsToldWhole a.bytes n.setup (trace_in input)) (λ n. IsAuditedWhole n.setup (trace_in input))
+      (λ n told. accepted_whole n.setup (trace_in input) told.0 told.1) (ok_whole c input a f ok is);
+  accepted = traced_whole;
+}
 
 -- ---- to a number
 pub big_is : (c : Option Command) (input : List ℕ) (a : Answer) (number : ℕ) → IsFounded c input a → c ≡ Some (command.Big number) → a ≡ answer_to_big number

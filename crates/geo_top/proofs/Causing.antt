@@ -2,7 +2,8 @@
 use Rattle.std.proofs.lemmas.Bool.{ltb-true}
 use Rattle.std.proofs.Common.{◌≡◌, ◌≢◌, ℕ, Bool, true, false, List, refl, sym, subst, inl, inr}
 use Rattle.std.specs.Prelude.{Option, Some, None, Result, Ok, Err, IsOkAnd, length, drop, nat_lt, ⊤}
-use Rattle.audit.specs.AuditOf.{audit_of}
+use Rattle.audit.specs.AuditOf.{audit_by}
+use Rattle.audit.specs.declared.strictness.Strictness.{Strictness}
 use Rattle.geo_base.specs.declared.event.Step.{Step}
 use Rattle.geo_base.specs.Audit.{Refusal as RefusedLine}
 use Rattle.script_text.specs.Rules.{script_of}
@@ -22,7 +23,7 @@ use Rattle.geo_top.specs.declared.top.command.Shown.{Shown}
 use Rattle.geo_top.specs.declared.top.status.Status.{Status}
 use Rattle.geo_top.specs.declared.top.status.Status.TheVariants as status
 use Rattle.geo_top.specs.Causes.{HasBadLine, HasBadState, HasRefusedLine, IsPassed, RunPasses}
-use Rattle.geo_top.specs.Commands.{audit_command, command_resuming, command_showing, resume_command, steps_on_command}
+use Rattle.geo_top.specs.Commands.{auditing_command, command_resuming, command_showing, resume_command, steps_on_command}
 use Rattle.geo_top.specs.Outputs.{IsAnswerFor, IsAnswerToBytes, UnlessLarge, answer_going_on, answer_to, answer_to_audited, answer_to_generated, answer_to_judged, answer_to_loaded, answer_to_resumed, answer_to_save, answer_to_steps, answer_to_steps_on, big_steps, output_of, passed_limit, resumed_limit, resumed_report, summary_of, unless_passed}
 use Rattle.geo_top.specs.States.{file_of, stopped}
 use Rattle.geo_top.specs.Statuses.{IsMade, refusal_line}
@@ -96,14 +97,15 @@ caused_resume v input (Ok x) loaded = caused_on v input x.0 x.1 loaded
 caused_resume v input (Err (bad_state offset rule)) loaded = (v, refl, loaded)
 caused_resume v input (Err (version number)) loaded = (v, refl, loaded)
 
-caused_judged : (input : List ℕ) (n : Script) (r : Result ℕ RefusedLine) → script_of (declarations_in input) ≡ Ok n → audit_of n.setup (trace_in input) ≡ r
-    → IsCaused (Some audit_command) input (answer_to_judged r).status
-caused_judged input n (Ok events) script judged = some_command audit_command
-caused_judged input n (Err r) script judged = (refl, ok_with (script_of (declarations_in input)) n (λ m. audit_of m.setup (trace_in input) ≡ Err r) script judged)
+caused_judged : (k : Strictness) (input : List ℕ) (n : Script) (r : Result ℕ RefusedLine) → script_of (declarations_in input) ≡ Ok n → audit_by k n.setup (trace_in input) ≡ r
+    → IsCaused (Some (auditing_command k)) input (answer_to_judged r).status
+caused_judged k input n (Ok events) script judged = some_command (auditing_command k)
+caused_judged k input n (Err r) script judged = (k, refl, ok_with (script_of (declarations_in input)) n (λ m. audit_by k m.setup (trace_in input) ≡ Err r) script judged)
 
-caused_audit : (input : List ℕ) (r : Result Script Fault) → script_of (declarations_in input) ≡ r → IsCaused (Some audit_command) input (answer_to_audited (trace_in input) r).status
-caused_audit input (Ok n) script = caused_judged input n (audit_of n.setup (trace_in input)) script refl
-caused_audit input (Err f) script = script
+caused_audit : (k : Strictness) (input : List ℕ) (r : Result Script Fault) → script_of (declarations_in input) ≡ r
+    → IsCaused (Some (auditing_command k)) input (answer_to_audited k (trace_in input) r).status
+caused_audit k input (Ok n) script = caused_judged k input n (audit_by k n.setup (trace_in input)) script refl
+caused_audit k input (Err f) script = script
 
 caused_bytes : (r : Reading) (input : List ℕ) (a : Answer) → IsAnswerToBytes r input a → IsCaused (Some (command.Reads r)) input a.status
 caused_bytes (reading.Script v) input a is =
@@ -112,8 +114,8 @@ caused_bytes reading.Save input a is =
     subst (λ (a : Answer). IsCaused (Some (command.Reads reading.Save)) input a.status) (sym is) (caused_save input (script_of input) refl)
 caused_bytes (reading.Resume v) input a is =
     subst (λ (a : Answer). IsCaused (Some (command_resuming v)) input a.status) (sym is.2) (caused_resume v input is.0 is.1)
-caused_bytes reading.Audit input a is =
-    subst (λ (a : Answer). IsCaused (Some audit_command) input a.status) (sym is) (caused_audit input (script_of (declarations_in input)) refl)
+caused_bytes (reading.Audit k) input a is =
+    subst (λ (a : Answer). IsCaused (Some (auditing_command k)) input a.status) (sym is) (caused_audit k input (script_of (declarations_in input)) refl)
 caused_bytes reading.Steps input a is =
     subst (λ (a : Answer). IsCaused (Some (command.Reads reading.Steps)) input a.status) (sym is) (caused_told input (script_of input) refl)
 
@@ -201,15 +203,15 @@ line_judged : (r : Result ℕ RefusedLine) → Lined (answer_to_judged r)
 line_judged (Ok events) = tt
 line_judged (Err r) = refl
 
-line_audit : (trace : List ℕ) (r : Result Script Fault) → Lined (answer_to_audited trace r)
-line_audit trace (Ok n) = line_judged (audit_of n.setup trace)
-line_audit trace (Err f) = refl
+line_audit : (k : Strictness) (trace : List ℕ) (r : Result Script Fault) → Lined (answer_to_audited k trace r)
+line_audit k trace (Ok n) = line_judged (audit_by k n.setup trace)
+line_audit k trace (Err f) = refl
 
 line_bytes : (r : Reading) (input : List ℕ) (a : Answer) → IsAnswerToBytes r input a → Lined a
 line_bytes (reading.Script v) input a is = subst Lined (sym is) (line_script v (script_of input))
 line_bytes reading.Save input a is = subst Lined (sym is) (line_save (script_of input))
 line_bytes (reading.Resume v) input a is = subst Lined (sym is.2) (line_loaded v input is.0)
-line_bytes reading.Audit input a is = subst Lined (sym is) (line_audit (trace_in input) (script_of (declarations_in input)))
+line_bytes (reading.Audit k) input a is = subst Lined (sym is) (line_audit k (trace_in input) (script_of (declarations_in input)))
 line_bytes reading.Steps input a is = subst Lined (sym is) (line_told input (script_of input))
 
 line_input : (t : Bool) (r : Reading) (input : List ℕ) (a : Answer) → UnlessLarge t a (IsAnswerToBytes r input a) → Lined a

@@ -24,7 +24,7 @@ one_bytes : (r : Reading) (input : List ℕ) (a d : Answer) → IsAnswerToBytes 
 one_bytes (reading.Script v) input a d own is = own ∙ sym is
 one_bytes reading.Save input a d own is = own ∙ sym is
 one_bytes (reading.Resume v) input a d own is = one_file v input a d own is
-one_bytes reading.Audit input a d own is = own ∙ sym is
+one_bytes (reading.Audit k) input a d own is = own ∙ sym is
 one_bytes reading.Steps input a d own is = own ∙ sym is
 
 one_input : (t : Bool) (r : Reading) (input : List ℕ) (a d : Answer) → UnlessLarge t a (IsAnswerToBytes r input a) → UnlessLarge t d (IsAnswerToBytes r input d) → a ≡ d

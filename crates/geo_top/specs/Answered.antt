@@ -30,6 +30,7 @@ use Rattle.geo_top.specs.States.{file_of, gone_on, stopped}
 use Rattle.geo_top.specs.Statuses.{IsDue, IsMade, refusal_line}
 use Rattle.geo_top.specs.Stepped.{steps_of, steps_on}
 use Rattle.geo_top.specs.Traced.{traced_of}
+use Rattle.geo_top.specs.Wholly.{IsJudgedWhole}
 
 -- how often source and sink had failed before a call, and by its end
 pub record FaultCounts : Type 0 where
@@ -112,6 +113,8 @@ pub record IsAnswered (c : Option Command) (input output : List ℕ) (f : FaultC
   pub audited_safe : s ≡ status.Ok → c ≡ Some audit_command → IsOkAnd (script_of (declarations_in input)) (λ n. IsAuditedSafe n.setup (trace_in input))
   -- and what `trace` writes of any accepted script `audit` accepts, and counts the events of that run.
   pub accepted : (n : Script) → IsScenario n → answer_to_audit (traced_of n) ≡ record { status = status.Ok; bytes = audit_line (run_under all_limits n.setup n.steps).world.events }
+  -- `audit whole` promises as much, and that there is no gap.
+  pub whole : IsJudgedWhole c input output s
   -- `steps` writes each step of that run, as the line that says it, with what it changed of what a report shows, between the report of
   -- where the run begins and the counts where it ends;
   pub stepped : s ≡ status.Ok → c ≡ Some steps_command → IsOkAnd (script_of input) (λ n. (output ≡ steps_of input n) × HoldsWithin n)

@@ -1,6 +1,7 @@
 -- Why the program refuses.
 use Rattle.std.specs.Prelude.{◌≡◌, ◌⊎◌, ℕ, ◌<◌, List, length, drop, Option, Some, None, IsOkAnd, Ok, Err}
-use Rattle.audit.specs.AuditOf.{audit_of}
+use Rattle.audit.specs.AuditOf.{audit_by}
+use Rattle.audit.specs.declared.strictness.Strictness.{Strictness}
 use Rattle.geo_base.specs.Audit.{Refusal as RefusedLine}
 use Rattle.script_text.specs.Rules.{script_of}
 use Rattle.script_text.specs.Schedule.{schedule_of}
@@ -13,7 +14,7 @@ use Rattle.geo_top.specs.declared.top.command.Command.TheVariants as command
 use Rattle.geo_top.specs.declared.top.command.GoingOn.{GoingOn}
 use Rattle.geo_top.specs.declared.top.command.Reading.{Reading}
 use Rattle.geo_top.specs.declared.top.command.Reading.TheVariants as reading
-use Rattle.geo_top.specs.Commands.{Reads, audit_command, command_resuming}
+use Rattle.geo_top.specs.Commands.{Reads, auditing_command, command_resuming}
 use Rattle.geo_top.specs.Outputs.{passed_limit, resumed_limit}
 use Rattle.geo_top.specs.States.{stopped}
 use Rattle.script_inputs.specs.Generated.{generated_run}
@@ -24,7 +25,7 @@ HasBadLineIn (reading.Script v) input f = script_of input ≡ Err f
 HasBadLineIn reading.Save input f = script_of input ≡ Err f
 HasBadLineIn (reading.Resume v) input f =
     (s : SavedState) × (used : ℕ) × IsLoaded input (Ok (s, used)) × (schedule_of s.scenario.setup (drop used input) ≡ Err f)
-HasBadLineIn reading.Audit input f = script_of (declarations_in input) ≡ Err f
+HasBadLineIn (reading.Audit k) input f = script_of (declarations_in input) ≡ Err f
 HasBadLineIn reading.Steps input f = script_of input ≡ Err f
 
 abbrev pub HasBadLine : Option Command → List ℕ → Fault → Type 0
@@ -39,7 +40,7 @@ RunPasses (reading.Script v) input limit = IsOkAnd (script_of input) (λ n. pass
 RunPasses reading.Save input limit = IsOkAnd (script_of input) (λ n. passed_limit (stopped n) ≡ Some limit)
 RunPasses (reading.Resume v) input limit = (s : SavedState) × (used : ℕ) × IsLoaded input (Ok (s, used))
     × IsOkAnd (schedule_of s.scenario.setup (drop used input)) (λ es. resumed_limit s es ≡ Some limit)
-RunPasses reading.Audit input limit = ⊥
+RunPasses (reading.Audit k) input limit = ⊥
 RunPasses reading.Steps input limit = IsOkAnd (script_of input) (λ n. passed_limit n ≡ Some limit)
 
 abbrev pub PassesRunning : Option Command → List ℕ → ℕ → Type 0
@@ -56,6 +57,7 @@ IsPassed c input limit =
 abbrev pub HasBadState : Option Command → List ℕ → Refusal → Type 0
 HasBadState c input r = (v : GoingOn) × (c ≡ Some (command_resuming v)) × IsLoaded input (Err r)
 
--- a line of a trace that is refused: behind this event, by this rule
+-- a line of a trace that is refused, by how strictly it was to be judged: behind this event, by this rule
 abbrev pub HasRefusedLine : Option Command → List ℕ → RefusedLine → Type 0
-HasRefusedLine c input r = (c ≡ Some audit_command) × IsOkAnd (script_of (declarations_in input)) (λ n. audit_of n.setup (trace_in input) ≡ Err r)
+HasRefusedLine c input r =
+    (k : Strictness) × (c ≡ Some (auditing_command k)) × IsOkAnd (script_of (declarations_in input)) (λ n. audit_by k n.setup (trace_in input) ≡ Err r)

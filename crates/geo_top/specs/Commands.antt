@@ -1,9 +1,11 @@
--- The commands of the program, by its words: `run`, `save`, `resume`, `audit`, `trace`, `steps`, `steps from`, `steps big NUMBER`,
--- `big NUMBER`, `compact HORIZON` and `tiered KEEP`.
+-- The commands of the program, by its words: `run`, `save`, `resume`, `audit`, `audit whole`, `trace`, `steps`, `steps from`,
+-- `steps big NUMBER`, `big NUMBER`, `compact HORIZON` and `tiered KEEP`.
 -- Any other words are none (own).
 use Rattle.std.specs.Prelude.{◌≡◌, ℕ, Bool, true, false, ◌&&◌, if◌then◌else◌, List, [], ◌∷◌, Option, Some, None, codes}
 use Rattle.std.specs.Str.{bytes_eq}
 use Rattle.script_rows.specs.Numbers.{number_of}
+use Rattle.audit.specs.declared.strictness.Strictness.{Strictness}
+use Rattle.audit.specs.declared.strictness.Strictness.TheVariants as strictness
 use Rattle.geo_top.specs.declared.top.command.Command.{Command}
 use Rattle.geo_top.specs.declared.top.command.Command.TheVariants as command
 use Rattle.geo_top.specs.declared.top.command.GoingOn.{GoingOn}
@@ -44,8 +46,19 @@ resume_command = command_resuming going_on.Report
 abbrev pub steps_on_command : Command
 steps_on_command = command_resuming going_on.Steps
 
+-- a command that judges a trace, by how strictly
+abbrev pub auditing_command : Strictness → Command
+auditing_command k = command.Reads (reading.Audit k)
+
 abbrev pub audit_command : Command
-audit_command = command.Reads reading.Audit
+audit_command = auditing_command strictness.Plain
+
+abbrev pub whole_command : Command
+whole_command = auditing_command strictness.Whole
+
+-- the word behind `audit`
+abbrev pub audit_of_word : List ℕ → Option Command
+audit_of_word w = if bytes_eq w (codes "whole") then Some whole_command else None
 
 abbrev pub steps_command : Command
 steps_command = command.Reads reading.Steps
@@ -94,6 +107,7 @@ numbered_of w n =
     else if bytes_eq w (codes "compact") then compact_of (number_of most_horizon n)
     else if bytes_eq w (codes "tiered") then tier_of (number_of most_keep n)
     else if bytes_eq w (codes "steps") then steps_with n
+    else if bytes_eq w (codes "audit") then audit_of_word n
     else None
 
 -- the steps of a generated run

@@ -22,7 +22,7 @@ abbrev pub IsKnown : Reading → List ℕ → Type 0
 IsKnown (reading.Script v) input = IsAccepted (script_of input)
 IsKnown reading.Save input = IsAccepted (script_of input)
 IsKnown (reading.Resume v) input = ⊤
-IsKnown reading.Audit input = ⊤
+IsKnown (reading.Audit k) input = ⊤
 IsKnown reading.Steps input = IsAccepted (script_of input)
 
 abbrev pub IsKnownFor : Option Command → List ℕ → Status → Type 0

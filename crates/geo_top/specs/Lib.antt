@@ -12,6 +12,7 @@ pub mod Traced
 pub mod Stepped
 pub mod Outputs
 pub mod Causes
+pub mod Wholly
 pub mod Finished
 pub mod Claims
 pub mod OneRun

@@ -1,6 +1,8 @@
 -- What the program answers to words and the bytes of an input: how it ends, and what it writes.
 use Rattle.std.specs.Prelude.{◌≡◌, ℕ, nat_lt, Bool, true, false, List, length, drop, Option, Some, None, Result, Ok, Err}
-use Rattle.audit.specs.AuditOf.{audit_of}
+use Rattle.audit.specs.AuditOf.{audit_by}
+use Rattle.audit.specs.declared.strictness.Strictness.{Strictness}
+use Rattle.audit.specs.declared.strictness.Strictness.TheVariants as strictness
 use Rattle.geo_base.specs.declared.event.Step.{Step}
 use Rattle.geo_base.specs.Audit.{Refusal}
 use Rattle.geo_base.specs.Report.{report}
@@ -122,12 +124,16 @@ abbrev pub answer_to_judged : Result ℕ Refusal → Answer
 answer_to_judged (Ok events) = record { status = status.Ok; bytes = audit_line events }
 answer_to_judged (Err r) = refused (status.AuditRefused r.event r.rule)
 
-abbrev pub answer_to_audited : List ℕ → Result Script Fault → Answer
-answer_to_audited trace (Ok n) = answer_to_judged (audit_of n.setup trace)
-answer_to_audited trace (Err f) = refused (status.BadScript f.line f.rule)
+abbrev pub answer_to_audited : Strictness → List ℕ → Result Script Fault → Answer
+answer_to_audited k trace (Ok n) = answer_to_judged (audit_by k n.setup trace)
+answer_to_audited k trace (Err f) = refused (status.BadScript f.line f.rule)
+
+-- by how strictly it is judged
+abbrev pub answer_to_auditing : Strictness → List ℕ → Answer
+answer_to_auditing k input = answer_to_audited k (trace_in input) (script_of (declarations_in input))
 
 abbrev pub answer_to_audit : List ℕ → Answer
-answer_to_audit input = answer_to_audited (trace_in input) (script_of (declarations_in input))
+answer_to_audit input = answer_to_auditing strictness.Plain input
 
 -- ---- to a number
 -- the bytes of the summary of a number's generated run
@@ -153,7 +159,7 @@ abbrev pub IsAnswerToBytes : Reading → List ℕ → Answer → Type 0
 IsAnswerToBytes (reading.Script v) input a = a ≡ answer_to v (script_of input)
 IsAnswerToBytes reading.Save input a = a ≡ answer_to_save (script_of input)
 IsAnswerToBytes (reading.Resume v) input a = IsAnswerToFile v input a
-IsAnswerToBytes reading.Audit input a = a ≡ answer_to_audit input
+IsAnswerToBytes (reading.Audit k) input a = a ≡ answer_to_auditing k input
 IsAnswerToBytes reading.Steps input a = a ≡ answer_to_steps input (script_of input)
 
 abbrev pub UnlessLarge : Bool → Answer → Type 0 → Type 0

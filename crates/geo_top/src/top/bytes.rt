@@ -23,9 +23,9 @@ use std::alloc::Global;
 /// end; for `tiered KEEP` the entries of each topic there, read back once its closed ledgers but the last ones moved to a tier; for
 /// `trace` each event of the run with what it wrote durably; for `steps` each step with what it changed of a report; for `save` it is the
 /// state file of the run and a stop behind it; for `resume` the input is a state file and a schedule behind it, and the output the report
-/// of the run that goes on from there, and for `steps from` its steps; for `audit` the input is what a script declares and a trace behind
-/// it, and the output how many events the trace tells; for `big NUMBER` it is the summary of the run that the number generates, and for
-/// `steps big NUMBER` its steps. Else, and where it refuses, it is one line.
+/// of the run that goes on from there, and for `steps from` its steps; for `audit`, and for `audit whole`, which judges gaps as well, the
+/// input is what a script declares and a trace behind it, and the output how many events the trace tells; for `big NUMBER` it is the
+/// summary of the run that the number generates, and for `steps big NUMBER` its steps. Else, and where it refuses, it is one line.
 ///
 /// It takes the input, and gives the memory of a script back before the run, but for `steps`, whose lines it cites. The first of these
 /// refusals wins: words that are no command; more than 67,108,864 bytes; an item of the state that breaks a rule, or its version; a line
@@ -74,7 +74,7 @@ fn answer_to_bytes(alloc: Global, reading: Reading, bytes: Blob) -> Result<Answe
         Reading::Script(shown) => answer_to_script(alloc, shown, bytes),
         Reading::Save => answer_to_saving(alloc, bytes),
         Reading::Resume(shown) => answer_to_file(alloc, shown, bytes.as_slice()),
-        Reading::Audit => answer_to_audit(alloc, bytes.as_slice()),
+        Reading::Audit(strictness) => answer_to_audit(alloc, strictness, bytes.as_slice()),
         Reading::Steps => answer_to_steps(alloc, bytes.as_slice()),
     }
 }

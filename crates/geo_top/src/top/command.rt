@@ -1,8 +1,9 @@
 //! The commands of the program.
 ghost use Rattle.std.specs.Prelude.{◌≡◌};
-ghost use Rattle.geo_top.specs.Commands.{alone_of, big_of, command_of, compact_of, has_input, most_horizon, most_keep, most_number, numbered_of, stepped_of, steps_with, tier_of};
+ghost use Rattle.geo_top.specs.Commands.{alone_of, audit_of_word, big_of, command_of, compact_of, has_input, most_horizon, most_keep, most_number, numbered_of, stepped_of, steps_with, tier_of};
 ghost use Rattle.script_rows.specs.Numbers.{number_of};
 
+use audit::Strictness;
 use geo_base::Text;
 use script_rows::number_of;
 
@@ -38,8 +39,8 @@ pub enum Reading {
     Save,
     /// A run goes on from a state file with the steps behind it, and something of it is shown.
     Resume(GoingOn),
-    /// The trace of a run that stands behind a script's declarations is judged.
-    Audit,
+    /// The trace of a run that stands behind a script's declarations is judged, by how strictly.
+    Audit(Strictness),
     /// A script is run, and each of its steps is shown with what it changed of a report.
     Steps,
 }
@@ -98,7 +99,7 @@ impl Command {
         } else if bytes == b"resume".as_slice() {
             Some(Command::Reads(Reading::Resume(GoingOn::Report)))
         } else if bytes == b"audit".as_slice() {
-            Some(Command::Reads(Reading::Audit))
+            Some(Command::Reads(Reading::Audit(Strictness::Plain)))
         } else if bytes == b"trace".as_slice() {
             Some(Command::Reads(Reading::Script(Shown::Trace)))
         } else if bytes == b"steps".as_slice() {
@@ -121,6 +122,8 @@ impl Command {
             Command::tiered(number)
         } else if bytes == b"steps".as_slice() {
             Command::steps_with(number)
+        } else if bytes == b"audit".as_slice() {
+            Command::audit(number)
         } else {
             None
         }
@@ -168,6 +171,17 @@ impl Command {
         match number_of(word.as_bytes(), MOST_KEEP) {
             Some(keep) => Some(Command::Reads(Reading::Script(Shown::Tiered(keep)))),
             None => None,
+        }
+    }
+
+    /// The audit of the word behind `audit`.
+    fn audit(word: &Word) -> Option<Command>
+        ensures { result ≡ audit_of_word word.now }
+    {
+        if word.as_bytes() == b"whole".as_slice() {
+            Some(Command::Reads(Reading::Audit(Strictness::Whole)))
+        } else {
+            None
         }
     }
 
