@@ -122,10 +122,12 @@ fi
 # a state alone: its steps, of which there are none
 if [ "${words[0]:-}" = show ]; then words=(steps from "${words[@]:1}"); fi
 
-# which words stand before the files
+# which words stand before the files; `whole` behind audit is a word of the command, and ./whole a file
 own=0
 case "${words[0]:-}:${#words[@]}" in
-run:* | resume:* | save:2 | trace:2 | audit:2) own=1 ;;
+audit:2) if [ "${words[1]}" != whole ]; then own=1; fi ;;
+audit:3) if [ "${words[1]}" = whole ]; then own=2; fi ;;
+run:* | resume:* | save:2 | trace:2) own=1 ;;
 steps:1) ;;
 steps:*)
     case ${words[1]} in
@@ -182,7 +184,7 @@ is_known() { [ -n "$program" ] && "$program" </dev/null 2>/dev/null | tr -c 'a-z
 read_input() {
     input=/dev/null
     case "${words[*]-}" in
-    run | save | resume | trace | audit | steps | steps\ from | compact\ * | tiered\ * | live\ *) ;;
+    run | save | resume | trace | audit | 'audit whole' | steps | steps\ from | compact\ * | tiered\ * | live\ *) ;;
     '' | big* | steps\ *) return ;;
     *) if [ ${#files[@]} = 0 ] && ! is_known "${words[0]}"; then return; fi ;;
     esac

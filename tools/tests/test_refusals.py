@@ -167,10 +167,22 @@ class Planted(unittest.TestCase):
         self.check(['audit'], 'run.trace', trace.replace('\nevent 3\n', '\n', 1).encode(), None, ['the next event is to be `event 3`'])
         self.check(['audit'], 'run.trace', trace[:-1].encode(), '%d' % (len(lines) - 1), ['no line feed'])
 
+    def test_gaps(self):
+        with open(ROOT + '/answers/gaps.trace', 'rb') as file:
+            whole = file.read()
+        missing = whole.replace(b'append t b 0:0 a p 0 * data - m0', b'create t b s1 earliest')
+        self.assertEqual((told(['audit'], 'run.trace', missing)[0], told(['audit', 'whole'], 'run.trace', whole)[0]), (0, 0))
+        line = missing.split(b'\n').index(b'append t b 0:1 a p 1 * data - m1') + 1
+        self.check(['audit', 'whole'], 'run.trace', missing, '%d' % line,
+                   ['append t b 0:1 a p 1 * data - m1', 'an entry before it is missing', './geo why --explain audit 12'])
+        changed = missing.replace(b'append t b 0:1 a p 1 * data - m1', b'append t b 0:1 a p 1 * data - m2')
+        self.check(['audit', 'whole'], 'run.trace', changed, '%d' % line, ['made up or changed on the way', './geo why --explain audit 4'])
+
     def test_words(self):
         status, text = told(['runn'], 'drill.geo', b'')
         self.assertEqual(status, 2)
         self.assertIn('runn is no command (did you mean run?)', text)
+        self.assertIn('hole is no word of audit (did you mean whole?)', told(['audit', 'hole'], 'run.trace', b'')[1])
 
 
 if __name__ == '__main__':

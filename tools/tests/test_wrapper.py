@@ -143,7 +143,7 @@ class Words(unittest.TestCase):
             self.assertEqual(status, 0)
             self.assertIn('usage: ./geo COMMAND', out)
         self.assertIn('usage: ./geo run SCRIPT', asked('run', '--help')[1])
-        self.assertIn('usage: ./geo audit TRACE', asked('help', 'audit')[1])
+        self.assertIn('usage: ./geo audit [whole] TRACE', asked('help', 'audit')[1])
         self.assertEqual(asked('help', 'nothing')[0], USAGE)
         status, out, _ = asked('--version')
         self.assertEqual(status, 0)
@@ -153,6 +153,7 @@ class Words(unittest.TestCase):
     def test_rules_are_explained(self):
         self.assertIn('rule 4 of a script', asked('why', '--explain', '4')[1])
         self.assertIn('rule 4 of an audit', asked('why', '--explain', 'audit', '4')[1])
+        self.assertIn('rule 12 of an audit', asked('why', '--explain', 'audit', '12')[1])
         self.assertIn('rule 4 of a state file', asked('why', '--explain', 'state', '4')[1])
         self.assertEqual(asked('why', '--explain', '99')[0], USAGE)
 

@@ -1,6 +1,7 @@
 """Audits traces by the rules of docs/AUDIT.md, apart from the program, and compares.
 
-    geo_tools audit FILE.geo ..          the trace of each script, and many changed ones, audited here and by the program (tools/build)
+    geo_tools audit FILE.geo ..          the trace of each script, and many changed ones, audited here and by the program (tools/build), by
+                                         `audit` and by `audit whole`
     geo_tools audit --changed N FILE.geo ..   so many changed traces of each, 20 without it
 
 Plain lists and walks, so that the rules can be read; it needs nothing but python3 and a build.
@@ -143,8 +144,8 @@ def positions_for(y, pairs):
 
 
 class Audit:
-    def __init__(self, clusters, topics):
-        self.clusters, self.topics, self.event = clusters, topics, 0
+    def __init__(self, clusters, topics, whole=False):
+        self.clusters, self.topics, self.whole, self.event = clusters, topics, whole, 0
         self.at = {(t, x): Topic() for t in range(len(topics)) for x in range(len(clusters))}
 
     def line(self, line):
@@ -199,9 +200,16 @@ class Audit:
             return 5
         if origin == x and content[0] == "update" and not self.tells(m, x, content[1], content[2], by):
             return 6
+        if self.whole and origin != x and not self.is_next(m, t, x, e):
+            return 12
         m.entries.append(e)
         m.positions.append(p)
         return None
+
+    def is_next(self, m, t, x, e):
+        for_here = [f for f in self.at[t, e[0]].entries if f[0] == e[0] and (f[3] is None or x in f[3])]
+        stored = sum(f[0] == e[0] for f in m.entries)
+        return stored < len(for_here) and for_here[stored] == e
 
     def is_cut(self, m, t, x, local, pairs):
         others = [y for y in range(len(self.clusters)) if y != x]
@@ -284,8 +292,8 @@ class Audit:
         return all(i <= last and (not is_data(m.entries[i]) or meant_for(origin, m.entries[i])) for i in indexes)
 
 
-def audited(clusters, topics, trace):
-    audit = Audit(clusters, topics)
+def audited(clusters, topics, trace, whole=False):
+    audit = Audit(clusters, topics, whole)
     lines = trace.split("\n")
     if len(lines) < 2 or lines[0] != "trace":
         return "audit refused 0 rule 1\n"
@@ -358,18 +366,19 @@ def main(words):
             tried = trace if n == 0 else changed(trace, clusters, rng)
             if n and not tried.startswith("trace\n") and "\ntrace\n" in tried:
                 continue
-            here = audited(clusters, topics, tried)
-            there = subprocess.run([program, "audit"], input=(head + tried).encode(), capture_output=True).stdout.decode()
-            done += 1
-            answer = " ".join(here.split()[:2] + here.split()[3:]) if here.startswith("audit refused") else "audit ok"
-            rules[answer] = rules.get(answer, 0) + 1
-            if here != there and not there.startswith("bad script"):
-                wrong += 1
-                print(f"{file}: here {here.strip()}, the program {there.strip()}")
-                with open(f"/tmp/audited_{wrong}", "w") as f:
-                    f.write(head + tried)
+            for command in ["audit"], ["audit", "whole"]:
+                here = audited(clusters, topics, tried, len(command) > 1)
+                there = subprocess.run([program, *command], input=(head + tried).encode(), capture_output=True).stdout.decode()
+                done += 1
+                answer = " ".join(here.split()[:2] + here.split()[3:]) if here.startswith("audit refused") else "audit ok"
+                rules[answer] = rules.get(answer, 0) + 1
+                if here != there and not there.startswith("bad script"):
+                    wrong += 1
+                    print(f"{file}: {' '.join(command)}: here {here.strip()}, the program {there.strip()}")
+                    with open(f"/tmp/audited_{wrong}", "w") as f:
+                        f.write(head + tried)
     for answer in sorted(rules):
         print(f"{rules[answer]:6} {answer}")
-    print(f"{done} traces, {wrong} answered otherwise by the program")
+    print(f"{done} audits, {wrong} answered otherwise by the program")
     return 1 if wrong else 0
 

@@ -17,6 +17,8 @@ from .forms import near
 from .told import Refusal, document, words_of
 
 COMMANDS = {'run': 0, 'live': 2, 'big': 1, 'save': 0, 'resume': 0, 'audit': 0, 'compact': 1, 'tiered': 1, 'trace': 0, 'steps': 0}
+# the word that may stand behind audit, so that it judges gaps as well
+WHOLE = 'whole'
 TOOLS = ('drill', 'story', 'page', 'why', 'check', 'help')
 # what goes on from a state as resume does
 STEPS_FROM = ['steps', 'from']
@@ -45,6 +47,8 @@ def of_words(words, usage=''):
     ranges = {'live': 'WORKERS is 1 to 64, and WORKERS times TURNS 2000000 at most', 'big': 'NUMBER is 0 to 4294967295',
               'compact': 'HORIZON is 0 to 2000000, or end', 'tiered': 'KEEP is 0 to 1000000'}.get(first)
     count = len(words) - 1
+    if first == 'audit' and count and words[1] != WHOLE:
+        return Refusal(file='geo', said='%s is no word of audit' % words[1], near=near(words[1].lower(), [WHOLE]), expected='geo audit FILE, or geo audit whole FILE')
     if count != COMMANDS[first]:
         said = '%s takes %d word%s, and here %s %d' % (first, COMMANDS[first], '' if COMMANDS[first] == 1 else 's', 'is' if count == 1 else 'are', count)
     else:
@@ -69,12 +73,12 @@ def of_script(raw, name, line, rule, command):
     return scripts.told(scripts.Script(raw), name, line, rule)
 
 
-def of_audit(raw, name, event, rule):
-    """The refusal of a line of a trace."""
+def of_audit(raw, name, event, rule, command=('audit',)):
+    """The refusal of a line of a trace, by the words of an audit."""
     row = rules.row('audit', rule)
     told = Refusal(file=name, said='of event %d a line is refused: %s' % (event, row[0]), rule_of='audit', rule=rule, remedy='it would mean: %s' % row[1])
     program = os.environ.get('GEO_PROGRAM')
-    found = audits.refused_line(raw, event, program) if program else None
+    found = audits.refused_line(raw, event, program, command) if program else None
     if found is None:
         if not raw.endswith(b'\n'):
             return told._replace(said='the last line has no line feed', remedy=None)
@@ -109,7 +113,7 @@ def refusal(status, answer, raw, name, command):
         return of_script(raw, name, int(found[1]), int(found[2]), command)
     found = re.fullmatch(r'audit refused (\d+) rule (\d+)\n', answer)
     if found:
-        return of_audit(raw, name, int(found[1]), int(found[2]))
+        return of_audit(raw, name, int(found[1]), int(found[2]), command or ('audit',))
     found = re.fullmatch(r'bad state at (\d+) rule (\d+)\n', answer)
     if found:
         return of_state(raw, name, int(found[1]), int(found[2]))

@@ -31,14 +31,14 @@ def lines_of_event(raw, event):
     return ends
 
 
-def refused_line(raw, event, program):
-    """The number of the refused line, from 1, and its text; None where the trace has no such line."""
+def refused_line(raw, event, program, command=('audit',)):
+    """The number of the refused line, from 1, and its text; None where the trace has no such line. The words are those of the audit."""
     ends = lines_of_event(raw, event)
     if not ends:
         return None
 
     def is_refused(end):
-        done = subprocess.run([program, 'audit'], input=raw[:end], stdout=subprocess.PIPE, check=False)
+        done = subprocess.run([program, *command], input=raw[:end], stdout=subprocess.PIPE, check=False)
         return not done.stdout.startswith(b'audit ok')
     low, high = 0, len(ends) - 1
     while low < high:
