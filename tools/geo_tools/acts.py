@@ -180,9 +180,10 @@ def acts_of(script, moments):
     above = len(script.above())
     comments = [other for other in script.others[above:] if other.kind == 'comment']
     begin = moments[0].event.line if moments else 0
-    # the comments of the first event that is shown are shown with it
+    # the comments of the first event that is shown are shown with it; those behind the last one where no other follows
     first = max([event.line for event in script.events if event.line < begin], default=0)
-    last = min([event.line for event in script.events if moments and event.line > moments[-1].event.line], default=len(script.raw))
+    is_end = not moments or moments[-1].event.line == script.events[-1].line
+    last = len(script.raw) if is_end else moments[-1].event.line
     before = [fact_of(script, other.text) for other in comments if other.line < first]
     walk = Walk(script)
     items = [(other.line, None, other) for other in comments if first <= other.line < last] + [(it.event.line, it, None) for it in moments]

@@ -5,24 +5,30 @@ import sys
 from . import drill
 from .drill.words import Refused
 from .program import Failed, Program
-from .script import Script
-from .step_lines import MOST_EVENTS
+from .progress import Progress
+from .script import Behind, Script
 
 # the statuses of a file that cannot be read, and of a drill that cannot be meant
 UNREAD, REFUSED = 1, 3
 
 
+# the word before a state
+FROM = 'from'
+
+
 def arguments(parser):
     """The words that the story and the page share."""
-    parser.add_argument('script', metavar='SCRIPT', help='the script; - is standard input')
-    parser.add_argument('--from', dest='first', type=int, default=1, metavar='LINE', help='the first line of the script to show')
-    parser.add_argument('--to', dest='last', type=int, metavar='LINE', help='the last line of the script to show')
+    parser.usage = '%(prog)s [options] SCRIPT, or %(prog)s [options] from STATE [EVENTS ..]'
+    parser.add_argument('files', nargs='+', metavar='SCRIPT', help='the script; - is standard input. Or the word from, a state, and files of '
+                        'events that go on from it')
+    parser.add_argument('--from', dest='first', type=int, default=1, metavar='LINE', help='the first line of the events to show')
+    parser.add_argument('--to', dest='last', type=int, metavar='LINE', help='the last line of the events to show')
     parser.add_argument('--program', metavar='FILE', help='a built geo to run in place of the one that ./geo runs')
-    parser.epilog = ('What each event did is told by `geo steps`; where the program has no such command, by a run of each beginning of the '
-                     'script, of at most %d events. Without a build the sources are compiled once, in one to two minutes, and the program is '
-                     'kept. The status is 0; 1 where the script cannot be read; 2 for wrong words; 3 where the drill is refused; where the '
-                     'program refuses the script, its own (docs/REPORT.md); 69 without a build and a toolchain, 70 where the toolchain '
-                     'failed.' % MOST_EVENTS)
+    parser.epilog = ('What each event did is told by one run, `geo steps` or `geo steps from`. What takes longer than two seconds says on '
+                     'standard error how far it is. Without a build the sources are compiled once, in one to two minutes, and the program is '
+                     'kept. The status is 0; 1 where a file cannot be read; 2 for wrong words; 3 where the drill is refused; where the '
+                     'program refuses the script, its own (docs/REPORT.md); 69 without a build and a toolchain, or where the program that is '
+                     'named is too old for the command; 70 where the toolchain failed, or the program told no end.')
     return parser
 
 
@@ -64,10 +70,20 @@ def ended(work):
         return UNREAD
 
 
-def shown(show, words):
-    """Shows a script, and gives the status that says how that went."""
+def given(parser, words, program):
+    """What the files are: a script, or a state with the events behind it; and their name."""
+    if words.files[0] == FROM and len(words.files) > 1:
+        state, *events = words.files[1:]
+        return Behind(read_script(state), b''.join(map(read_script, events))), os.path.basename(state)
+    if len(words.files) > 1:
+        parser.error('one script, or from STATE EVENTS: ' + ' '.join(words.files))
+    return script_of(words.files[0], program), os.path.basename(words.files[0])
+
+
+def shown(show, parser, words):
+    """Shows a script, or a state with what goes on from it, and gives the status that says how that went."""
     def work():
-        program = Program(words.program)
-        show(script_of(words.script, program), program)
+        program, tell = Program(words.program), Progress()
+        show(*given(parser, words, program), program, tell)
         return 0
     return ended(work)

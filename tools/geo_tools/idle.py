@@ -1,25 +1,33 @@
 """Why an event did nothing. What waits is told by the steps; all else as for the lines of a drill (drill/causes.py): read off the
 report before the event, or asked of the program by an experiment."""
+import functools
+
 from .drill.language import Drill
 from .drill.play import Play
 from .drill.words import Refused
 
-# experiments are runs of the program, so of more idle events only the first ones are asked of it
-MOST_ASKED = 60
+# experiments are runs of a script's beginning: so many events are asked about, as long as their beginnings have together so many events
+MOST_ASKED, MOST_EVENTS = 60, 60000
 
 
 class Idle:
-    """The causes of a script's idle events."""
+    """The causes of a script's idle events. Without a program, as of what goes on from a state, only their words tell."""
 
     def __init__(self, script, program):
-        self.script, self.asked_of, self.known = script, 0, {}
+        self.script, self.program, self.known = script, program, {}
+        self.asked_of = self.walked = 0
         self.at = {event.line: at for at, event in enumerate(script.events)}
+
+    @functools.cached_property
+    def causes(self):
+        """Who asks the program; None where that cannot be."""
         try:
             # what is declared is enough for them, and of events a drill takes fewer than a script
-            self.causes = Play(Drill(script.raw[:script.begin].decode('utf-8', errors='replace'), '-'), program).causes
+            head = self.script.raw[:self.script.begin].decode('utf-8', errors='replace')
+            return Play(Drill(head, '-'), self.program).causes if self.program else None
         except Refused:
             # then only the words of the event tell
-            self.causes = None
+            return None
 
     def cause(self, event):
         """Why this event of the script was idle, '' where nobody knows."""
@@ -38,9 +46,9 @@ class Idle:
                 'seek': lambda: 'no entry stands there, or %s is not at %s' % (words[3], words[2])}.get(words[0])
         if told:
             return told()
-        if self.causes is None or self.asked_of == MOST_ASKED:
+        self.asked_of, self.walked = self.asked_of + 1, self.walked + self.at[event.line]
+        if self.asked_of > MOST_ASKED or self.walked > MOST_EVENTS or self.causes is None:
             return ''
-        self.asked_of += 1
         return self.asked(words, [' '.join(before.words) for before in self.script.events[:self.at[event.line]]])
 
     def asked(self, words, before):

@@ -1,10 +1,12 @@
 """The program: where it is found, and its answers to scripts."""
 import os
 import re
+import select
 import shutil
 import subprocess
 import tempfile
 
+from .progress import silent
 from .report import Report
 
 # the top of the repository
@@ -12,6 +14,11 @@ ROOT = os.path.dirname(os.path.dirname(os.path.dirname(os.path.realpath(__file__
 
 # the statuses of ./geo where it is not the program that answers
 NO_PROGRAM, NO_ANSWER = 69, 70
+
+# the status of the program for words that it does not know
+WRONG_WORDS = 2
+# how often it is told that the program still runs, in seconds
+WAIT = 0.5
 
 # what `rt try` may take to run one script, in seconds
 TRY_SECONDS = '600'
@@ -82,6 +89,44 @@ class Program:
     def answer(self, command, raw):
         """What a command prints for a script."""
         return self.answers(command, [raw])[0]
+
+    def lines(self, command, raw, tell=silent):
+        """The lines of what a command prints, one by one as they come, so that the whole is never kept; fails where the status is not 0."""
+        self.runs += 1
+        tell('the program runs')
+        if not self.path:
+            status, said = self._compiled(command, [raw])[0]
+            given = iter(said.split('\n')[:-1])
+            yield from self.held_back(command, given, lambda: status)
+            return
+        with tempfile.TemporaryFile() as file:
+            file.write(raw)
+            file.seek(0)
+            try:
+                process = subprocess.Popen([self.path, *command.split()], stdin=file, stdout=subprocess.PIPE)
+            except OSError as error:
+                raise Failed('%s: %s' % (self.path, error.strerror), NO_PROGRAM) from error
+            with process:
+                while not select.select([process.stdout], [], [], WAIT)[0]:
+                    tell('the program runs')
+                given = (line.decode('ascii', errors='replace').removesuffix('\n') for line in process.stdout)
+                yield from self.held_back(command, given, process.wait)
+
+    @staticmethod
+    def held_back(command, given, ended):
+        """The lines that are given, each when the next one is there: what is refused has one line, which is none of an answer."""
+        last = next(given, None)
+        for line in given:
+            yield last
+            last = line
+        status = ended()
+        if status == WRONG_WORDS:
+            raise Failed('the program has no command %s: it is an older build than this source (tools/compile makes one, tools/build a proved one)'
+                         % command, NO_PROGRAM)
+        if status != 0:
+            raise Failed(last or 'geo %s ended with status %d' % (command, status), status)
+        if last is not None:
+            yield last
 
     def reports(self, scripts):
         """The report of each script."""

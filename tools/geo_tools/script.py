@@ -18,17 +18,21 @@ def shown(raw):
 class Script:
     """The lines of a script: what is declared, what each client does, and the events in order.
 
-    It is told from the words alone and judged by nobody here: the program refuses what is no script.
+    It is told from the words alone and judged by nobody here: the program refuses what is no script. `above` lines count for none: of
+    what goes on from a state the lines that declare stand above the first line of a file.
     """
 
-    def __init__(self, raw):
+    # the command that tells its steps
+    command, is_script = 'steps', True
+
+    def __init__(self, raw, above=0):
         self.raw = raw
         self.clusters, self.topics, self.clients = [], [], []
         self.topic_of, self.does = {}, {}
         self.events, self.others = [], []
         self.begin = len(raw)
         at, comments = 0, []
-        for number, line in enumerate(raw.split(b'\n'), 1):
+        for number, line in enumerate(raw.split(b'\n'), 1 - above):
             if line.startswith(b'#'):
                 comments.append(shown(line[1:]).strip())
                 self.others.append(Other(number, 'comment', comments[-1]))
@@ -56,6 +60,10 @@ class Script:
             self.does.setdefault(words[1], []).append(line.split(' ', 2)[2])
         return []
 
+    def known(self, _):
+        """The script, once what is declared is known."""
+        return self
+
     def above(self):
         """The lines above the first event, but for the comments that are its own."""
         if not self.events:
@@ -77,9 +85,21 @@ class Script:
         return in_force(self.does.get(client, [])[:done])
 
 
-def in_force(lines):
-    """The name of the subscription that is in force behind these lines of a client; None where none is."""
-    name = None
+class Behind:
+    """A state with the events that go on from it, which have its names."""
+
+    command, is_script = 'steps from', False
+
+    def __init__(self, state, events):
+        self.raw, self.events = state + events, events
+
+    def known(self, declared):
+        """The events as a script, below what the state declares; their lines count from 1."""
+        return Script('\n'.join(declared + ['']).encode() + self.events, len(declared))
+
+
+def in_force(lines, name=None):
+    """The name of the subscription that is in force behind these lines of a client, where this one was; None where none is."""
     for line in lines:
         words = line.split(' ')
         if words[0] == 'sub':

@@ -1,4 +1,5 @@
-"""Prints a script, or a drill, with what each of its events did behind it: which line of the report came, went or changed.
+"""Prints a script, a drill, or what goes on from a state, with what each of its events did behind it: which line of the report came, went or
+changed.
 
 Behind an event stands `idle` with the cause; or `-` where it was done and no line of the report changed, as where a packet was only
 sent; or what changed:
@@ -23,6 +24,7 @@ from . import command, steps as m
 from .acts import Act, acts_of, own_names
 from .changes import folded_changes
 from .idle import Idle
+from .progress import silent
 
 # an event's words take at most this many columns before what it did
 MOST_COLUMNS = 36
@@ -35,12 +37,17 @@ def parts(old, new, names):
     return ', '.join('%s %s -> %s' % (name, getattr(old, name), getattr(new, name)) for name in names if getattr(old, name) != getattr(new, name))
 
 
+def counted(count, thing):
+    """So many of a thing."""
+    return '%d %s%s' % (count, thing, '' if count == 1 else 's')
+
+
 class Teller:
     """Tells changes in words, by the names of a drill where it has its own."""
 
     def __init__(self, script, program=None):
         self.script, self.names = script, own_names(script)
-        self.idle = Idle(script, program) if program else None
+        self.idle = Idle(script, program)
 
     def name(self, name):
         return self.names.get(name, name)
@@ -89,7 +96,7 @@ class Teller:
 
     def idle_text(self, moment):
         """That an event was idle, and why."""
-        cause = self.idle.cause(moment.event) if self.idle else ''
+        cause = self.idle.cause(moment.event)
         if not cause and moment.waits is not None:
             cause = 'its line waits: ' + moment.waits if moment.waits else 'no line is left'
         return 'idle' + (': ' + cause if cause else '')
@@ -111,13 +118,15 @@ class Teller:
     def counts(moments):
         """Of settles how many rounds and events they took."""
         settles = [moment for moment in moments if moment.event.words[0] == 'settle']
-        return ['%d rounds, %d events' % (sum(it.rounds for it in settles), sum(it.events for it in settles))] if settles else []
+        return ['%s, %s' % (counted(sum(it.rounds for it in settles), 'round'), counted(sum(it.events for it in settles), 'event'))] if settles else []
 
 
 # ---- lines ----
 
 
 def row(number, width, left, right):
+    """A line behind its number; what a state declares has none."""
+    number = '' if number == '' or number < 1 else number
     return ('%*s  %s' % (width, number, left) if right is None else '%*s  %s  %s' % (width, number, left, right)).rstrip()
 
 
@@ -194,15 +203,17 @@ def closing(teller, nodes, whole):
     yield whole.text.split('\n', 1)[0]
 
 
-def story(script, run, teller, packets=False):
+def story(run, teller, packets=False, tell=silent):
     """The lines of a story."""
+    script = run.script
     nodes, _ = acts_of(script, run.moments)
     lines = Lines(script, teller, nodes, packets)
     if len(run.moments) < len(script.events):
         yield '# %d of %d lines of events are shown' % (len(run.moments), len(script.events))
     if not run.left_out and (run.moments or not script.events):
         yield from declared(script, lines.width)
-    for node in nodes:
+    for at, node in enumerate(nodes):
+        tell('telling', at, len(nodes))
         yield from lines.node(node)
     yield ''
     yield from closing(teller, nodes, run.whole)
@@ -217,9 +228,9 @@ def record_of(teller, moment):
             'events': [record_of(teller, event) for event in moment.inside]}
 
 
-def records(script, run, teller):
+def records(run, teller):
     """A story as one document: its headings, its lines with their events, and its counts."""
-    nodes, _ = acts_of(script, run.moments)
+    nodes, _ = acts_of(run.script, run.moments)
     told = []
     for node in nodes:
         if isinstance(node, Act):
@@ -228,7 +239,7 @@ def records(script, run, teller):
         else:
             told.append({'line': node.line, 'heading': node.text})
     whole = run.whole
-    return {'title': script.title(), 'lines': told, 'events': whole.events, 'idle': whole.idle, 'rounds': whole.rounds}
+    return {'title': run.script.title(), 'lines': told, 'events': whole.events, 'idle': whole.idle, 'rounds': whole.rounds}
 
 
 def main(words):
@@ -237,7 +248,12 @@ def main(words):
     parser.add_argument('--json', action='store_true', help='prints one JSON document')
     words = parser.parse_args(words)
 
-    def show(script, program):
-        run, teller = m.run(script, program, words.first, words.last), Teller(script, program)
-        print(json.dumps(records(script, run, teller), indent=1) if words.json else '\n'.join(story(script, run, teller, words.packets)))
-    return command.shown(show, words)
+    def show(given, _, program, tell):
+        run = m.run(given, program, words.first, words.last, tell)
+        teller = Teller(run.script, program if given.is_script else None)
+        if words.json:
+            print(json.dumps(records(run, teller), indent=1))
+            return
+        for line in story(run, teller, words.packets, tell):
+            print(line)
+    return command.shown(show, parser, words)

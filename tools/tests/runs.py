@@ -1,6 +1,6 @@
 """Small runs for tests, with what `geo steps`, `geo trace` and `geo run` print of them, written by hand by the rules of docs/."""
 from geo_tools import steps
-from geo_tools.script import Script
+from geo_tools.script import Behind, Script
 
 
 class Stored:
@@ -8,20 +8,12 @@ class Stored:
 
     path = 'stored'
 
-    def __init__(self, raw, report, told, trace='trace\n'):
-        self.raw, self.said = raw, {'run': report, 'steps': told, 'trace': trace}
+    def __init__(self, raw, told, command='steps'):
+        self.raw, self.told, self.command = raw, told, command
 
-    @staticmethod
-    def has(word):
-        return word == 'steps'
-
-    def answer(self, word, raw):
-        assert raw == self.raw, 'only one script is answered'
-        return self.said[word]
-
-    def report(self, raw):
-        from geo_tools.report import Report
-        return Report(self.answer('run', raw))
+    def lines(self, command, raw, tell=None):
+        assert (command, raw) == (self.command, self.raw), 'only one script is answered'
+        return iter(self.told.splitlines())
 
 
 # a producer publishes, a message reaches the other region, which is then cut off and lost; two consumers share a subscription
@@ -150,6 +142,42 @@ append t west 0:0 east p 0 * data k1 first
 
 
 def lost():
-    """The run above, and its script."""
-    script = Script(LOST)
-    return script, steps.run(script, Stored(LOST, LOST_REPORT, LOST_STEPS, LOST_TRACE))
+    """The run above."""
+    return steps.run(Script(LOST), Stored(LOST, LOST_STEPS))
+
+
+# a state in which a message stands at one region, with its receipt, and what goes on from it: it is sent to the other one
+STATE, EVENTS = b'GEOSTATE', b'# On it goes.\nreconnect p\nsettle\n'
+STATE_STEPS = '''geo 1
+cluster a
+cluster b
+topic t
+client p t a
+do p produce
+do p pub 0 * - hi
+steps
+events 16 idle 1 rounds 0
+topic t at a
+entry 0:0 a p 0 * data - hi
+sender b session 1 closed mark 0
+sub s shared replicated mark 0 backlog 1
+topic t at b
+sender a session 0 closed mark 0
+client p at a lines 2/2 receipts 1 duplicates 0 errors 0
+step 1 line 2 reconnect p
+step 2 line 3 settle
+  event 18 reset t a b
+    topic t at a
+    sender b session 2 opening mark 0
+  event 19 take t a b good
+    topic t at b
+    entry 1:0 a p 0 * data - hi
+  events 19 idle 1 rounds 1
+events 19 idle 1 rounds 1
+'''
+
+
+def behind():
+    """What goes on from the state above."""
+    given = Behind(STATE, EVENTS)
+    return steps.run(given, Stored(given.raw, STATE_STEPS, given.command))

@@ -75,9 +75,12 @@ class ActsTest(unittest.TestCase):
         nodes, before = acts_of(script, moments[1:])
         self.assertEqual([Fact('lost', None, ('b',))], before)
         self.assertEqual([Heading(11, ('A heading.',)), 'go c'], [node if isinstance(node, Heading) else node.text for node in nodes])
+        # a heading of the next event is none of this window
+        self.assertEqual(['lost b', 'go p'], [node.text for node in acts_of(script, moments[:1])[0]])
 
     def test_of_a_run(self):
-        script, run = lost()
+        run = lost()
+        script = run.script
         nodes, _ = acts_of(script, run.moments)
         self.assertEqual(['The producer sends.', "run p's next 3 lines", 'give s at east', 'East goes.', 'lose east', 'cut east west'],
                          [node.text for node in nodes])

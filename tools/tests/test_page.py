@@ -10,11 +10,11 @@ from geo_tools.page.cursors import Cursor, Cursors
 from geo_tools.page.lanes import Standing, node_of, silences
 from geo_tools.page.rows import FIRST_SHORT, SHORT
 from geo_tools.page.messages import Receipts, lacking
-from geo_tools.report import entry_of
+from geo_tools.report import Report, entry_of
 from geo_tools.script import Script
 from geo_tools.story import Teller
 
-from .runs import lost
+from .runs import LOST_TRACE, Stored, behind, lost
 
 # elements that have no end
 VOID = ('meta', 'input', 'br')
@@ -60,8 +60,8 @@ class Elements(HTMLParser):
 
 
 def page_of_lost():
-    script, run = lost()
-    return '\n'.join(document.drawn('lost.geo', script, run, Teller(script)))
+    run = lost()
+    return '\n'.join(document.drawn('lost.geo', run, LOST_TRACE.splitlines(), Teller(run.script)))
 
 
 class PageTest(unittest.TestCase):
@@ -99,6 +99,17 @@ class PageTest(unittest.TestCase):
                           ('', ['east p 0 [k1]', 'first', 'all', '0:0', '0:0', 'yes', 'nobody', '\u2013', '\u2013'])], cells)
         self.has('1 message is red: a region that survives never gets it.', page)
 
+    def test_what_goes_on_from_a_state(self):
+        """What stood before is known; of where it is acknowledged, and of holes, nothing is."""
+        run = behind()
+        page = '\n'.join(document.drawn('state', run, None, Teller(run.script)))
+        elements = Elements(page)
+        self.assertEqual(([], []), (elements.wrong, elements.open))
+        self.has('holes in cursors, and where a message is acknowledged, are not told', page)
+        row = re.search(r'<tr class="ro">(.*?)</tr>', page).group(1)
+        self.assertEqual(['a p 0', 'hi', 'all', '0:0', '1:0', 'yes', 'nobody', '\u2013', 'not told'], re.findall(r'<t[hd][^>]*>(.*?)</t[hd]>', row))
+        self.has('brought from a', page)
+
     def test_texts_are_escaped(self):
         for text in ('<b>', '&amp;', '"', "'", '\x07'):
             self.assertNotRegex(signs.safe(text), '[<>"\'\x07]|&(?!amp;|lt;|gt;|quot;|#x27;)')
@@ -108,10 +119,8 @@ class PageTest(unittest.TestCase):
         told = ('steps\nevents 0 idle 0 rounds 0\ntopic t at a\nsender b session 0 closed mark 0\ntopic t at b\nsender a session 0 closed mark 0\n'
                 'client p at a lines 0/0 receipts 0 duplicates 0 errors 0\n')
         told += ''.join('step %d line %d %s\n' % (at, event.line, ' '.join(event.words)) for at, event in enumerate(script.events, 1))
-        moments = [moment for moment, _ in steps.Steps(script, told.splitlines()).moments()]
-        from geo_tools.report import Report
-        report = Report('events 6000 idle 0 rounds 0\ntopic t at a\ntopic t at b\n')
-        page = '\n'.join(document.drawn('large', script, steps.Run(moments, 0, report, 'trace\n', {'p': 'a'}), Teller(script)))
+        run = steps.run(script, Stored(script.raw, told + 'events 6000 idle 0 rounds 0\n'))
+        page = '\n'.join(document.drawn('large', run, ['trace'], Teller(script)))
         elements = Elements(page)
         self.assertEqual(([], []), (elements.wrong, elements.open))
         said = re.search('<noscript><p class="warn">(.*?)</p>', page).group(1)
@@ -134,7 +143,7 @@ class SignsTest(unittest.TestCase):
         columns = signs.Columns(script, {})
         drawn = {}
         for origin, cluster in (('c', 'a'), ('a', 'c')):
-            row = signs.Row(signs.Signs(columns, Cursors('trace\n'), {}, {'t': 1}), True)
+            row = signs.Row(signs.Signs(columns, Cursors(['trace']), {}, {'t': 1}), True)
             row._Stored(steps.Stored('t', cluster, entry_of('entry 0:0 %s p 0 * data - x' % origin)))
             drawn[origin] = ''.join(row.drawn)
         self.assertRegex(drawn['c'], r'class="a lf q2" style="grid-area:1/1/auto/3".*class="i k0 th" style="grid-area:1/1".*class="i k0" style="grid-area:2/1"')
@@ -142,7 +151,7 @@ class SignsTest(unittest.TestCase):
 
     def test_a_folded_row_has_an_end(self):
         script = Script(b'geo 1\ncluster a\ncluster b\ntopic t\n')
-        row = signs.Row(signs.Signs(signs.Columns(script, {}), Cursors('trace\n'), {}, {'t': 1}), True)
+        row = signs.Row(signs.Signs(signs.Columns(script, {}), Cursors(['trace']), {}, {'t': 1}), True)
         changes = [steps.Stored('t', 'a', entry_of('entry 0:%d a p %d * data - x' % (at, at))) for at in range(signs.MOST_SHOWN + 5)]
         row.of([steps.Moment(script_event('serve a p'), False, 1, 0, changes, (), 1, None)])
         drawn, lines = row.grid()
@@ -179,7 +188,7 @@ delete t a s
 '''
 
     def test_ranges_as_events_go_by(self):
-        cursors, seen = Cursors(self.TRACE), []
+        cursors, seen = Cursors(self.TRACE.splitlines()), []
         for number in range(1, 7):
             cursors.up_to(number)
             seen.append(cursors.of['t', 'a', 's'].ranges if cursors.of else None)
@@ -189,7 +198,7 @@ delete t a s
         self.assertEqual({}, cursors.of)
 
     def test_holes_and_reasons(self):
-        cursors = Cursors(self.TRACE)
+        cursors = Cursors(self.TRACE.splitlines())
         cursors.up_to(4)
         self.assertEqual([(3, 3)], cursors.above('t', 'a', 's', 2))
         self.assertEqual([], cursors.above('t', 'a', 'other', 0))
@@ -251,7 +260,7 @@ class MessagesTest(unittest.TestCase):
         self.assertEqual([], lacking(self.SCRIPT, entry, {'a': '0:0'}, {'b'}))
 
     def test_receipts_come_in_the_order_of_publishes(self):
-        receipts = Receipts(self.SCRIPT)
+        receipts = Receipts(self.SCRIPT, Report())
         receipts.take([steps.Did('p', 'produce'), steps.Did('p', 'pub 0 * - x'), steps.Did('p', 'pub 7 * - y'), steps.Did('p', 'pub 8 * - z')])
         receipts.take([steps.Counted('p', 'receipts', 0, 1), steps.Counted('p', 'duplicates', 0, 1)])
         found = [receipts.of(entry_of('entry 0:0 a p %d * data - x' % seq)) for seq in (0, 7, 8)]

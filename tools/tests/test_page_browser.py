@@ -149,10 +149,18 @@ serve oslo desk
 go desk
 serve oslo desk
 '''
-# six clusters, and a settle
-SIX = '\n'.join(['geo 1'] + ['cluster c%d' % at for at in range(6)] + ['topic t', 'client p t c5', 'do p produce'] + [
-    'do p pub %d * k%d text%d' % (at, at, at) for at in range(12)] + ['reconnect p', 'serve c5 p', 'go p', 'serve c5 p'] + [
-    'go p', 'serve c5 p'] * 12 + ['# name c0 reykjavik-is', 'settle', '']) + '\n'
+
+
+def six(count):
+    """Six clusters, so many messages at one of them, and a settle."""
+    return '\n'.join(['geo 1'] + ['cluster c%d' % at for at in range(6)] + ['topic t', 'client p t c5', 'do p produce'] + [
+        'do p pub %d * k%d text%d' % (at, at, at) for at in range(count)] + ['reconnect p', 'serve c5 p', 'go p', 'serve c5 p'] + [
+        'go p', 'serve c5 p'] * count + ['# name c0 reykjavik-is', 'settle', '']) + '\n'
+
+
+SIX = six(12)
+# of so many messages the settle has more events than stand in a page
+SETTLE = six(90)
 
 HOSTILE = '''# <script>document.title = 'taken'</script> & <b class="d">
 geo 1
@@ -172,8 +180,8 @@ serve a p
 settle
 '''
 
-WRITTEN = {'five': FIVE, 'six': SIX, 'hostile': HOSTILE}
-ALL = tuple(WRITTEN) + DRILLS
+WRITTEN = {'five': FIVE, 'six': SIX, 'hostile': HOSTILE, 'settle': SETTLE}
+ALL = ('five', 'six', 'hostile') + DRILLS
 # a run on threads: its schedule has more than 40,000 events
 LIVE = '\n'.join(
     ['geo 1', 'chance 7 8 8 3', 'cluster east', 'cluster west', 'cluster north', 'topic orders', 'client bill orders east'] +
@@ -234,11 +242,6 @@ ASTRAY = r'''(() => {
 })()'''
 
 
-def settled_inside():
-    """Whether a settle is told with its events."""
-    return PROGRAM.has('steps')
-
-
 class Pages:
     """Pages in a folder, and the browser that opens them. Made once, for tests that are run one by one too."""
 
@@ -255,8 +258,9 @@ class Pages:
     def page(self, name):
         """The file of a page and its script; a drill's page is made when it is asked for."""
         if name not in self.made:
-            raw = WRITTEN[name].encode('utf-8') if name in WRITTEN else command.script_of(os.path.join(ROOT, 'drills', name + '.drill'), PROGRAM).raw
-            self.made[name] = (self.written(name, document.page_of(name, raw, PROGRAM)), Script(raw))
+            path = os.path.join(ROOT, *(('examples', 'failover_drill.geo') if name == 'failover' else ('drills', name + '.drill')))
+            raw = WRITTEN[name].encode('utf-8') if name in WRITTEN else command.script_of(path, PROGRAM).raw
+            self.made[name] = (self.written(name, document.page_of(name, Script(raw), PROGRAM)), Script(raw))
         return self.made[name]
 
     def written(self, name, lines):
@@ -267,11 +271,11 @@ class Pages:
 
     @functools.cached_property
     def large(self):
-        """The script, the run and the page of a schedule that `geo live` made."""
+        """The run and the page of a schedule that `geo live` made."""
         said = subprocess.run([PROGRAM.path, 'live', '1', '75000'], input=LIVE, capture_output=True, text=True, check=True).stdout
         script = Script((LIVE + said.partition('\nschedule\n')[2]).encode())
-        run = steps.run(script, PROGRAM)
-        return script, run, self.written('large', document.drawn('large', script, run, Teller(script)))
+        run, trace = steps.run(script, PROGRAM), list(PROGRAM.lines('trace', script.raw))
+        return run, self.written('large', document.drawn('large', run, trace, Teller(script, PROGRAM)))
 
 
 @functools.lru_cache(maxsize=None)
@@ -440,7 +444,6 @@ class PageTest(unittest.TestCase):
             self.assertIn('0:0', first[0])
             self.assertLess(first[1], 900)
 
-    @unittest.skipUnless(not REASON and settled_inside(), 'the program has no command steps, so a settle has no events inside')
     def test_a_settle_opens_to_its_events(self):
         self.open('six')
         settle = '[...document.querySelectorAll(".run details.r")].find(e => e.querySelector(".tx").textContent.startsWith("settle"))'
@@ -450,6 +453,38 @@ class PageTest(unittest.TestCase):
         self.assertNotIn('reset', words[30:])
         report = PROGRAM.report(pages().page('six')[1].raw)
         self.assertEqual(report.events - sum(event.words[0] != 'settle' for event in pages().page('six')[1].events), len(words))
+
+    def test_a_settle_of_many_events_opens_piece_by_piece(self):
+        self.open('settle')
+        settle = '#e%d' % pages().page('settle')[1].events[-1].line
+        self.open('settle', fragment=settle)
+        self.browser.key('o')
+        events = int(self.ask('document.querySelector("%s .ct").textContent.split(" ")[0]' % settle))
+        self.assertLess(3000, events)
+        pieces = self.ask('[...document.querySelectorAll("%s .pt > summary")].map(e => e.textContent)' % settle)
+        self.assertEqual(['events %d to %d' % (at + 1, min(at + 250, events)) for at in range(0, events, 250)], pieces)
+        self.assertEqual(0, self.count(settle + ' .p'))
+        self.browser.click(settle + ' .pt > summary')
+        self.assertEqual(250, self.ask('[...document.querySelectorAll("%s .p")].filter(shown).length' % settle))
+
+    def test_a_silence_is_grey_and_said(self):
+        """A script that nobody wrote as a drill: a region is silent until its restart, and its client leaves it."""
+        self.open('failover')
+        rows = self.ask('[...document.querySelectorAll(".run .r")].map(e => [e.textContent, !!e.closest(".sp").querySelector(".ax.si")])')
+        silent = [at for at, (_, is_silent) in enumerate(rows) if is_silent]
+        restart = [at for at, (text, _) in enumerate(rows) if 'restart orders east' in text]
+        self.assertEqual((list(range(silent[0], silent[-1] + 1)), [silent[-1] + 1]), (silent, restart))
+        self.assertIn('no event at east until its restart', rows[silent[0]][0])
+
+    def test_not_by_colour_alone(self):
+        """What is red, grey, hatched or yellow is said in words beside it."""
+        self.open('five')
+        self.ask('openAll()')
+        self.assertEqual([], self.ask('[...document.querySelectorAll("tr.gone")].filter(e => !e.textContent.includes("\u2717 never") || !e.textContent.includes("lost:")).length ? ["red"] : []'))
+        self.assertEqual([], self.ask('[...document.querySelectorAll(".run .id")].filter(e => !e.textContent.includes("idle")).length ? ["yellow"] : []'))
+        for words in ('rome is lost', 'cut: rome, lima', 'held: rome to oslo'):
+            self.assertTrue(self.ask('document.querySelector(".run").textContent.includes("%s")' % words), words)
+        self.assertEqual([], self.ask('[...document.querySelectorAll(".run .tg")].filter(e => getComputedStyle(e).textDecorationLine !== "underline" || !e.textContent).length ? ["tag"] : []'))
 
     def test_verdicts_and_idle_events_have_words(self):
         self.open('five')
@@ -462,6 +497,9 @@ class PageTest(unittest.TestCase):
     def test_five_clusters_and_two_topics_fit(self):
         self.open('five')
         self.assertLessEqual(self.ask('document.documentElement.scrollWidth'), 1400)
+        # the event beside its row
+        self.assertTrue(self.ask('(() => { const e = document.querySelector("#l31 > summary"); return e.querySelector(".g").getBoundingClientRect().left >= '
+                                 'e.querySelector(".ev").getBoundingClientRect().right - 1; })()'))
         widths = '[...document.querySelectorAll(".hd .i")].map(e => Math.round(e.getBoundingClientRect().width))'
         self.assertEqual([26] * 5, self.ask(widths)[5:10])
         self.browser.click('#t0')
@@ -473,10 +511,23 @@ class PageTest(unittest.TestCase):
         self.assertEqual(26, self.ask(widths)[6])
         self.assertTrue(all(width > 80 for width in self.ask(widths)[7:10]))
 
+    def test_drills_fit_into_each_width(self):
+        for name in DRILLS:
+            for width in WIDTHS:
+                self.open(name, width)
+                self.assertLessEqual(self.ask('document.documentElement.scrollWidth'), width, name)
+
+    def test_what_does_not_fit_keeps_its_events_in_sight(self):
+        self.open('five', 390)
+        self.ask('window.scrollTo(400, document.querySelector("#l34").getBoundingClientRect().top - 200)')
+        self.assertLess(300, self.ask('window.scrollX'))
+        for row in ('#l34', '#l52'):
+            left, right = self.ask('(() => { const r = document.querySelector("%s .ev").getBoundingClientRect(); return [r.left, r.right]; })()' % row)
+            self.assertTrue(0 <= left < right <= 390, (row, left, right))
+
     def test_at_390_pixels_the_event_stands_above_its_row(self):
         for name in DRILLS:
             self.open(name, 390)
-            self.assertLessEqual(self.ask('document.documentElement.scrollWidth'), 390, name)
             self.assertEqual([], self.ask('[...document.querySelectorAll(".run .r.w, .run summary.w")].filter(shown).filter(e => e.querySelector(".g") && '
                                           'e.querySelector(".ev").getBoundingClientRect().bottom > e.querySelector(".g").getBoundingClientRect().top + 1).length'
                                           ' ? ["beside"] : []'))
@@ -609,13 +660,13 @@ class PageTest(unittest.TestCase):
 
 
 @unittest.skipIf(REASON, REASON)
-@unittest.skipUnless(not REASON and settled_inside(), 'the program has no command steps, without which a large page would take a run an event')
 class LargePageTest(unittest.TestCase):
     """The page of a schedule of more than 40,000 events, made by `geo live`."""
 
     def setUp(self):
         self.browser = pages().browser
-        self.script, self.run_, self.file = pages().large
+        self.run_, self.file = pages().large
+        self.script = self.run_.script
 
     def open(self, fragment=''):
         self.browser.scripts(True)
@@ -639,6 +690,7 @@ class LargePageTest(unittest.TestCase):
         self.assertTrue(self.browser.ask('!!document.elementFromPoint(200, 450).closest(".r, .p")'))
         shots = os.environ.get('GEO_SCREENSHOTS')
         if shots:
+            os.makedirs(shots, exist_ok=True)
             self.browser.shot(os.path.join(shots, 'large.png'))
 
     def test_a_link_a_search_and_a_step_reach_rows_that_were_not_made(self):
@@ -668,12 +720,11 @@ class LargePageTest(unittest.TestCase):
 
 
 @unittest.skipUnless(PROGRAM.path, 'there is no built program (tools/build, or GEO_PROGRAM)')
-@unittest.skipUnless(PROGRAM.path and settled_inside(), 'the program has no command steps, and the stored page shows the events of its settles')
 class StoredPageTest(unittest.TestCase):
     def test_the_stored_page_is_the_page_of_its_script(self):
         folder = os.path.join(ROOT, 'examples')
         with open(os.path.join(folder, 'failover_drill.geo'), 'rb') as script, open(os.path.join(folder, 'failover_drill.html'), 'rb') as stored:
-            page = '\n'.join(document.page_of('failover_drill.geo', script.read(), PROGRAM)) + '\n'
+            page = '\n'.join(document.page_of('failover_drill.geo', Script(script.read()), PROGRAM)) + '\n'
             self.assertTrue(page.encode() == stored.read(), './geo page examples/failover_drill.geo makes another page than is stored')
 
 

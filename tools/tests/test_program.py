@@ -1,4 +1,5 @@
 """How the program is found and asked, with a stand-in: a file of answers by script."""
+import io
 import os
 import stat
 import tempfile
@@ -7,12 +8,15 @@ from unittest import mock
 
 from geo_tools import program as of_program
 from geo_tools.program import Failed, Program
+from geo_tools.progress import Progress
 
 STAND_IN = '''#!/bin/sh
 case "$*" in
 '') echo 'usage: geo run, trace, steps'; exit 2 ;;
 run) sed 's/^/got /' ;;
 trace) echo 'bad script line 1 rule 3'; exit 3 ;;
+steps) cat; exit 3 ;;
+'steps from') echo 'usage: geo run, trace, steps'; exit 2 ;;
 esac
 '''
 
@@ -39,6 +43,19 @@ class Programs(unittest.TestCase):
         with self.assertRaises(Failed) as caught:
             program.answer('trace', b'a\n')
         self.assertEqual((str(caught.exception), caught.exception.status), ('bad script line 1 rule 3', 3))
+
+    def test_lines(self):
+        """One by one; of what is refused none, and an older program has no such command."""
+        program = Program(self.path)
+        self.assertEqual(list(program.lines('run', b'a\nb\n')), ['got a', 'got b'])
+        for command, raw, wanted in (('trace', b'', ('bad script line 1 rule 3', 3)), ('steps', b'a\nb\nc\n', ('c', 3)), ('steps', b'', ('geo steps ended with status 3', 3))):
+            with self.assertRaises(Failed) as caught:
+                list(program.lines(command, raw))
+            self.assertEqual((str(caught.exception), caught.exception.status), wanted)
+        with self.assertRaises(Failed) as caught:
+            list(program.lines('steps from', b''))
+        self.assertIn('the program has no command steps from', str(caught.exception))
+        self.assertEqual(of_program.NO_PROGRAM, caught.exception.status)
 
     def test_commands(self):
         program = Program(self.path)
@@ -67,6 +84,17 @@ class Programs(unittest.TestCase):
             self.assertEqual(of_program.built_program(), gate)
             with mock.patch.dict(os.environ, {'GEO_PROGRAM': self.path}):
                 self.assertEqual(of_program.built_program(), self.path)
+
+
+class Progresses(unittest.TestCase):
+    def test_what_takes_long_says_so(self):
+        """Nothing within two seconds; then a line a second, of how far of how much."""
+        times, out = iter([0, 1, 1.9, 2, 2.5, 3.1, 65]), io.StringIO()
+        tell = Progress(out, lambda: next(times))
+        for at in (1, 2, 3000, 4, 5000):
+            tell('reading steps', at, 41579)
+        tell('the program runs')
+        self.assertEqual('geo: reading steps, 3,000 of 41,579, 2 s\ngeo: reading steps, 5,000 of 41,579, 3 s\ngeo: the program runs, 65 s\n', out.getvalue())
 
 
 if __name__ == '__main__':

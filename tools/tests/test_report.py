@@ -4,7 +4,8 @@ import unittest
 from geo_tools.drill.did import by_steps
 from geo_tools.report import Report
 from geo_tools.script import Script
-from geo_tools.step_lines import changed
+
+from .outside import changed
 
 BEGIN = '''events 0 idle 0 rounds 0
 topic t at a

@@ -3,15 +3,17 @@ import unittest
 
 from geo_tools import steps
 from geo_tools.changes import folded_changes
+from geo_tools.program import NO_ANSWER, Failed
 from geo_tools.report import Sub
+from geo_tools.script import Script
 
-from .runs import lost
+from .runs import LOST, LOST_REPORT, LOST_STEPS, Stored, behind, lost
 
 
 class StepsTest(unittest.TestCase):
     def setUp(self):
-        self.script, self.run_ = lost()
-        self.moments = self.run_.moments
+        self.run_ = lost()
+        self.script, self.moments = self.run_.script, self.run_.moments
 
     def test_each_event_is_a_moment(self):
         self.assertEqual([event.line for event in self.script.events], [moment.event.line for moment in self.moments])
@@ -56,11 +58,38 @@ class StepsTest(unittest.TestCase):
         self.assertEqual((steps.SubChange('t', 'west', 's', Sub('shared', 'local', 1, 0, 2), None),), reader.read('gone s'))
 
     def test_a_window(self):
-        from .runs import LOST, LOST_REPORT, LOST_STEPS, LOST_TRACE, Stored
-        run = steps.run(self.script, Stored(LOST, LOST_REPORT, LOST_STEPS, LOST_TRACE), 24, 26)
+        run = steps.run(self.script, Stored(LOST, LOST_STEPS), 24, 26)
         self.assertEqual([24, 25, 26], [moment.event.line for moment in run.moments])
         self.assertEqual(7, run.left_out)
         self.assertEqual({'p': 'east', 'c': 'east', 'd': 'east'}, run.places)
+
+    def test_what_is_kept_is_the_report(self):
+        self.assertEqual(LOST_REPORT, self.run_.whole.text)
+        self.assertEqual((0, {'p': 0, 'c': 0, 'd': 0}), (self.run_.begin.events, {name: client.done for name, client in self.run_.begin.clients.items()}))
+
+    def test_no_end_is_no_answer(self):
+        """Steps that a pipe cut off, of which one is missing, or whose counts are other ones."""
+        lines = LOST_STEPS.splitlines()
+        step = lines.index('step 5 line 20 get p')
+        for told in (lines[:-1], lines[:-2], lines[:5], [], lines[:step] + lines[step + 2:], lines[:-1] + ['events 14 idle 2 rounds 2']):
+            with self.assertRaises(Failed) as caught:
+                steps.run(self.script, Stored(LOST, '\n'.join(told)))
+            self.assertIn('the steps have no end', str(caught.exception))
+            self.assertEqual(NO_ANSWER, caught.exception.status)
+
+    def test_a_script_without_events(self):
+        raw = LOST[:LOST.index(b'# The producer')]
+        told = LOST_STEPS[:LOST_STEPS.index('step 1 ')] + 'events 0 idle 0 rounds 0\n'
+        run = steps.run(Script(raw), Stored(raw, told))
+        self.assertEqual(([], 0), (run.moments, run.whole.events))
+
+    def test_what_goes_on_from_a_state(self):
+        """What is declared comes from the program, lines count in the events' file, and what stood before is known."""
+        run = behind()
+        self.assertEqual((['a', 'b'], {'p': ['produce', 'pub 0 * - hi']}), (run.script.clusters, run.script.does))
+        self.assertEqual([(2, 17, 1), (3, 19, 2)], [(moment.event.line, moment.number, moment.events) for moment in run.moments])
+        self.assertEqual(([18, 19], 1), ([event.number for event in run.moments[1].inside], run.moments[1].rounds))
+        self.assertEqual((16, 2, 19), (run.begin.events, run.begin.clients['p'].done, run.whole.events))
 
     def test_several_events_as_one(self):
         folded = list(folded_changes(change for moment in self.moments for change in moment.changes))

@@ -5,7 +5,7 @@ from geo_tools import steps
 from geo_tools.script import Script
 from geo_tools.story import Teller, records, story
 
-from .runs import Stored, lost
+from .runs import Stored, behind, lost
 
 SMALL = b'''# A small run.
 geo 1
@@ -104,19 +104,17 @@ class WithCauses(Teller):
 
 class StoryTest(unittest.TestCase):
     def test_a_small_run(self):
-        script = Script(SMALL)
-        report = 'events 8 idle 1 rounds 0\ntopic t at a\nentry 0:0 a p 0 * data - hi\ntopic t at b\n'
-        run = steps.run(script, Stored(SMALL, report, SMALL_STEPS))
-        self.assertEqual(SMALL_STORY, '\n'.join(story(script, run, WithCauses(script))))
+        run = steps.run(Script(SMALL), Stored(SMALL, SMALL_STEPS))
+        self.assertEqual(SMALL_STORY, '\n'.join(story(run, WithCauses(run.script))))
 
     def test_lines_of_a_drill_are_folded(self):
-        script, run = lost()
-        told = '\n'.join(story(script, run, WithCauses(script)))
+        run = lost()
+        told = '\n'.join(story(run, WithCauses(run.script)))
         self.assertEqual(LOST_FOLDED, told[told.index('# The producer'):])
 
     def test_packets(self):
-        script, run = lost()
-        told = list(story(script, run, WithCauses(script), True))
+        run = lost()
+        told = list(story(run, WithCauses(run.script), True))
         at = told.index('21  run p\'s next 3 lines')
         wanted = (('  go p', 'p does: produce'), ('', 'p does: pub 0 * k1 first'), ('  serve east p', 'at east entry 0:0 east p 0 * data k1 first'))
         # the columns are as wide as the longest words, those of the settle's second event
@@ -125,9 +123,18 @@ class StoryTest(unittest.TestCase):
         # a settle opens to its events
         self.assertIn('        take t east west good  at west entry 0:0 east p 0 * data k1 first', told)
 
+    def test_what_goes_on_from_a_state(self):
+        """What the state declares has no lines; those of the events count from 1."""
+        run = behind()
+        self.assertEqual('\n'.join([
+            '   geo 1', '   cluster a', '   cluster b', '   topic t', '   client p t a', '   do p produce', '   do p pub 0 * - hi', '# On it goes.',
+            '2  reconnect p  -', '3  settle       1 round, 2 events', '                at a sender b session 1 -> 2, closed -> opening',
+            '                at b entry 1:0 a p 0 * data - hi', '', 'idle: none', 'again: none', 'events 19 idle 1 rounds 1']),
+            '\n'.join(story(run, WithCauses(run.script))))
+
     def test_records(self):
-        script, run = lost()
-        told = records(script, run, WithCauses(script))
+        run = lost()
+        told = records(run, WithCauses(run.script))
         self.assertEqual({'line': 14, 'heading': 'The producer sends.'}, told['lines'][0])
         first = told['lines'][1]
         self.assertEqual((21, "run p's next 3 lines", True, 5), (first['line'], first['words'], first['own'], len(first['events'])))
@@ -136,8 +143,8 @@ class StoryTest(unittest.TestCase):
         self.assertEqual((13, 2, 2), (told['events'], told['idle'], told['rounds']))
 
     def test_an_idle_go_without_a_program(self):
-        script, run = lost()
-        self.assertEqual('idle: no line is left', Teller(script).idle_text(run.moments[-1]))
+        run = lost()
+        self.assertEqual('idle: no line is left', Teller(run.script).idle_text(run.moments[-1]))
 
 
 if __name__ == '__main__':

@@ -31,15 +31,15 @@ class StoredTest(unittest.TestCase):
             with self.subTest(path):
                 script = Script(content(path))
                 report = Report(content(path[:-len('.geo')] + '.report').decode())
-                told = '\n'.join(story(script, steps.run(script, PROGRAM), Teller(script)))
+                told = '\n'.join(story(steps.run(script, PROGRAM), Teller(script)))
                 effects = [line for line in told.rsplit('\n\n', 1)[0].split('\n') if not line.startswith('# ')]
-                given = [sum(' entry ' in line and ' at ' in line for line in effects), sum(' got ' in line and 'again' in line.split(' ') for line in effects),
+                given = [sum(' entry ' in line and ' at ' in line and '  idle: ' not in line for line in effects), sum(' got ' in line and 'again' in line.split(' ') for line in effects),
                          sum(line.endswith('  idle') or '  idle: ' in line for line in effects)]
                 self.assertEqual([sum(map(len, report.entries.values())), report.again(), report.idle], given)
 
     def test_an_idle_event_has_its_cause(self):
         script = Script(content(os.path.join(ROOT, 'examples', 'stop_everything.geo')))
-        told = list(story(script, steps.run(script, PROGRAM), Teller(script, PROGRAM)))
+        told = list(story(steps.run(script, PROGRAM), Teller(script, PROGRAM)))
         self.assertEqual(['60  serve a p           idle: a has taken all that p sent', '61  get c               idle: nothing waits for c',
                           '62  take t a b good     idle: nothing is on its way from a to b', '63  receipt t a b good  idle: nothing is on its way from b to a'],
                          [line for line in told if '  idle' in line])
@@ -56,7 +56,7 @@ class StoredTest(unittest.TestCase):
         for events, wanted in cases:
             with self.subTest(events):
                 script = Script((declared + connected + events + '\n').encode())
-                told = list(story(script, steps.run(script, PROGRAM), Teller(script, PROGRAM)))
+                told = list(story(steps.run(script, PROGRAM), Teller(script, PROGRAM)))
                 idle = [line.split('  idle: ')[1] for line in told if '  idle: ' in line]
                 self.assertEqual(wanted.replace('nothing was given: ', ''), (idle or ['none'])[-1].replace('nothing was given: ', ''))
 

@@ -7,7 +7,6 @@ import json
 import os
 import sys
 
-from .. import step_lines
 from ..command import ended, read_text
 from ..page import page_of
 from ..program import Program
@@ -45,7 +44,7 @@ def shown(play, words):
     if words.report:
         return play.whole.text
     if words.steps:
-        return ''.join(line + '\n' for line in step_lines.lines(play.program, written.script(play)))
+        return ''.join(line + '\n' for line in play.program.lines('steps', written.script(play)))
     if words.page:
         return ''.join(line + '\n' for line in page_of(os.path.basename(words.file), written.annotated(play), play.program))
     if words.count:

@@ -4,4 +4,5 @@
 def page_of(name, raw, program):
     """The lines of the page of a script."""
     from . import document
-    return document.page_of(name, raw, program)
+    from ..script import Script
+    return document.page_of(name, Script(raw), program)

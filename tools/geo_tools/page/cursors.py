@@ -2,6 +2,8 @@
 message was acknowledged, and by whom."""
 from collections import namedtuple
 
+from ..steps import Stored
+
 # a gained range of indexes, both ends included, and the word of the trace that says why
 Gained = namedtuple('Gained', 'first last why')
 LATEST, SEEK = 'latest', 'seek'
@@ -41,13 +43,22 @@ class Cursor:
         return [(low, high) for low, high in self.ranges if high >= mark]
 
 
-class Cursors:
-    """All cursors, as far as the trace was read."""
+def appended(run):
+    """The lines of a trace that are known without one: which entries are appended."""
+    yield 'trace'
+    yield from ('append %s %s' % place for place, entries in run.begin.entries.items() for _ in entries)
+    for moment in run.moments:
+        for event in moment.inside or (moment,):
+            yield 'event %d' % event.number
+            yield from ('append %s %s' % change[:2] for change in event.changes if isinstance(change, Stored))
 
-    def __init__(self, trace):
-        self.lines = trace.split('\n')
-        self.at = self.lines.index('trace') + 1 if 'trace' in self.lines else len(self.lines)
-        self.of, self.length = {}, {}
+
+class Cursors:
+    """All cursors, as far as the lines of the trace were read."""
+
+    def __init__(self, lines):
+        self.lines, self.of, self.length = lines, {}, {}
+        self.at = self.lines.index('trace') + 1
 
     def up_to(self, number):
         """Reads on to the end of the event of this number."""

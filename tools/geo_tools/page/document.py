@@ -10,38 +10,35 @@ import argparse
 
 from .. import command, steps
 from ..acts import Act, acts_of, facts_of, own_names
-from ..script import Script
+from ..progress import silent
 from ..steps import Got, Stored
-from ..story import Teller
-from .cursors import Cursors
+from ..story import Teller, counted
+from .cursors import Cursors, appended
 from .lanes import Standing
 from .messages import PIECE, Receipts, fates, head, legend, row
 from .rows import MOST_WHOLE, ROWS, STANDING, Pieces, Rows, Stretches, pieces_of_rows
 from .signs import Columns, Signs, hidden, safe, text_labels
-from .style import chooser_rules, column_rules, key, script_text, style_text
-
-# a lane folds to a line from the beginning where more than so many would be open
-MOST_OPEN = 6
+from .style import chooser_rules, column_rules, key, open_topics, script_text, style_text
 
 
 class Page:
-    """What is drawn of a run, and what it is drawn with."""
+    """What is drawn of a run, and what it is drawn with: the lines of its trace, None where there is none, and who tells an event."""
 
-    def __init__(self, script, run, teller):
-        self.script, self.moments, self.whole, self.teller = script, run.moments, run.whole, teller
+    def __init__(self, run, trace, teller, tell):
+        self.script, self.moments, self.whole, self.teller, self.tell, self.run = run.script, run.moments, run.whole, teller, tell, run
+        script = run.script
         self.names = own_names(script)
         self.columns = Columns(script, self.names)
         self.nodes, self.before = acts_of(script, self.moments)
         self.large = sum(max(1, len(moment.inside)) for moment in self.moments) > MOST_WHOLE
         self.pieces = Pieces() if self.large else None
-        self.places = run.places
-        self.trace = run.trace
+        self.has_trace, self.trace = trace is not None, trace or list(appended(run))
 
     def name(self, name):
         return self.names.get(name, name)
 
     def standing(self):
-        return Standing(self.script, self.places, self.before)
+        return Standing(self.script, self.run.places, self.before)
 
     def lost(self):
         """What is lost at the end of the run, also where only a part of it is shown."""
@@ -60,12 +57,11 @@ class Page:
 
 def message_tables(page):
     """A table of each topic's messages."""
-    cursors, receipts, lost = Cursors(page.trace), Receipts(page.script), page.lost()
+    cursors, receipts, lost = Cursors(page.trace), Receipts(page.script, page.run.begin), page.lost()
     cursors.up_to(page.whole.events)
-    for moment in page.moments:
-        receipts.take(moment.changes)
+    receipts.take(page.run.answers)
     for topic in page.script.topics:
-        found = list(fates(topic, page.script, page.whole, cursors, receipts, lost))
+        found = list(fates(topic, page.script, page.whole, cursors if page.has_trace else None, receipts, lost))
         if not found:
             continue
         yield legend(found, lost, page.name)
@@ -92,8 +88,7 @@ def table_pieces(page, rows):
 def chooser(page):
     """Boxes for topics, clusters and clients; the columns of those that are not chosen fold to a line."""
     columns, script = page.columns, page.script
-    open_topics = len(columns.lanes) <= MOST_OPEN
-    groups = [('Topics', 't', [(topic, open_topics or not at) for at, topic in enumerate(script.topics)] if len(script.topics) > 1 else []),
+    groups = [('Topics', 't', [(topic, at < open_topics(columns)) for at, topic in enumerate(script.topics)] if len(script.topics) > 1 else []),
               ('Clusters', 'x', [(cluster, True) for cluster in script.clusters]), ('Clients', 'c', [(client, True) for client in columns.clients])]
     yield '<div class="cz no-print">'
     for title, kind, things in groups:
@@ -138,15 +133,18 @@ def protocol(page, nodes, rows, stretches):
     lines = sum(isinstance(node, Act) for node in nodes)
     if not lines:
         return stretches.of(rows)
-    return '<details class="pr" id="before"><summary class="w st"><span class="ev">Before the first message: %d line%s, %d event%s <span class="ct">(%s)</span></span></summary>%s</details>' % (
-        lines, '' if lines == 1 else 's', events, '' if events == 1 else 's', safe(', '.join(list(names)[:6])), stretches.of(rows))
+    return '<details class="pr" id="before"><summary class="w st"><span class="ev">Before the first message: %s, %s <span class="ct">(%s)</span></span></summary>%s</details>' % (
+        counted(lines, 'line'), counted(events, 'event'), safe(', '.join(list(names)[:6])), stretches.of(rows))
 
 
 def drawing(page):
     """The rows."""
     columns = page.columns
     signs = Signs(columns, Cursors(page.trace), text_labels(columns, page.moments), page.most())
-    rows = list(Rows(page.script, signs, page.standing(), page.pieces, page.teller).made(page.nodes, page.places))
+    rows = []
+    for row in Rows(page.script, signs, page.standing(), page.pieces, page.teller).made(page.nodes, page.run.places):
+        rows.append(row)
+        page.tell('drawing rows', len(rows), len(page.nodes))
     stretches = Stretches(columns)
     begin = first_message(page.nodes)
     begin = begin if begin <= STANDING else 0
@@ -197,8 +195,10 @@ def summary(page):
     """A sentence of counts, and what is left out."""
     whole, script = page.whole, page.script
     after = sum(isinstance(change, Got) and bool(change.others) for moment in page.moments for change in moment.changes)
-    yield '<p>%d events, %d idle, %d rounds of settling.' % (whole.events, whole.idle, whole.rounds)
+    yield '<p>%s, %d idle, %s of settling.' % (counted(whole.events, 'event'), whole.idle, counted(whole.rounds, 'round'))
     yield 'Got again by the same client: %d; got by a client after another one of its subscription: %d.</p>' % (whole.again(), after)
+    if not page.has_trace:
+        yield '<p>It goes on from a state, whose trace nobody has: holes in cursors, and where a message is acknowledged, are not told.</p>'
     if len(page.moments) < len(script.events):
         yield '<p><b>%d of %d lines of events are shown</b>, from line %s on.</p>' % (
             len(page.moments), len(script.events), page.moments[0].event.line if page.moments else '\u2013')
@@ -212,14 +212,14 @@ def tools_bar():
             '<kbd>/</kbd> find, <kbd>n</kbd> next one found</span></div>')
 
 
-def drawn(name, script, run, teller):
+def drawn(name, run, trace, teller, tell=silent):
     """The page, part by part."""
-    page = Page(script, run, teller)
+    page = Page(run, trace, teller, tell)
     yield '<!DOCTYPE html>\n<html lang="en"><head><meta charset="utf-8"><meta name="viewport" content="width=device-width, initial-scale=1">'
     yield '<title>%s</title><style>%s%s%s</style></head><body>' % (safe(name), style_text(page.columns), column_rules(page.columns), chooser_rules(page.columns))
     yield '<header><h1>%s</h1>' % safe(name)
-    if script.title():
-        yield '<p>%s</p>' % safe(script.title())
+    if page.script.title():
+        yield '<p>%s</p>' % safe(page.script.title())
     yield from summary(page)
     yield '</header>' + tools_bar() + '<main><section><h2 id="messages">Messages</h2>'
     yield from message_tables(page)
@@ -235,17 +235,19 @@ def drawn(name, script, run, teller):
     yield '<script>%s</script></body></html>' % script_text()
 
 
-def page_of(name, raw, program):
-    """The lines of the page of a script."""
-    script = Script(raw)
-    return drawn(name, script, steps.run(script, program), Teller(script, program))
+def page_of(name, given, program, first=1, last=None, tell=silent):
+    """The lines of the page of a script, or of a state with what goes on from it: of a run that tells its steps, and one that tells its
+    trace, where it is a script's."""
+    run = steps.run(given, program, first, last, tell)
+    trace = list(program.lines('trace', given.raw, tell)) if given.is_script else None
+    yield from drawn(name, run, trace, Teller(run.script, program if given.is_script else None), tell)
 
 
 def main(words):
     parser = command.arguments(argparse.ArgumentParser(prog='geo page', description=__doc__, formatter_class=argparse.RawDescriptionHelpFormatter))
     words = parser.parse_args(words)
-    name = words.script.rsplit('/', 1)[-1]
 
-    def show(script, program):
-        print('\n'.join(drawn(name, script, steps.run(script, program, words.first, words.last), Teller(script, program))))
-    return command.shown(show, words)
+    def show(given, name, program, tell):
+        for part in page_of(name, given, program, words.first, words.last, tell):
+            print(part)
+    return command.shown(show, parser, words)

@@ -19,9 +19,18 @@ PIECE = 60
 class Receipts:
     """Which publishes were answered: a client's answers come in the order of its publishes."""
 
-    def __init__(self, script):
+    def __init__(self, script, begin):
         self.script = script
         self.waiting, self.answered, self.unsure = {}, {}, set()
+        for name, client in begin.clients.items():
+            self.before(name, client)
+
+    def before(self, name, client):
+        """What a client published before the run begins, as behind a state: told where it has a receipt of each."""
+        published = [line.split(' ')[1] for line in self.script.does.get(name, [])[:client.done] if line.startswith('pub ')]
+        if client.counts != {'receipts': len(published), 'duplicates': 0, 'errors': 0}:
+            self.unsure.add(name)
+        self.answered.update({(name, seq): {'receipts'} for seq in published})
 
     def take(self, changes):
         for change in changes:
@@ -59,7 +68,7 @@ def acknowledged(reasons, script, indexes):
 
 
 def fates(topic, script, whole, cursors, receipts, lost):
-    """Each message of a topic with all that is known of it at the end of a run."""
+    """Each message of a topic with all that is known of it at the end of a run. Without cursors nobody knows where it is acknowledged."""
     entries = {cluster: whole.entries[topic, cluster] for cluster in script.clusters}
     found = {}
     for cluster in script.clusters:
@@ -68,11 +77,11 @@ def fates(topic, script, whole, cursors, receipts, lost):
                 found.setdefault(identity(entry), (entry, {}, {}))
                 found[identity(entry)][1][cluster], found[identity(entry)][2][cluster] = entry.position, index
     times = whole.times_got()
-    reasons = {(cluster, name): cursor.reasons() for (of, cluster, name), cursor in cursors.of.items() if of == topic}
+    reasons = cursors and {(cluster, name): cursor.reasons() for (of, cluster, name), cursor in cursors.of.items() if of == topic}
     for name, (entry, places, indexes) in found.items():
         got = times.get((topic, name), {})
         again = {client: count - 1 for client, count in got.items() if count > 1}
-        yield Fate(entry, places, receipts.of(entry), got, again, acknowledged(reasons, script, indexes),
+        yield Fate(entry, places, receipts.of(entry), got, again, cursors and acknowledged(reasons, script, indexes),
                    lacking(script, entry, places, lost))
 
 
@@ -128,7 +137,7 @@ def counted_cell(counts, names, nobody, kind=''):
 def acknowledged_cell(found, names):
     """Clusters by subscription; a single subscription of a topic is named all the same, since the next one may be another."""
     if not found:
-        return '<td class="none">\u2013</td>'
+        return '<td class="none">%s</td>' % (UNKNOWN if found is None else '\u2013')
     told = ['%s: %s' % (safe(names(name)), ', '.join(safe(names(cluster)) + (' (%s)' % why if why else '') for cluster, why in places.items()))
             for name, places in found.items()]
     return '<td>%s</td>' % '; '.join(told)

@@ -7,6 +7,7 @@ import json
 from collections import namedtuple
 
 from ..acts import Act
+from ..story import counted
 from .lanes import silences, silent_fact
 from .signs import safe
 
@@ -57,10 +58,10 @@ class Rows:
 
     def act(self, act, state):
         """An act's row: alone where it is one event, else folded over its events."""
-        events = [inside for moment in act.moments for inside in ([moment] if not moment.inside else moment.inside)]
+        events = [(inside, bool(moment.inside)) for moment in act.moments for inside in moment.inside or (moment,)]
         if len(events) <= 1 and not (events and act.own):
-            return self.single(act, events, state)
-        packets = [self.packet(event, act.own) for event in events]
+            return self.single(act, [event for event, _ in events], state)
+        packets = [self.packet(event, act.own or is_inside) for event, is_inside in events]
         self.read_on(act)
         drawn, lines = self.signs.row(act.moments, True, act.facts)
         head = '<summary class="w st">%s%s</summary>' % (self.event_cell(act), drawn)
@@ -96,18 +97,18 @@ class Rows:
         if act.moments:
             self.signs.cursors.up_to(act.moments[-1].number)
 
-    def packet(self, moment, own):
-        """One event's row. Under a line of a drill it has no number: the script that it stands in is made, and nobody's."""
+    def packet(self, moment, is_made):
+        """One event's row. Under a line of a drill or a settle it has no number: the line that it would stand in is nobody's."""
         self.signs.cursors.up_to(moment.number)
         drawn, _ = self.signs.row([moment], False)
-        return '<div class="w p%s">%s%s</div>' % (' id' if moment.idle else '', self.packet_cell(moment, own), drawn)
+        return '<div class="w p%s">%s%s</div>' % (' id' if moment.idle else '', self.packet_cell(moment, is_made), drawn)
 
     # ---- the event's column ----
 
-    def packet_cell(self, moment, own):
+    def packet_cell(self, moment, is_made):
         words = safe(' '.join(moment.event.words))
         idle = self.idle_text(moment) if moment.idle else ''
-        return '<span class="ev"><span class="no">%s</span><span class="tx">%s%s</span></span>' % ('' if own else moment.event.line, words, idle)
+        return '<span class="ev"><span class="no">%s</span><span class="tx">%s%s</span></span>' % ('' if is_made else moment.event.line, words, idle)
 
     def idle_text(self, moment):
         """That an event was idle, and why."""
@@ -124,7 +125,7 @@ class Rows:
         elif count > 1 or act.own:
             idle = sum(moment.idle for moment in act.moments)
             rounds = sum(moment.rounds for moment in act.moments)
-            told = (['%d event%s' % (count, '' if count == 1 else 's')] if count else []) + (['%d rounds' % rounds] if rounds else [])
+            told = ([counted(count, 'event')] if count else []) + ([counted(rounds, 'round')] if rounds else [])
             told += ['<span class="il">%d idle</span>' % idle] if idle else []
             extra += ' <span class="ct">%s</span>' % ', '.join(told) if told else ''
         return '<span class="ev"><a class="no" href="#%s">%d</a><span class="tx%s">%s%s%s</span></span>' % (

@@ -4,7 +4,6 @@ A lane is a topic at a cluster. An arrow goes from its source's lane to its targ
 no label: one to the right ends before its label, one to the left stands above it.
 """
 import html
-from collections import Counter
 
 from .. import steps as m
 from ..changes import folded_changes
@@ -23,7 +22,7 @@ FACT_WORDS = {'lost': '%s is lost', 'returned': '%s is back', 'cut': '\u2702 cut
 
 def safe(text):
     """A text for the page: escaped, and without control characters."""
-    return html.escape(''.join(letter if letter.isprintable() else '\ufffd' for letter in text))
+    return html.escape(text if text.isprintable() else ''.join(letter if letter.isprintable() else '\ufffd' for letter in text))
 
 
 def hidden(text):
@@ -115,7 +114,7 @@ class Row:
     def __init__(self, signs, folded, most=MOST_SHOWN):
         self.signs, self.columns, self.folded, self.most = signs, signs.columns, folded, most
         self.free, self.cells = [0] * len(self.columns.at), {}
-        self.drawn, self.shown, self.senders = [], Counter(), {}
+        self.drawn, self.shown, self.senders = [], {}, {}
 
     def of(self, moments):
         marks = {}
@@ -127,11 +126,14 @@ class Row:
             self.lane_text(node, '<b class="x" aria-hidden="true">\u21bb</b><span class="lb">%s</span>' % text)
         for change in self.changes(moments):
             getattr(self, '_' + type(change).__name__)(change)
-        for (at, state), names in self.senders.items():
-            self.put(at, '<span class="lb mu">%s to %s</span>' % (state, safe(', '.join(names))))
         for column, count in self.shown.items():
             if self.folded and count > self.most:
                 self.put(column[1], '<span class="lb mu">and %d more</span>' % (count - self.most))
+        if self.senders:
+            # below all arrows, since such a label may take several lines
+            self.free = [max(self.free)] * len(self.free)
+        for (at, state), names in self.senders.items():
+            self.put(at, '<span class="lb mu">%s to %s</span>' % (state, safe(', '.join(names))))
 
     def grid(self):
         """The row's grid. What a client did stands in one cell beside all lines of the lanes, so that neither spreads the other."""
@@ -173,8 +175,8 @@ class Row:
 
     def may_show(self, what, column):
         """Whether there is room for one more of these in this column of a folded row."""
-        self.shown[what, column] += 1
-        return not self.folded or self.shown[what, column] <= self.most
+        count = self.shown[what, column] = self.shown.get((what, column), 0) + 1
+        return not self.folded or count <= self.most
 
     # ---- what comments say ----
 

@@ -2,10 +2,15 @@
 import os
 
 HERE = os.path.dirname(os.path.abspath(__file__))
-# the width of a folded column, in which its line stands
-FOLDED = '26px'
-# from which width on an event stands beside its row, and where more than so many columns are open
-NARROW, NARROW_OF_MANY, MANY = '(max-width: 720px)', '(max-width: 1100px)', 6
+# the width of a folded column, in which its line stands, in pixels
+FOLDED = 26
+# a lane folds to a line from the beginning where more than so many would be open
+MOST_OPEN = 6
+# in the style the window in which an event stands above its row; in pixels its width, that of an event's column, of a column at least, and
+# of what stands beside them (page.css)
+NARROW, NARROW_WIDTH, EVENT, LEAST, BESIDE = '(max-width: 720px)', 720, 330, 104, 48
+# in such a window the least width of a column where there are more than so many, so that words stay whole; the page is then wider
+MANY, LEAST_OF_MANY = 6, 84
 # how wide a lane is beside a client's column
 LANE = '1.35fr'
 
@@ -15,10 +20,19 @@ def read(name):
         return file.read()
 
 
+def open_topics(columns):
+    """How many topics have their lanes open from the beginning."""
+    return len(columns.script.topics) if len(columns.lanes) <= MOST_OPEN else 1
+
+
 def style_text(columns):
-    """The style; a page of many columns puts the event above its row already in a wider window."""
-    style = read('page.css')
-    return style.replace(NARROW, NARROW_OF_MANY) if len(columns.script.clusters) + len(columns.clients) > MANY else style
+    """The style. The event stands above its row where both do not fit into the window, and there it stays in sight."""
+    script, is_open = columns.script, columns.script.topics[:open_topics(columns)]
+    count = len(is_open) * len(script.clusters) + sum(script.topic_of[client] in is_open for client in columns.clients)
+    width = EVENT + LEAST * count + FOLDED * (len(columns.at) - count) + BESIDE
+    narrow = '(max-width: %dpx)' % max(NARROW_WIDTH, width)
+    many = '@media %s { :root { --least: %dpx; } }\n' % (narrow, LEAST_OF_MANY) if count > MANY else ''
+    return read('page.css').replace(NARROW, narrow) + many
 
 
 def script_text():
@@ -46,7 +60,7 @@ def chooser_rules(columns):
 
 def folds(box, column):
     where = '.wh:has(#%s:not(:checked)) .run' % box
-    return '%s{--w%d:%s}%s .k%d>:not(b):not(.v){display:none}\n' % (where, column, FOLDED, where, column)
+    return '%s{--w%d:%dpx}%s .k%d>:not(b):not(.v){display:none}\n' % (where, column, FOLDED, where, column)
 
 
 # each sign with what it means; it has classes of its own where the browser's check counts those of the drawing
