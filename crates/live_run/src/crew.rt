@@ -8,6 +8,7 @@ use geo_io::Gate;
 use script_text::Scenario;
 use std::alloc::Global;
 use std::sync::Wait;
+use std::thread::yield_now;
 
 /// An actor, and the nodes at whose books it takes its turns: so many from one on.
 #[derive(Drop)]
@@ -39,27 +40,36 @@ impl Member {
         }
     }
 
-    /// A turn: the books of its nodes are taken in order, one at a time, until the actor does an event. An `Err` is want of memory.
-    fn turn<R: Wait>(&mut self, rt: &R, alloc: Global, books: &[LockedBook]) -> Result<(), Memory> {
+    /// A turn: the books of its nodes are taken in order, one at a time, until the actor does an event. Whether it did one; an `Err` is
+    /// want of memory.
+    fn turn<R: Wait>(
+        &mut self,
+        rt: &R,
+        alloc: Global,
+        books: &[LockedBook],
+    ) -> Result<bool, Memory> {
         for locked in books.iter().skip(self.first).take(self.nodes) {
             let mut book = locked.lock(rt);
             let done = self.actor.turn(alloc, &mut book);
             drop(book);
             if done? {
-                break;
+                return Ok(true);
             }
         }
-        Ok(())
+        Ok(false)
     }
 }
 
-/// A worker: its actors, the one whose turn is next, and whether memory was wanting in a turn.
+/// A worker: its actors, the one whose turn is next, how many turns in a row did nothing, whether there are other workers, and whether
+/// memory was wanting in a turn.
 #[derive(Drop)]
 pub(crate) struct Crew {
     alloc: Global,
     worker: u32,
     members: Vec<Member>,
     next: usize,
+    quiet: usize,
+    has_others: bool,
     is_short: bool,
 }
 
@@ -86,6 +96,8 @@ impl Crew {
             worker,
             members,
             next: 0,
+            quiet: 0,
+            has_others: workers > 1,
             is_short: false,
         })
     }
@@ -126,8 +138,19 @@ impl Crew {
             return Ok(());
         };
         gate.pass(self.worker, member.actor.number(), turn);
-        member.turn(rt, self.alloc, books)?;
+        let did = member.turn(rt, self.alloc, books)?;
         self.next += 1;
+        self.rest(did);
         Ok(())
+    }
+
+    /// After a turn: a worker whose whole rotation did nothing lets another thread run. What its actors wait for is done by other
+    /// workers, and while one of these stands still it would use up its turns on connections and sessions that begin anew.
+    fn rest(&mut self, did: bool) {
+        self.quiet = if did { 0 } else { self.quiet.saturating_add(1) };
+        if self.has_others && self.quiet >= self.members.len() {
+            self.quiet = 0;
+            yield_now();
+        }
     }
 }
