@@ -1,3 +1,2 @@
 pub mod Lost
-pub mod LostLines
 pub mod LossLaws
