@@ -1,6 +1,6 @@
 //! The books of the four nodes of a small script, over lists: the brokers of its topic at two clusters, and two clients of it.
 ghost use Rattle.std.specs.Prelude.{◌≡◌, ◌<◌, ◌-◌, IfOk, IsTrue};
-ghost use Rattle.main_cases.specs.Small.{IsSmall, peers_in};
+ghost use Rattle.node_cases.specs.Small.{IsSmall, peers_in};
 
 use book_parts::{EndRow, EndTable};
 use geo_base::{Event, Memory, Peer};

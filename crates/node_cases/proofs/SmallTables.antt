@@ -10,7 +10,7 @@ use Rattle.geo_base.specs.declared.packet.Peer.{Peer}
 use Rattle.geo_base.specs.declared.packet.Peer.TheVariants as peer
 use Rattle.geo_base.specs.Nodes.{BrokerNode, ClientNode, is_peer}
 use Rattle.geo_base.specs.Setup.{Setup, declared_at}
-use Rattle.main_cases.specs.Small.{IsSmall, peers_in}
+use Rattle.node_cases.specs.Small.{IsSmall, peers_in}
 use Rattle.node_book.specs.Books.{HasPeers}
 
 abbrev is_one : List Peer → Peer → Bool

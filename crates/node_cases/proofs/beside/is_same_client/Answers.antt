@@ -1,5 +1,5 @@
 use Rattle.world.proofs.ClientEvents.{client_below}
-use Rattle.main_cases.proofs.beside.is_same_client.Goals as goal
+use Rattle.node_cases.proofs.beside.is_same_client.Goals as goal
 
 -- src/beside.rt: the world has as many clients as the setup declares
 pub client-requires : goal.client-requires

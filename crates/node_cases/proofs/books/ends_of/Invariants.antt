@@ -1,6 +1,6 @@
 use Rattle.std.proofs.Common.{◌≡◌, take}
-use Rattle.main_cases.specs.Small.{peers_in}
-use Rattle.main_cases.proofs.books.ends_of.Given as goal
+use Rattle.node_cases.specs.Small.{peers_in}
+use Rattle.node_cases.proofs.books.ends_of.Given as goal
 
 -- the peers so far
 abbrev pub invariant-loop-peer : goal.invariant-loop-peer

@@ -1,8 +1,8 @@
 use Rattle.std.proofs.Common.{rules, ◌-◌, arith, refl}
 use Rattle.std.specs.Arc.{arc_value}
-use Rattle.main_cases.specs.Small.{IsSmall}
-use Rattle.main_cases.proofs.SmallTables.{broker_peers}
-use Rattle.main_cases.proofs.books.add_broker.Goals as goal
+use Rattle.node_cases.specs.Small.{IsSmall}
+use Rattle.node_cases.proofs.SmallTables.{broker_peers}
+use Rattle.node_cases.proofs.books.add_broker.Goals as goal
 
 pub broker-requires-clause-peers : goal.broker-requires-clause-peers
 broker-requires-clause-peers c =
