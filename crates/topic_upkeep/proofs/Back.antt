@@ -1,6 +1,6 @@
 -- What a ledger's text was written of is read from it.
 use Rattle.std.proofs.Common.{◌≡◌, ◌≢◌, inl, inr, ℕ, ◌<◌, ◌^◌, List, ◌++◌, length, Ok, Err, refl, sym, ap, subst, ◌∙◌, append_assoc}
-use Rattle.std.specs.Prelude.{Option, Some, None, IfSome, Result}
+use Rattle.std.specs.Prelude.{Option, Some, None, IfSome, Result, Bool, true, false, []}
 use Rattle.geo_base.specs.declared.entry.Entry.{Entry}
 use Rattle.geo_base.specs.declared.entry.Targets.{Targets}
 use Rattle.geo_base.specs.declared.entry.Targets.TheVariants as targets
@@ -17,7 +17,7 @@ use Rattle.pb_fields.specs.declared.message.MessageFault.TheVariants as fault
 use Rattle.pb_fields.specs.Faults.{Answers}
 use Rattle.state_items.specs.declared.fault.ItemFault.{ItemFault}
 use Rattle.state_items.specs.declared.fault.ItemFault.TheVariants as item_fault
-use Rattle.state_items.specs.Reading.{Answer, Fails}
+use Rattle.state_items.specs.Reading.{Answer, Fails, word_at}
 use Rattle.state_items.specs.Texts.{number, text, word}
 use Rattle.state_items.proofs.Again.{number_again, text_again, word_again}
 use Rattle.frame_values.specs.Texts.{marker_number, metadata_of, payload_text}
@@ -160,3 +160,8 @@ fails_as f e more h = fails_alike f (given_entry e) e (entry_read e more) refl h
 
 pub entry_is : (e f : Entry) → given_entry e ≡ given_entry f → f ≡ e
 entry_is e f h = cc
+
+-- no bytes are no entry
+pub none_is_none : (bytes : List ℕ) (x : (ℕ × (List ℕ × List ℕ)) × List ℕ) → bytes ≡ [] → item_at bytes ≡ Ok x → ◌≡◌ {A = Bool} false true
+unfolding item_at word_at
+none_is_none bytes x none is = let same : item_at [] ≡ Ok x = ap item_at (sym none) ∙ is in cc

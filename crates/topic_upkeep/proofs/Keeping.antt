@@ -1,6 +1,6 @@
 -- What is kept where a ledger moves, and where one is read.
 use Rattle.std.proofs.Common.{◌≡◌, ◌≢◌, ◌⊎◌, ◌++◌, ◌^◌, [], ℕ, zero, suc, ◌<◌, ◌==◌, nat_lt, Bool, true, false, List, ◌∷◌, length, get_or, inl, inr, refl, sym, ap, subst, ◌∙◌, arith}
-use Rattle.std.specs.Prelude.{Option, Some, None, Result, Err, IfSome, not, if◌then◌else◌, slice_get, slice_set}
+use Rattle.std.specs.Prelude.{Option, Some, None, Result, Ok, Err, IfOk, IfSome, is_ok, not, if◌then◌else◌, slice_get, slice_set}
 use Rattle.std.proofs.lemmas.Bool.Decides.{nat_tests}
 use Rattle.std.proofs.lemmas.Option.{slice_get_read}
 use Rattle.geo_base.specs.declared.entry.Entry.{Entry}
@@ -13,10 +13,14 @@ use Rattle.topic_upkeep.specs.declared.part.Part.{Part}
 use Rattle.topic_upkeep.specs.declared.part.Part.TheVariants as part
 use Rattle.topic_upkeep.specs.declared.part.Recalled.{Recalled}
 use Rattle.topic_upkeep.specs.declared.offload_fault.OffloadFault.{OffloadFault}
+use Rattle.topic_upkeep.specs.declared.offload_fault.TierFault.{TierFault}
 use Rattle.topic_upkeep.specs.declared.offload_fault.OffloadFault.TheVariants as fault
 use Rattle.topic_upkeep.specs.Calls.{Comes, fault_of, is_ledger}
 use Rattle.topic_upkeep.specs.Ledgers.{entries_in}
+use Rattle.geo_base.specs.declared.position.Position.{Position}
+use Rattle.geo_base.specs.Topic.{position_of}
 use Rattle.topic_upkeep.proofs.Cutting.{ledger_short}
+use Rattle.topic_upkeep.proofs.Standing.{place_found}
 use Rattle.topic_upkeep.specs.Tiered.{Holds, IsKept, IsPart, Tiered}
 
 -- ---- parts
@@ -181,6 +185,17 @@ last_there k ls es None t h = absurd (cc)
 last_there k ls es (Some r) t h =
     let same : r.ledger ≡ k = grind (arith, nat_tests, t) in
     ap (λ (q : Recalled). Some q) (sym (last_is r k (entries_in ls es k) same (h ∙ ap (entries_in ls es) same)))
+
+-- the same with an answer, which is no error
+pub last_if : (r : Result (Option Entry) TierFault) (k : ℕ) (ls : List ℕ) (es : List Entry) (o : Option Recalled) → IfSome o (λ r. r.entries ≡ entries_in ls es r.ledger)
+    → ◌≡◌ {A = Option Recalled} (if is_ok r then Some (read_last k (entries_in ls es k)) else o) (if is_ok r then (if not (is_ledger k o) then Some (read_last k (entries_in ls es k)) else o) else o)
+last_if (Ok x) k ls es o h = last_read k ls es o h
+last_if (Err f) k ls es o h = refl
+
+pub read_from : (ls : List ℕ) (es : List Entry) (i : ℕ) (p : Position) (r : Result (Option Entry) TierFault) → position_of ls i ≡ Some p
+    → IfOk r (λ o. o ≡ slice_get (entries_in ls es p.ledger) p.entry) → IfOk r (λ o. o ≡ slice_get es i)
+read_from ls es i p (Ok o) at h = h ∙ place_found ls es i p at
+read_from ls es i p (Err f) at h = tt
 
 -- the one that was read last stays where only the tier changes
 pub recalled_still : {T : Type 0} (old new : Tiered T) → new ≡ record old { tier = new.tier } → new ≡ record old { recalled = new.recalled; tier = new.tier }

@@ -1,5 +1,5 @@
 -- Reading an entry's text from left to right. What the metadata say too is passed over.
-use Rattle.std.specs.Prelude.{ℕ, ◌==◌, if◌then◌else◌, List, Ok}
+use Rattle.std.specs.Prelude.{◌≡◌, ◌≢◌, ◌<◌, ◌⊎◌, ℕ, ◌==◌, if◌then◌else◌, List, [], Ok}
 use Rattle.geo_base.specs.declared.entry.Entry.{Entry}
 use Rattle.state_items.specs.Reading.{◌>>=◌, Answer, Read, byte_at, number_at, text_at, word_at}
 
@@ -38,3 +38,7 @@ item_at bytes = do
   metadata ← text_at heading
   payload ← text_at metadata.1
   Ok ((origin.0, (metadata.0, payload.0)), payload.1)
+
+-- of n entries with these bytes after them fewer are read, or all and not the bytes, or more are read where nothing is left
+abbrev pub IsMiscounted : ℕ → ℕ → List ℕ → Type 0
+IsMiscounted n count more = (count < n) ⊎ (((count ≡ n) × (more ≢ [])) ⊎ ((n < count) × (more ≡ [])))

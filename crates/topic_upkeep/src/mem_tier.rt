@@ -1,5 +1,5 @@
 //! A tier in memory.
-ghost use Rattle.std.specs.Prelude.{◌≡◌, ◌≤◌, IfOk, OnOk, OnErr, IsErr, IsErrOf, Contains, []};
+ghost use Rattle.std.specs.Prelude.{◌≡◌, ◌≤◌, IfOk, OnOk, OnErr, IsErr, IsErrOf, Contains, ◌↔◌, []};
 ghost use Rattle.geo_io.specs.Faults.{Rose, Stood, one_more};
 ghost use Rattle.topic_upkeep.specs.Kept.{IsRead, KeepsAll, MayPut, Puts, kept_in, kept_of};
 
@@ -90,8 +90,8 @@ impl Tier for MemTier {
         ensures steady { OnOk result (Stood self.old.faults self.new.faults) }
         ensures counted { self.new.calls ≡ one_more self.old.calls }
 
-        // It fails at the planned calls.
-        ensures planned { Contains self.old.fails self.new.calls → IsErrOf result TierGet.Failed }
+        // It fails exactly at the planned calls; else it answers, or memory is wanting.
+        ensures planned { Contains self.old.fails self.new.calls ↔ IsErrOf result TierGet.Failed }
     {
         if self.plan.next_fails() {
             return Err(TierGet::Failed);

@@ -1,13 +1,14 @@
 //! A ledger's text, read.
-ghost use Rattle.std.specs.Prelude.{◌≡◌, ◌++◌, ◌≤◌, ◌<◌, ◌^◌, ℕ, List, Ok, length};
+ghost use Rattle.std.specs.Prelude.{◌≡◌, ◌≢◌, ◌++◌, ◌≤◌, ◌<◌, ◌^◌, ℕ, List, [], Ok, IsErr, length};
 ghost use Rattle.std.specs.List.{flat_map};
 ghost use Rattle.geo_base.specs.declared.entry.Entry.{Entry};
 ghost use Rattle.state_items.specs.EntryTexts.{metadata_text};
 ghost use Rattle.topic_upkeep.specs.Readable.{AreReadable, IsReadable};
-ghost use Rattle.topic_upkeep.specs.Reading.{behind_heading, behind_kind, behind_targets, entry_read, item_at};
+ghost use Rattle.topic_upkeep.specs.Reading.{behind_heading, behind_kind, behind_targets, entry_read, item_at, IsMiscounted};
 ghost use Rattle.topic_upkeep.specs.Texts.{item_text, ledger_text};
 ghost use Rattle.message_meta.specs.Metadata.{IsMetaText, Metadata};
 ghost use Rattle.state_items.specs.Reading.{Gives};
+ghost use Rattle.state_items.specs.Texts.{number};
 ghost use Rattle.frame_values.specs.Texts.{payload_text};
 
 use geo_base::limits::CLUSTERS;
@@ -16,21 +17,26 @@ use message_meta::{Meta, MetaFault};
 use state_items::{ItemFault, Rule, byte_at, judge, number_at, read_entry, text_at, word_at};
 use std::alloc::Global;
 
-/// The entries that bytes are the text of. Bytes that are no ledger's text may be a fault, or read as some entries.
+/// The entries that bytes are the text of. Bytes after the last entry are refused, and a count of more entries or of fewer. Other bytes
+/// that are no ledger's text may be a fault, or read as some entries.
 pub fn read_ledger(
     alloc: Global,
     names: &[ClusterName],
     bytes: &[u8],
 ) -> Result<Vec<Entry>, ItemFault>
     requires { length names.now ≤ CLUSTERS }
-    ensures { (own : ℕ) (es : List Entry) → AreReadable names.now own es → length es < 2 ^ 64 → bytes.now ≡ ledger_text names.now own es
+    ensures after { (own : ℕ) (es : List Entry) (more : List ℕ) → AreReadable names.now own es → length es < 2 ^ 64 → more ≢ []
+        → bytes.now ≡ ledger_text names.now own es ++ more → IsErr result }
+    ensures count { (own : ℕ) (es : List Entry) (n : ℕ) → AreReadable names.now own es → n < 2 ^ 64 → n ≢ length es
+        → bytes.now ≡ number n ++ flat_map (item_text names.now own) es → IsErr result }
+    ensures read { (own : ℕ) (es : List Entry) → AreReadable names.now own es → length es < 2 ^ 64 → bytes.now ≡ ledger_text names.now own es
         → Gives (λ v. v.items) result (Ok es) }
 {
     let (count, rest) = number_at(bytes)?;
     counted_entries(alloc, names, count, rest)
 }
 
-/// So many entries, and nothing behind them.
+/// So many entries, and nothing after them.
 fn counted_entries(
     alloc: Global,
     names: &[ClusterName],
@@ -38,7 +44,9 @@ fn counted_entries(
     bytes: &[u8],
 ) -> Result<Vec<Entry>, ItemFault>
     requires { length names.now ≤ CLUSTERS }
-    ensures { (own : ℕ) (es : List Entry) → AreReadable names.now own es → count ≡ length es → bytes.now ≡ flat_map (item_text names.now own) es
+    ensures refused { (own : ℕ) (es : List Entry) (more : List ℕ) → AreReadable names.now own es → IsMiscounted (length es) count more
+        → bytes.now ≡ flat_map (item_text names.now own) es ++ more → IsErr result }
+    ensures read { (own : ℕ) (es : List Entry) → AreReadable names.now own es → count ≡ length es → bytes.now ≡ flat_map (item_text names.now own) es
         → Gives (λ v. v.items) result (Ok es) }
 {
     let mut entries: Vec<Entry> = Vec::new(alloc);
@@ -52,14 +60,15 @@ fn counted_entries(
     Ok(entries)
 }
 
-/// The first entry, and the bytes behind it.
+/// The first entry, and the bytes after it.
 fn entry_at<'a>(
     alloc: Global,
     names: &[ClusterName],
     bytes: &'a [u8],
 ) -> Result<(Entry, &'a [u8]), ItemFault>
     requires { length names.now ≤ CLUSTERS }
-    ensures { (own : ℕ) (e : Entry) (more : List ℕ) → IsReadable names.now own e → bytes.now ≡ item_text names.now own e ++ more
+    ensures none { bytes.now ≡ [] → IsErr result }
+    ensures read { (own : ℕ) (e : Entry) (more : List ℕ) → IsReadable names.now own e → bytes.now ≡ item_text names.now own e ++ more
         → Gives (λ x. (x.0, x.1.now)) result (entry_read e more) }
 {
     let (origin, metadata, payload, rest) = item_at(bytes)?;

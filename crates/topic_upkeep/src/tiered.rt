@@ -1,5 +1,5 @@
 //! The tiered ledger.
-ghost use Rattle.std.specs.Prelude.{◌≡◌, ◌≤◌, ◌<◌, not, true, is_ok, if◌then◌else◌, ℕ, List, Some, IfOk, IsErrOf, OnOk, length, slice_get, slice_set};
+ghost use Rattle.std.specs.Prelude.{◌≡◌, ◌≤◌, ◌<◌, not, true, is_ok, if◌then◌else◌, ℕ, List, Some, IfOk, IfSome, IsErrOf, OnOk, length, slice_get, slice_set};
 ghost use Rattle.geo_base.specs.declared.entry.Entry.{Entry};
 ghost use Rattle.geo_io.specs.Faults.{Rose, one_more};
 ghost use Rattle.topic_upkeep.specs.Readable.{AreReadable, AreTellable};
@@ -13,7 +13,7 @@ use crate::offload_fault::{OffloadFault, TierFault};
 use crate::part::{Part, Recalled};
 use crate::{Held, Tier, put_ledger, read_ledger};
 use geo_base::limits::CLUSTERS;
-use geo_base::{Blob, ClusterName, Entry, EntryStore, Memory, Sequence};
+use geo_base::{Blob, ClusterName, Entry, EntryStore, Memory, Position, Sequence};
 use state_items::ItemFault;
 use std::alloc::Global;
 use std::marker::Model;
@@ -79,8 +79,8 @@ impl<T: Tier + Drop> TieredLedger<T> {
     }
 
     /// Moves a closed ledger to the tier; one that stands there already is left, and no call is made. The names are those of the
-    /// clusters. A ledger that was never opened is `Unknown`, the one that entries are appended to is `Open`; `Failed` comes
-    /// only where the tier failed in this call. After a refusal the ledger is not offloaded.
+    /// clusters. A ledger that was never opened is `Unknown`, the one that entries are appended to is `Open`, both without a call;
+    /// `Failed` comes only where the tier failed in this call. After a refusal the ledger is not offloaded.
     pub fn offload(
         &mut self,
         alloc: Global,
@@ -98,6 +98,8 @@ impl<T: Tier + Drop> TieredLedger<T> {
             ≡ Some (ledger_text names.now self.old.own (entries_in self.old.ledgers entries ledger))) }
         ensures calls { OnOk result (T.calls self.new.tier ≡ calls_if (not (is_offloaded self.old ledger)) (T.calls self.old.tier)) }
         ensures one { AtMostOne (T.calls self.old.tier) (T.calls self.new.tier) }
+        // Where a fault is due the tier is not called.
+        ensures due { IfSome (fault_of self.old.unclosed ledger) (λ _. self.new.tier ≡ self.old.tier) }
         // Nothing else changes.
         ensures value { self.new ≡ record self.old {
           parts = if is_ok result then slice_set self.old.parts ledger Part.Away else self.old.parts;
@@ -122,7 +124,7 @@ impl<T: Tier + Drop> TieredLedger<T> {
 
     /// The entry at an index; `None` exactly where nothing stands there. The names are those of the clusters. It makes one call of
     /// the tier exactly where the entry is offloaded and not of the ledger that was read last; `Failed` comes only where the
-    /// tier failed in this call.
+    /// tier failed in this call. After a refusal the ledger that was read last is the one before.
     pub fn read(
         &mut self,
         alloc: Global,
@@ -138,7 +140,7 @@ impl<T: Tier + Drop> TieredLedger<T> {
         ensures failed { IsErrOf result TierFault.Failed → Rose (T.faults self.old.tier) (T.faults self.new.tier) }
         ensures calls { OnOk result (T.calls self.new.tier ≡ calls_if (asks self.old i) (T.calls self.old.tier)) }
         ensures one { AtMostOne (T.calls self.old.tier) (T.calls self.new.tier) }
-        ensures recalled { OnOk result (self.new.recalled ≡ recalled_after self.old entries i) }
+        ensures recalled { self.new.recalled ≡ (if is_ok result then recalled_after self.old entries i else self.old.recalled) }
         // Nothing else changes.
         ensures value { self.new ≡ record self.old { recalled = self.new.recalled; tier = self.new.tier } }
     {
@@ -149,29 +151,36 @@ impl<T: Tier + Drop> TieredLedger<T> {
         if let Part::Here(entries) = &self.parts[at] {
             return Ok(copy_at(alloc, entries.as_slice(), position.entry)?);
         }
-        self.recall(alloc, names, position.ledger)?;
-        Ok(self.copy_recalled(alloc, position.entry)?)
+        self.read_away(alloc, names, position)
     }
 
-    /// Brings a ledger over from the tier, unless it was the last one that was.
-    fn recall(&mut self, alloc: Global, names: &[ClusterName], ledger: u64) -> Result<(), TierFault>
+    /// The entry at a place of a ledger that stands in the tier. The ledger is brought over, unless it was the last one that was.
+    fn read_away(
+        &mut self,
+        alloc: Global,
+        names: &[ClusterName],
+        position: Position,
+    ) -> Result<Option<Entry>, TierFault>
         ghost entries: { List Entry }
         requires clusters { length names.now ≤ CLUSTERS }
         requires holds { Holds names.now T.kept entries self.old }
-        requires away { slice_get self.old.parts ledger ≡ Some Part.Away }
+        requires away { slice_get self.old.parts position.ledger ≡ Some Part.Away }
         ensures holds { Holds names.now T.kept entries self.new }
-        ensures ok { OnOk result (self.new.recalled ≡ Some (record { ledger = ledger; entries = entries_in self.old.ledgers entries ledger })) }
+        ensures ok { IfOk result (λ o. o ≡ slice_get (entries_in self.old.ledgers entries position.ledger) position.entry) }
         ensures failed { IsErrOf result TierFault.Failed → Rose (T.faults self.old.tier) (T.faults self.new.tier) }
-        ensures calls { OnOk result (T.calls self.new.tier ≡ calls_if (not (is_ledger ledger self.old.recalled)) (T.calls self.old.tier)) }
+        ensures calls { OnOk result (T.calls self.new.tier ≡ calls_if (not (is_ledger position.ledger self.old.recalled)) (T.calls self.old.tier)) }
         ensures one { AtMostOne (T.calls self.old.tier) (T.calls self.new.tier) }
+        ensures recalled { self.new.recalled ≡ (if is_ok result then Some (record { ledger = position.ledger; entries = entries_in self.old.ledgers entries position.ledger }) else self.old.recalled) }
         ensures value { self.new ≡ record self.old { recalled = self.new.recalled; tier = self.new.tier } }
     {
+        let ledger = position.ledger;
         if self.has_recalled(ledger) {
-            return Ok(());
+            return Ok(self.copy_recalled(alloc, position.entry)?);
         }
         let entries = self.fetch(alloc, names, ledger)?;
+        let entry = copy_at(alloc, entries.as_slice(), position.entry)?;
         self.recalled = Some(Recalled { ledger, entries });
-        Ok(())
+        Ok(entry)
     }
 
     /// Whether a ledger is the last one that was read from the tier.

@@ -44,7 +44,7 @@ returns-in-Ok-clause-ok g c =
     let away : slice_get t.parts c.args.ledger ≡ Some part.Away = subst (λ (v : Tiered g.row.T.Denot). slice_get v.parts c.args.ledger ≡ Some part.Away) (sym c.self.view_is) c.requires.1.1.1 in
     let got = got_text c.args.names.now g.T.Tier.kept g.entries t c.args.ledger c.new-bytes.result c.get.new.out c.in_ok-get.field-0 holds away c.new-bytes.ensures c.in_ok-get.ensures.ok in
     let read : ◌≡◌ {A = Answer (List Entry)} (Ok (entries_in t.ledgers g.entries c.args.ledger)) (Ok c.in-Ok.entries.items) =
-    read_with c.args.names.now g.T.Tier.kept g.entries t c.args.ledger c.as_slice.result.now (λ (fs : List Entry). ◌≡◌ {A = Answer (List Entry)} (Ok fs) (Ok c.in-Ok.entries.items)) holds away (c.as_slice.ensures ∙ got.1) c.in-Ok.ensures in
+    read_with c.args.names.now g.T.Tier.kept g.entries t c.args.ledger c.as_slice.result.now (λ (fs : List Entry). ◌≡◌ {A = Answer (List Entry)} (Ok fs) (Ok c.in-Ok.entries.items)) holds away (c.as_slice.ensures ∙ got.1) c.in-Ok.ensures.read in
     let is : c.from_vec.result ≡ entries_in t.ledgers g.entries c.args.ledger = c.from_vec.ensures ∙ same_entries (entries_in t.ledgers g.entries c.args.ledger) c.in-Ok.entries.items read in
     subst (λ (v : Tiered g.row.T.Denot). c.from_vec.result ≡ entries_in v.ledgers g.entries c.args.ledger) c.self.view_is is
 
@@ -57,7 +57,7 @@ unreachable-requires g c =
     let fault = c.in-Err-Broken.field-0-is in
     no_fault (entries_in t.ledgers g.entries c.args.ledger) c.in-Err-Broken.field-0-0
     (read_with c.args.names.now g.T.Tier.kept g.entries t c.args.ledger c.as_slice.result.now (λ (fs : List Entry). ◌≡◌ {A = Answer (List Entry)} (Ok fs) (Err c.in-Err-Broken.field-0-0)) holds away (c.as_slice.ensures ∙ got.1)
-    (rw fault at c.in-Err-Broken.ensures))
+    (rw fault at c.in-Err-Broken.ensures.read))
 
 pub unreachable-requires-in-No : goal.unreachable-requires-in-No
 unreachable-requires-in-No g c =

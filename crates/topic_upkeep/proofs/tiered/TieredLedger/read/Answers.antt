@@ -1,14 +1,13 @@
 use Rattle.std.proofs.Common.{◌≡◌, ◌<◌, ◌∙◌, ℕ, List, length, refl, subst, sym, ap, arith}
-use Rattle.std.specs.Prelude.{Option, Some, None, slice_get}
+use Rattle.std.specs.Prelude.{Some, None, slice_get}
 use Rattle.geo_base.specs.declared.entry.Entry.{Entry}
 use Rattle.geo_base.specs.Topic.{position_of}
 use Rattle.topic_store.specs.Firsts.{lengths_of}
 use Rattle.topic_upkeep.specs.declared.part.Part.TheVariants as part
-use Rattle.topic_upkeep.specs.declared.part.Recalled.{Recalled}
-use Rattle.topic_upkeep.specs.Calls.{asks, calls_if, recalled_after, recalled_entry}
+use Rattle.topic_upkeep.specs.Calls.{asks, calls_if, recalled_after}
 use Rattle.topic_upkeep.specs.Ledgers.{entries_in}
 use Rattle.topic_upkeep.specs.Tiered.{Holds, Tiered}
-use Rattle.topic_upkeep.proofs.Keeping.{here_is, last_read, part_at}
+use Rattle.topic_upkeep.proofs.Keeping.{here_is, last_if, part_at, read_from}
 use Rattle.topic_upkeep.proofs.Standing.{ledger_there, none_there, place_found}
 use Rattle.topic_upkeep.proofs.tiered.TieredLedger.read.Goals as goal
 
@@ -66,8 +65,8 @@ returns-in-Here-clause-recalled g c =
     let same : t.recalled ≡ recalled_after t g.entries c.args.i = rw (at, here) refl in
     subst (λ (v : Tiered g.row.T.Denot). v.recalled ≡ recalled_after v g.entries c.args.i) c.self.view_is same
 
-pub recall-requires : goal.recall-requires
-recall-requires g c =
+pub read_away-requires : goal.read_away-requires
+read_away-requires g c =
     let t : Tiered g.row.T.Denot = record { own = c.self.inside.own; ledgers = lengths_of c.self.inside.firsts.items c.self.inside.len; unclosed = c.self.inside.unclosed; parts = c.self.inside.parts.items; recalled = c.self.inside.recalled; tier = c.self.inside.tier } in
     let holds : Holds c.args.names.now g.T.Tier.kept g.entries t = subst (λ (v : Tiered g.row.T.Denot). Holds c.args.names.now g.T.Tier.kept g.entries v) (sym c.self.view_is) c.requires.1.1 in
     let asked : position_of t.ledgers c.args.i ≡ c.position_of.result = ap (λ (fs : List ℕ). position_of (lengths_of fs c.self.inside.len) c.args.i) (sym c.as_slice.ensures.value) ∙ sym c.position_of.ensures in
@@ -90,7 +89,7 @@ returns-clause-ok g c =
     let gone : slice_get t.parts p.ledger ≡ Some part.Away = part_at c.self.inside.parts.items p.ledger c.index.result.now part.Away within c.index.ensures c.in_default-index.is in
     let away : slice_get c.args.self.now.parts p.ledger ≡ Some part.Away = subst (λ (v : Tiered g.row.T.Denot). slice_get v.parts p.ledger ≡ Some part.Away) c.self.view_is gone in
     let place : position_of c.args.self.now.ledgers c.args.i ≡ Some p = subst (λ (v : Tiered g.row.T.Denot). position_of v.ledgers c.args.i ≡ Some p) c.self.view_is at in
-    c.in_ok-copy_recalled.ensures ∙ ap (λ (o : Option Recalled). recalled_entry o p.entry) c.in_ok-recall.ensures.ok ∙ place_found c.args.self.now.ledgers g.entries c.args.i p place
+    read_from c.args.self.now.ledgers g.entries c.args.i p c.read_away.result place c.read_away.ensures.ok
 
 pub returns-clause-calls : goal.returns-clause-calls
 returns-clause-calls g c =
@@ -103,7 +102,7 @@ returns-clause-calls g c =
     let gone : slice_get t.parts p.ledger ≡ Some part.Away = part_at c.self.inside.parts.items p.ledger c.index.result.now part.Away within c.index.ensures c.in_default-index.is in
     let away : slice_get c.args.self.now.parts p.ledger ≡ Some part.Away = subst (λ (v : Tiered g.row.T.Denot). slice_get v.parts p.ledger ≡ Some part.Away) c.self.view_is gone in
     let place : position_of c.args.self.now.ledgers c.args.i ≡ Some p = subst (λ (v : Tiered g.row.T.Denot). position_of v.ledgers c.args.i ≡ Some p) c.self.view_is at in
-    rw (place, away) c.in_ok-recall.ensures.calls
+    rw (place, away) c.read_away.ensures.calls
 
 pub returns-clause-recalled : goal.returns-clause-recalled
 returns-clause-recalled g c =
@@ -116,7 +115,7 @@ returns-clause-recalled g c =
     let gone : slice_get t.parts p.ledger ≡ Some part.Away = part_at c.self.inside.parts.items p.ledger c.index.result.now part.Away within c.index.ensures c.in_default-index.is in
     let away : slice_get c.args.self.now.parts p.ledger ≡ Some part.Away = subst (λ (v : Tiered g.row.T.Denot). slice_get v.parts p.ledger ≡ Some part.Away) c.self.view_is gone in
     let place : position_of c.args.self.now.ledgers c.args.i ≡ Some p = subst (λ (v : Tiered g.row.T.Denot). position_of v.ledgers c.args.i ≡ Some p) c.self.view_is at in
-    c.in_ok-recall.ensures.ok ∙ rw (place, away) (last_read p.ledger c.args.self.now.ledgers g.entries c.args.self.now.recalled c.requires.1.1.recalled)
+    c.read_away.ensures.recalled ∙ rw (place, away) (last_if c.read_away.result p.ledger c.args.self.now.ledgers g.entries c.args.self.now.recalled c.requires.1.1.recalled)
 
 pub returns-in_default-clause-calls : goal.returns-in_default-clause-calls
 returns-in_default-clause-calls g c =
@@ -133,30 +132,3 @@ returns-in_default-clause-recalled g c =
     let at : position_of t.ledgers c.args.i ≡ None = asked ∙ c.in_default.is in
     let same : t.recalled ≡ recalled_after t g.entries c.args.i = rw at refl in
     subst (λ (v : Tiered g.row.T.Denot). v.recalled ≡ recalled_after v g.entries c.args.i) c.self.view_is same
-
-pub returns-in_err-recall-clause-holds : goal.returns-in_err-recall-clause-holds
-returns-in_err-recall-clause-holds g c = c.recall.ensures.holds
-
-pub returns-in_err-recall-clause-one : goal.returns-in_err-recall-clause-one
-returns-in_err-recall-clause-one g c = c.recall.ensures.one
-
-pub returns-in_err-recall-clause-value : goal.returns-in_err-recall-clause-value
-returns-in_err-recall-clause-value g c = c.recall.ensures.value
-
-pub returns-in_err-copy_recalled-clause-holds : goal.returns-in_err-copy_recalled-clause-holds
-returns-in_err-copy_recalled-clause-holds g c = c.recall.ensures.holds
-
-pub returns-in_err-copy_recalled-clause-one : goal.returns-in_err-copy_recalled-clause-one
-returns-in_err-copy_recalled-clause-one g c = c.recall.ensures.one
-
-pub returns-in_err-copy_recalled-clause-value : goal.returns-in_err-copy_recalled-clause-value
-returns-in_err-copy_recalled-clause-value g c = c.recall.ensures.value
-
-pub returns-clause-holds : goal.returns-clause-holds
-returns-clause-holds g c = c.recall.ensures.holds
-
-pub returns-clause-one : goal.returns-clause-one
-returns-clause-one g c = c.recall.ensures.one
-
-pub returns-clause-value : goal.returns-clause-value
-returns-clause-value g c = c.recall.ensures.value

@@ -1,4 +1,4 @@
 use Rattle.topic_upkeep.proofs.tiered.TieredLedger.read.Given as goal
 
-abbrev pub ghost-recall : goal.ghost-recall
-ghost-recall g a = g.entries
+abbrev pub ghost-read_away : goal.ghost-read_away
+ghost-read_away g a = g.entries
