@@ -28,7 +28,8 @@ use Rattle.step_lines.specs.declared.heads.Indent.{Indent}
 use Rattle.step_lines.specs.declared.heads.Indent.TheVariants as indent
 use Rattle.step_lines.specs.declared.noted.NotedBroker.{NotedBroker}
 use Rattle.step_lines.specs.Changes.{place_line, placed, stood_lines}
-use Rattle.step_lines.specs.Noted.{IsNoted, client_told as told_of_client}
+use Rattle.step_lines.specs.Noted.{client_told as told_of_client}
+use Rattle.step_lines.specs.Resting.{IsSeen, MayRest}
 use Rattle.step_lines.specs.declared.telling.Telling.{Telling as StepText}
 use Rattle.step_lines.specs.Texts.{telling_of}
 use Rattle.step_lines.specs.Telling.{IsActed, IsClients, IsTelling, Telling, client_step, first_said, next_number, tells_at, tells_begin, tells_changed, tells_done, tells_event, tells_head, tells_settling, tells_step}
@@ -189,35 +190,34 @@ done_is_at : (i : Indent) (s : Setup) (w v : World) (e : Event) (t : Telling) �
 done_is_at i s w v e t brokers = ap (λ (n : Node). tells_changed i s v.events e (changed_at s w v n) t) (broker_node s e brokers)
 
 -- the broker of an event, noted in a world that stands for w, and told in one that stands for v
-told_between : (i : Indent) (s : Setup) (w v : World) (old new : WorldBook) (e : Event) (k : NotedBroker) (t u : Telling) → IsBrokers e → IsEvent s e → IsAt s old → IsAt s new
-    → Stands s (kept_of old) w → Stands s (kept_of new) v → IsNoted (length s.clusters) (node_at old.nodes (node_of s e)).broker k
-    → ((b : Broker) → IsNoted (length s.clusters) b k → u ≡ tells_at i s new.events e b (node_at new.nodes (node_of s e)).broker t)
+told_between : (i : Indent) (s : Setup) (w v : World) (old new : WorldBook) (e : Event) (t u : Telling) → IsBrokers e → IsEvent s e → IsAt s old → IsAt s new
+    → Stands s (kept_of old) w → Stands s (kept_of new) v
+    → u ≡ tells_at i s new.events e (node_at old.nodes (node_of s e)).broker (node_at new.nodes (node_of s e)).broker t
     → u ≡ tells_done i s w v e t
-told_between i s w v old new e k t u brokers here at at' stands stands' noted told =
+told_between i s w v old new e t u brokers here at at' stands stands' told =
     let n = node_of s e in let b = (node_at old.nodes n).broker in let a = (node_at new.nodes n).broker in
     let before : b ≡ topic_at s w (topic_of s e) (cluster_of e) = stands_at s old w n stands (node_below s old e at brokers here) in
     let behind : a ≡ topic_at s v (topic_of s e) (cluster_of e) = stands_at s new v n stands' (node_below s new e at' brokers here) in
-    told b noted
+    told
     ∙ (ap (λ (m : ℕ). tells_at i s m e b a t) stands'.events
     ∙ (ap (λ (c : Broker). tells_at i s v.events e c a t) before
     ∙ (ap (λ (c : Broker). tells_at i s v.events e (topic_at s w (topic_of s e) (cluster_of e)) c t) behind ∙ sym (done_is_at i s w v e t brokers))))
 
-pub acted : (i : Indent) (s : Setup) (w : World) (old new : WorldBook) (e : Event) (p : PlanBook) (k : NotedBroker) (t u : Telling) → IsBrokers e → IsEvent s e → IsAt s old → IsAt s new
+pub acted : (i : Indent) (s : Setup) (w : World) (old new : WorldBook) (e : Event) (p : PlanBook) (t u : Telling) → IsBrokers e → IsEvent s e → IsAt s old → IsAt s new
     → Stands s (kept_of old) w → Stands s (kept_of new) (happens s w e) → IsForeseen s w e (node_at old.nodes (node_of s e)) p → p.idle ≡ false
-    → IsNoted (length s.clusters) (node_at old.nodes (node_of s e)).broker k
-    → ((b : Broker) → IsNoted (length s.clusters) b k → u ≡ tells_at i s new.events e b (node_at new.nodes (node_of s e)).broker t)
+    → u ≡ tells_at i s new.events e (node_at old.nodes (node_of s e)).broker (node_at new.nodes (node_of s e)).broker t
     → IsActed i s w e t u (Ok true)
-acted i s w old new e p k t u brokers here at at' stands stands' foreseen busy noted told =
-    (told_between i s w (happens s w e) old new e k t u brokers here at at' stands stands' noted told, event_busy s w e (node_at old.nodes (node_of s e)) p brokers here foreseen busy)
+acted i s w old new e p t u brokers here at at' stands stands' foreseen busy told =
+    (told_between i s w (happens s w e) old new e t u brokers here at at' stands stands' told, event_busy s w e (node_at old.nodes (node_of s e)) p brokers here foreseen busy)
 
 -- a stop in its midst
-pub halted : (s : Setup) (w : World) (count : ℕ) (old new : WorldBook) (e : Event) (k : NotedBroker) (t u : Telling) → IsBrokers e → IsEvent s e → IsAt s old → IsAt s new
-    → Stands s (kept_of old) w → Stands s (kept_of new) (halts_planned s w count (planned s w e)) → IsNoted (length s.clusters) (node_at old.nodes (node_of s e)).broker k
-    → ((b : Broker) → IsNoted (length s.clusters) b k → u ≡ tells_at indent.Step s new.events e b (node_at new.nodes (node_of s e)).broker t)
+pub halted : (s : Setup) (w : World) (count : ℕ) (old new : WorldBook) (e : Event) (t u : Telling) → IsBrokers e → IsEvent s e → IsAt s old → IsAt s new
+    → Stands s (kept_of old) w → Stands s (kept_of new) (halts_planned s w count (planned s w e))
+    → u ≡ tells_at indent.Step s new.events e (node_at old.nodes (node_of s e)).broker (node_at new.nodes (node_of s e)).broker t
     → u ≡ tells_step s t (did_or_idle s w (halts_planned s w count (planned s w e)) e)
-halted s w count old new e k t u brokers here at at' stands stands' noted told =
+halted s w count old new e t u brokers here at at' stands stands' told =
     let v = halts_planned s w count (planned s w e) in
-    told_between indent.Step s w v old new e k t u brokers here at at' stands stands' noted told
+    told_between indent.Step s w v old new e t u brokers here at at' stands stands' told
     ∙ ap (λ (b : Bool). tells_step s t (if b then WasIdle else Did (changed_at s w v (machine_node s e)))) (sym (halt_busy s w count e brokers here))
 
 -- ---- an event of a broker, as a step and as one of settling
@@ -313,10 +313,9 @@ ok_passes_none is = absurd (subst (λ (a : Result Bool RunFault). IsAnswer a) is
 pub from_same : (s : Setup) (old new : StepText) → new ≡ old → IsTelling s old.names old.number old.said → IsTelling s new.names new.number new.said
 from_same s old new is h = subst (λ (t : StepText). IsTelling s t.names t.number t.said) (sym is) h
 
-pub from_text : (i : Indent) (s : Setup) (b : WorldBook) (e : Event) (k : NotedBroker) (old mid : StepText) (u : Telling) → mid ≡ old
-    → ((c : Broker) → IsNoted (length s.clusters) c k → u ≡ tells_at i s b.events e c (node_at b.nodes (node_of s e)).broker (telling_of mid))
-    → (c : Broker) → IsNoted (length s.clusters) c k → u ≡ tells_at i s b.events e c (node_at b.nodes (node_of s e)).broker (telling_of old)
-from_text i s b e k old mid u is told c noted = told c noted ∙ ap (λ (t : StepText). tells_at i s b.events e c (node_at b.nodes (node_of s e)).broker (telling_of t)) is
+pub from_text : (i : Indent) (s : Setup) (b : WorldBook) (e : Event) (c : Broker) (old mid : StepText) (u : Telling) → mid ≡ old
+    → u ≡ tells_at i s b.events e c (node_at b.nodes (node_of s e)).broker (telling_of mid) → u ≡ tells_at i s b.events e c (node_at b.nodes (node_of s e)).broker (telling_of old)
+from_text i s b e c old mid u is told = told ∙ ap (λ (t : StepText). tells_at i s b.events e c (node_at b.nodes (node_of s e)).broker (telling_of t)) is
 
 -- ---- the broker of an event
 
@@ -329,32 +328,32 @@ pub place_there : (s : Setup) (e : Event) (nodes : List BrokerBook) (place : Pla
     → u ≡ node_at nodes (node_of s e)
 place_there s e nodes place u at is = is ∙ ap (λ (a : Place). node_at nodes (node s a.topic a.cluster)) at
 
-abbrev NotedAs : ℕ → Broker → NotedBroker → Result (Unit {0}) Memory → Type 0
-NotedAs n b k r = OnOk r (IsNoted n b k)
+abbrev SeenAs : Bool → ℕ → Broker → NotedBroker → Result (Unit {0}) Memory → Type 0
+SeenAs rests n b k r = OnOk r (IsSeen rests n b k)
 
-pub noted_there : (s : Setup) (old : WorldBook) (e : Event) (u : BrokerBook) (k : NotedBroker) (r : Result (Unit {0}) Memory) → IsAt s old → IsBrokers e → IsEvent s e → u ≡ node_at old.nodes (node_of s e)
-    → OnOk r (IsNoted (length u.site.clusters) u.broker k) → OnOk r (IsNoted (length s.clusters) (node_at old.nodes (node_of s e)).broker k)
-noted_there s old e u k r at brokers here is noted =
+pub noted_there : (rests : Bool) (s : Setup) (old : WorldBook) (e : Event) (u : BrokerBook) (k : NotedBroker) (r : Result (Unit {0}) Memory) → IsAt s old → IsBrokers e → IsEvent s e
+    → u ≡ node_at old.nodes (node_of s e) → OnOk r (IsSeen rests (length u.site.clusters) u.broker k) → OnOk r (IsSeen rests (length s.clusters) (node_at old.nodes (node_of s e)).broker k)
+noted_there rests s old e u k r at brokers here is noted =
     let v = node_at old.nodes (node_of s e) in
     let site : v.site.clusters ≡ s.clusters = ap (λ (h : Site). h.clusters) (node_is s old e at brokers here).site in
-    subst (λ (names : List (List ℕ)). NotedAs (length names) v.broker k r) site (subst (λ (z : BrokerBook). NotedAs (length z.site.clusters) z.broker k r) is noted)
+    subst (λ (names : List (List ℕ)). SeenAs rests (length names) v.broker k r) site (subst (λ (z : BrokerBook). SeenAs rests (length z.site.clusters) z.broker k r) is noted)
 
-pub told_here : (i : Indent) (s : Setup) (names : Names) (old : WorldBook) (e : Event) (b : Broker) (u : BrokerBook) (k : NotedBroker) (topic : List ℕ) (number : ℕ) (t mid : Telling) (lines : List ℕ)
+pub told_here : (rests : Bool) (i : Indent) (s : Setup) (names : Names) (old : WorldBook) (e : Event) (b : Broker) (u : BrokerBook) (k : NotedBroker) (topic : List ℕ) (number : ℕ) (t mid : Telling) (lines : List ℕ)
     (r : Result (Unit {0}) Memory) → names ≡ names_of s → IsAt s old → IsBrokers e → IsEvent s e → u ≡ node_at old.nodes (node_of s e) → number ≡ old.events → topic ≡ topic_name s (topic_of s e)
     → mid ≡ tells_begin i names number e t
-    → (IsNoted (length u.site.clusters) b k
+    → (IsSeen rests (length u.site.clusters) b k → MayRest rests b u.broker
     → OnOk r (lines ≡ mid.text ++ stood_lines i (placed (place_line topic (slice_index_or u.site.clusters u.site.own [])) (broker_changes u.site.clusters u.site.own b u.broker))))
-    → IsNoted (length s.clusters) b k → OnOk r (record mid { text = lines } ≡ tells_at i s old.events e b (node_at old.nodes (node_of s e)).broker t)
-told_here i s names old e b u k topic number t mid lines (Err f) named at brokers here is counts titled begun told noted = tt
-told_here i s names old e b u k topic number t mid lines (Ok unit) named at brokers here is counts titled begun told noted =
+    → IsSeen rests (length s.clusters) b k → MayRest rests b (node_at old.nodes (node_of s e)).broker → OnOk r (record mid { text = lines } ≡ tells_at i s old.events e b (node_at old.nodes (node_of s e)).broker t)
+told_here rests i s names old e b u k topic number t mid lines (Err f) named at brokers here is counts titled begun told noted rested = tt
+told_here rests i s names old e b u k topic number t mid lines (Ok unit) named at brokers here is counts titled begun told noted rested =
     let v = node_at old.nodes (node_of s e) in let y = topic_of s e in let x = cluster_of e in
     let place : v.site ≡ site s y x = (node_is s old e at brokers here).site in
     let under : Site → Broker → List ℕ → List ℕ =
     λ h a title. mid.text ++ stood_lines i (placed (place_line title (slice_index_or h.clusters h.own [])) (broker_changes h.clusters h.own b a)) in
-    let known : IsNoted (length u.site.clusters) b k =
-    subst (λ (z : BrokerBook). IsNoted (length z.site.clusters) b k) (sym is) (subst (λ (h : Site). IsNoted (length h.clusters) b k) (sym place) noted) in
+    let known : IsSeen rests (length u.site.clusters) b k =
+    subst (λ (z : BrokerBook). IsSeen rests (length z.site.clusters) b k) (sym is) (subst (λ (h : Site). IsSeen rests (length h.clusters) b k) (sym place) noted) in
     let all : lines ≡ under (site s y x) v.broker (topic_name s y) =
-    told known
+    told known (subst (λ (z : BrokerBook). MayRest rests b z.broker) (sym is) rested)
     ∙ (ap (λ (z : BrokerBook). under z.site z.broker topic) is ∙ (ap (λ (h : Site). under h v.broker topic) place ∙ ap (λ (title : List ℕ). under (site s y x) v.broker title) titled)) in
     told_at i s names number e b v.broker t mid (record mid { text = lines }) named begun (ap (λ (z : List ℕ). record mid { text = z }) all)
     ∙ ap (λ (n : ℕ). tells_at i s n e b v.broker t) counts

@@ -1,5 +1,6 @@
 pub mod Changes
 pub mod Noted
+pub mod Resting
 pub mod Telling
 pub mod Texts
 pub mod Stops

@@ -1,18 +1,19 @@
 //! What an event changed at a broker.
-ghost use Rattle.std.specs.Prelude.{◌≡◌, ◌<◌, ◌++◌, [], drop, length, map, is_some, slice_index_or, OnErr, OnOk};
+ghost use Rattle.std.specs.Prelude.{◌≡◌, ◌<◌, ◌++◌, [], drop, length, map, slice_index_or, OnErr, OnOk};
 ghost use Rattle.std.specs.Str.{bytes_eq};
 ghost use Rattle.broker_subs.specs.Table.{sub_at};
-ghost use Rattle.geo_base.specs.Broker.{Broker as Machine, sub_named};
+ghost use Rattle.geo_base.specs.Broker.{Broker as Machine};
 ghost use Rattle.step_laws.specs.Steps.{broker_changes, change_line};
 ghost use Rattle.step_lines.specs.Changes.{place_line, placed, stood_lines};
-ghost use Rattle.step_lines.specs.Noted.{IsNoted, gone_named, gone_told, same_before, same_shown, shown_named, sub_told, subs_told};
+ghost use Rattle.step_lines.specs.Resting.{Rests};
+ghost use Rattle.step_lines.specs.Noted.{AreSenders, IsNoted, gone_named, gone_told, same_before, same_shown, shown_named, sub_told, subs_told};
 
 use crate::entries::add_new_entries;
 use crate::heads::{Indent, add_place};
 use crate::noted::{NotedBroker, NotedSub, shown_of};
-use crate::senders::add_other_senders;
+use crate::senders::{NotedSender, add_other_senders};
+use crate::sub_names::has_sub;
 use broker::Broker;
-use broker_subs::Sub;
 use geo_base::{Blob, Memory};
 use report_lines::{SubShown, add_sub_line};
 
@@ -37,6 +38,43 @@ pub(crate) fn add_broker_changes(
         lines.truncate(start);
     }
     Ok(())
+}
+
+/// Appends what is other at a broker than it was noted where entries and subscriptions rest: only senders may be other.
+pub(crate) fn add_sender_changes(
+    lines: &mut Blob,
+    indent: Indent,
+    topic: &str,
+    broker: &Broker,
+    noted: &[NotedSender],
+) -> Result<(), Memory>
+    requires { length noted.now ≡ length broker.now.site.clusters }
+    ensures { (b : Machine) → AreSenders (length broker.now.site.clusters) b noted.now → Rests b broker.now.broker
+        → OnOk result (lines.new ≡ lines.old ++ stood_lines indent (placed (place_line topic.now (slice_index_or broker.now.site.clusters broker.now.site.own []))
+        (broker_changes broker.now.site.clusters broker.now.site.own b broker.now.broker))) }
+{
+    let start = lines.len();
+    add_place(lines, indent, topic, broker)?;
+    let from = lines.len();
+    add_changes_at_rest(lines, indent, broker, noted)?;
+    if lines.len() == from {
+        lines.truncate(start);
+    }
+    Ok(())
+}
+
+/// Appends the senders that are other than noted, which is all that is other there.
+fn add_changes_at_rest(
+    lines: &mut Blob,
+    indent: Indent,
+    broker: &Broker,
+    noted: &[NotedSender],
+) -> Result<(), Memory>
+    requires { length noted.now ≡ length broker.now.site.clusters }
+    ensures { (b : Machine) → AreSenders (length broker.now.site.clusters) b noted.now → Rests b broker.now.broker
+        → OnOk result (lines.new ≡ lines.old ++ stood_lines indent (map change_line (broker_changes broker.now.site.clusters broker.now.site.own b broker.now.broker))) }
+{
+    add_other_senders(lines, indent, broker, noted)
 }
 
 /// Appends what is other, in the order of a report: entries, senders, and subscriptions, before which those stand that are gone.
@@ -141,28 +179,6 @@ fn is_noted(sub: &NotedSub, name: &[u8]) -> bool
     ensures { result ≡ bytes_eq sub.now.name name.now }
 {
     sub.name.as_str().as_bytes() == name
-}
-
-/// Whether a broker has a subscription of a name.
-#[tactic(auto, using(crate::proofs::Finding::has_here, crate::proofs::Finding::has_next))]
-fn has_sub(broker: &Broker, name: &[u8]) -> bool
-    ensures { result ≡ is_some (sub_named broker.now.broker.subs name.now) }
-{
-    for place in 0..broker.subs() {
-        match broker.sub(place) {
-            Some(sub) if is_named(sub, name) => return true,
-            Some(_) => {}
-            None => unreachable!(),
-        }
-    }
-    false
-}
-
-/// Whether a subscription has a name.
-fn is_named(sub: &Sub, name: &[u8]) -> bool
-    ensures { result ≡ bytes_eq sub.now.sub.name name.now }
-{
-    sub.name().as_str().as_bytes() == name
 }
 
 /// Whether a subscription was noted, and a report showed the same of it.

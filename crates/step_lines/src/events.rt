@@ -1,5 +1,5 @@
 //! An event with what it changed: its node is noted before it, and told after it.
-ghost use Rattle.std.specs.Prelude.{◌≡◌, ◌==◌, ℕ, ◌<◌, false, length, Err, Ok, OnErr, OnOk};
+ghost use Rattle.std.specs.Prelude.{◌≡◌, ◌==◌, ℕ, ◌<◌, false, true, length, Err, Ok, OnErr, OnOk};
 ghost use Rattle.geo_base.specs.Broker.{Broker as Machine};
 ghost use Rattle.geo_base.specs.Client.{Client as MachineClient};
 ghost use Rattle.geo_base.specs.Happening.{halts_planned, happens};
@@ -8,7 +8,8 @@ ghost use Rattle.geo_base.specs.Setup.{declared_at};
 ghost use Rattle.geo_base.specs.World.{World as MachineWorld};
 ghost use Rattle.script_text.specs.Scenario.{IsEvent};
 ghost use Rattle.step_laws.specs.Steps.{did_or_idle};
-ghost use Rattle.step_lines.specs.Noted.{IsNoted, noted_client};
+ghost use Rattle.step_lines.specs.Noted.{noted_client};
+ghost use Rattle.step_lines.specs.Resting.{IsSeen, MayRest, are_apart};
 ghost use Rattle.step_lines.specs.Telling.{IsActed, IsClients, IsTelling, client_step, tells_at, tells_step};
 ghost use Rattle.step_lines.specs.Texts.{telling_of};
 ghost use Rattle.world.specs.ClientSteps.{client_in};
@@ -19,11 +20,13 @@ ghost use Rattle.world_kept.specs.Events.{IsBrokers, node_of};
 ghost use Rattle.world_kept.specs.Reached.{Reached};
 ghost use Rattle.world_kept.specs.Standing.{Stands};
 
-use crate::broker_changes::add_broker_changes;
+use crate::broker_changes::{add_broker_changes, add_sender_changes};
 use crate::client_changes::add_client_changes;
 use crate::heads::{Indent, topic_name};
 use crate::noted::{NotedClient, client_of};
+use crate::sender_writes::writes_senders_alone;
 use crate::steps::Steps;
+use crate::sub_names::are_apart;
 use geo_base::{Event, Memory};
 use script_text::{ClientDecl, Scenario};
 use std::alloc::Global;
@@ -139,7 +142,8 @@ impl<'a> Steps<'a> {
         if !is_ready {
             return Ok(false);
         }
-        self.note(alloc, world, scenario, event, place)?;
+        let may_rest = writes_senders_alone(&self.plan);
+        self.note(alloc, world, scenario, event, place, may_rest)?;
         world.finish(alloc, scenario, event, place, &mut self.plan)?;
         self.tell_event(alloc, world, scenario, event, place, indent)?;
         Ok(true)
@@ -167,13 +171,13 @@ impl<'a> Steps<'a> {
         ensures past { (n : ℕ) → result ≡ Err (fault.TooLarge n) → SameWorld world.old world.new }
     {
         let place = place_of(scenario, event);
-        self.note(alloc, world, scenario, event, place)?;
+        self.note(alloc, world, scenario, event, place, false)?;
         world.halt(alloc, scenario, writes, event)?;
         self.tell_event(alloc, world, scenario, event, place, Indent::Step)?;
         Ok(())
     }
 
-    /// Notes the broker of an event.
+    /// Notes the broker of an event, its senders alone where it may rest and no two of its subscriptions have one name.
     fn note(
         &mut self,
         alloc: Global,
@@ -181,16 +185,22 @@ impl<'a> Steps<'a> {
         scenario: &Scenario,
         event: &Event,
         place: Place,
+        may_rest: bool,
     ) -> Result<(), Memory>
         requires at { IsAt scenario.now.setup world.now }
         requires broker { IsBrokers event.now }
         requires scripted { IsEvent scenario.now.setup event.now }
         requires place { place ≡ place_at scenario.now.setup event.now }
-        ensures noted { OnOk result (IsNoted (length scenario.now.setup.clusters) (node_at world.now.nodes (node_of scenario.now.setup event.now)).broker self.new.noted) }
+        ensures noted { OnOk result (IsSeen self.new.rests (length scenario.now.setup.clusters) (node_at world.now.nodes (node_of scenario.now.setup event.now)).broker self.new.noted) }
+        ensures rests { self.new.rests ≡ true → (may_rest ≡ true) × (are_apart (node_at world.now.nodes (node_of scenario.now.setup event.now)).broker.subs ≡ true) }
         ensures telling { self.new.telling ≡ self.old.telling }
         ensures plan { self.new.plan ≡ self.old.plan }
     {
         let broker = world.topic(scenario, place.topic, place.cluster);
+        self.rests = may_rest && are_apart(broker);
+        if self.rests {
+            return self.noted.note_senders(broker);
+        }
         self.noted.note(alloc, broker)
     }
 
@@ -210,13 +220,18 @@ impl<'a> Steps<'a> {
         requires scripted { IsEvent scenario.now.setup event.now }
         requires place { place ≡ place_at scenario.now.setup event.now }
         requires noted { length self.old.noted.senders.items ≡ length scenario.now.setup.clusters }
-        ensures told { (b : Machine) → IsNoted (length scenario.now.setup.clusters) b self.old.noted
+        ensures told { (b : Machine) → IsSeen self.old.rests (length scenario.now.setup.clusters) b self.old.noted
+            → MayRest self.old.rests b (node_at world.now.nodes (node_of scenario.now.setup event.now)).broker
             → OnOk result (telling_of self.new.telling ≡ tells_at indent scenario.now.setup world.now.events event.now b (node_at world.now.nodes (node_of scenario.now.setup event.now)).broker (telling_of self.old.telling)) }
         ensures knows { IsTelling scenario.now.setup self.new.telling.names self.new.telling.number self.new.telling.said }
     {
         self.telling.begin(alloc, indent, world.events(), event)?;
         let topic = topic_name(scenario.topics(), place.topic);
         let broker = world.topic(scenario, place.topic, place.cluster);
+        if self.rests {
+            let noted = self.noted.senders.as_slice();
+            return add_sender_changes(&mut self.telling.text, indent, topic, broker, noted);
+        }
         add_broker_changes(&mut self.telling.text, indent, topic, broker, &self.noted)
     }
 }

@@ -2,8 +2,9 @@
 //! it happened.
 //!
 //! The observer of a run looks at the node of an event before it and after it, and tells what a report shows of it and is not the same.
-//! It compares values and never a text, and keeps nothing of other nodes. Each line is appended to those before it. Where memory ends in
-//! the midst, an `Err`, it is left open what was appended.
+//! It compares values and never a text, and keeps nothing of other nodes. Where all that an event writes is of senders, it looks at them
+//! alone: entries and subscriptions show the same then. Each line is appended to those before it. Where memory ends in the midst, an
+//! `Err`, it is left open what was appended.
 #![tactic(auto)]
 
 mod broker_changes;
@@ -12,9 +13,11 @@ mod entries;
 mod events;
 mod heads;
 mod noted;
+mod sender_writes;
 mod senders;
 mod steps;
 mod stops;
+mod sub_names;
 mod telling;
 
 pub use steps::Steps;

@@ -46,6 +46,13 @@ impl NotedBroker {
         }
     }
 
+    /// Notes a broker's senders alone.
+    pub(crate) fn note_senders(&mut self, broker: &Broker) -> Result<(), Memory>
+        ensures { OnOk result (AreSenders (length broker.now.site.clusters) broker.now.broker self.new.senders.items) }
+    {
+        note_senders(&mut self.senders, broker)
+    }
+
     /// Notes a broker as it is.
     pub(crate) fn note(&mut self, alloc: Global, broker: &Broker) -> Result<(), Memory>
         ensures { OnOk result (IsNoted (length broker.now.site.clusters) broker.now.broker self.new) }

@@ -14,13 +14,14 @@ use script_text::{SaidLines, Scenario};
 use std::alloc::Global;
 use world::{Observer, RunFault, World};
 
-/// The lines so far, a plan, in which events of brokers are prepared one after another, and what is noted of the broker at hand: the plan's
-/// queues and the notes keep their memory.
+/// The lines so far, a plan, in which events of brokers are prepared one after another, and what is noted of the broker at hand, its senders
+/// alone where its entries and its subscriptions rest in the event: the plan's queues and the notes keep their memory.
 #[derive(Drop)]
 pub struct Steps<'a> {
     pub(crate) telling: Telling<'a>,
     pub(crate) plan: Plan,
     pub(crate) noted: NotedBroker,
+    pub(crate) rests: bool,
 }
 
 impl<'a> Steps<'a> {
@@ -39,6 +40,7 @@ impl<'a> Steps<'a> {
             },
             plan: Plan::new(alloc),
             noted: NotedBroker::new(alloc),
+            rests: false,
         }
     }
 

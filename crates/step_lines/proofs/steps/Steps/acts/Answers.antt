@@ -1,12 +1,15 @@
-use Rattle.std.proofs.Common.{Bool, true, Ok, Result, ap, subst, sym, ◌∙◌}
+use Rattle.std.proofs.Common.{Bool, true, Ok, Result, ap, length, subst, sym, ◌∙◌}
 use Rattle.std.proofs.lemmas.Result.{err_from_is_err_and}
 use Rattle.std.specs.Prelude.{Err}
 use Rattle.broker_state.specs.Plan.{PlanBook}
 use Rattle.geo_base.specs.declared.memory.Memory.{Memory}
 use Rattle.geo_base.specs.Happening.{happens}
 use Rattle.step_lines.specs.Texts.{telling_of}
+use Rattle.step_lines.proofs.Resting.{may_rest, rests_after, seen_many}
 use Rattle.step_lines.proofs.Told.{acted, from_same, from_text, never_answered, ok_passes_none, rests, wants_no_limit}
 use Rattle.world.specs.Foreseen.{IsHalfDone}
+use Rattle.world.specs.World.{node_at}
+use Rattle.world_kept.specs.Events.{node_of}
 use Rattle.world.proofs.Acting.{acts_from, acts_wants, later_from, later_same, never_idle, same_both, stands_from}
 use Rattle.step_lines.proofs.steps.Steps.acts.Goals as goal
 
@@ -91,7 +94,9 @@ tell_event-requires c =
       broker = c.requires.broker;
       scripted = c.requires.scripted;
       place = c.place_of-place.ensures;
-      noted = c.in_ok-note.ensures.noted.senders.many;
+      noted =
+          seen_many c.note.new.self.rests (length c.args.scenario.now.setup.clusters) (node_at c.prepare.new.self.nodes (node_of c.args.scenario.now.setup c.args.event.now)).broker c.note.new.self.noted
+          c.in_ok-note.ensures.noted;
     }
 
 pub returns-in_err-tell_event : goal.returns-in_err-tell_event
@@ -115,9 +120,15 @@ returns c =
     record {
       told = λ w reached stands.
           let there = stands_from s old mid w same stands in
-          acted c.args.indent s w mid new c.args.event.now c.prepare.new.plan c.note.new.self.noted (telling_of c.args.self.now.telling) (telling_of c.tell_event.new.self.telling)
+          let e = c.args.event.now in let b = (node_at mid.nodes (node_of s e)).broker in let a = (node_at new.nodes (node_of s e)).broker in let r = c.note.new.self.rests in
+          let rested = may_rest r b a
+          (λ is.
+          let known = c.note.ensures.rests is in
+          rests_after s w mid new e c.prepare.new.plan c.requires.broker c.requires.scripted c.prepare.ensures.at c.finish.ensures.at there (c.in_ok-finish.ensures.acts w reached there).0
+          (half.foreseen w reached there) half.busy (sym c.writes_senders_alone-may_rest.ensures ∙ known.0) known.1) in
+          acted c.args.indent s w mid new e c.prepare.new.plan (telling_of c.args.self.now.telling) (telling_of c.tell_event.new.self.telling)
           c.requires.broker c.requires.scripted c.prepare.ensures.at c.finish.ensures.at there (c.in_ok-finish.ensures.acts w reached there).0 (half.foreseen w reached there) half.busy
-          c.in_ok-note.ensures.noted (from_text c.args.indent s new c.args.event.now c.note.new.self.noted c.args.self.now.telling c.note.new.self.telling _ c.note.ensures.telling c.in_ok-tell_event.ensures.told);
+          (from_text c.args.indent s new e b c.args.self.now.telling c.note.new.self.telling _ c.note.ensures.telling (c.in_ok-tell_event.ensures.told b c.in_ok-note.ensures.noted rested));
       acts = λ w reached stands. acts_from s old mid new (happens s w c.args.event.now) (Ok true) same (c.in_ok-finish.ensures.acts w reached (stands_from s old mid w same stands));
       at = c.finish.ensures.at;
       later = later_from old mid new same c.finish.ensures.later;

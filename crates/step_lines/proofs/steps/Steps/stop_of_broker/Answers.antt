@@ -1,8 +1,12 @@
-use Rattle.std.proofs.Common.{Ok}
+use Rattle.std.proofs.Common.{Ok, length}
+use Rattle.std.proofs.lemmas.Bool.{false≢true}
 use Rattle.std.proofs.lemmas.Result.{err_from_is_err_and}
 use Rattle.step_lines.specs.declared.heads.Indent.TheVariants as indent
 use Rattle.step_lines.specs.Texts.{telling_of}
+use Rattle.step_lines.proofs.Resting.{may_rest, seen_many}
 use Rattle.step_lines.proofs.Told.{from_same, from_text, halted, wants_no_limit}
+use Rattle.world.specs.World.{node_at}
+use Rattle.world_kept.specs.Events.{node_of}
 use Rattle.world.proofs.Leading.{wants}
 use Rattle.world.proofs.Observing.{past_of}
 use Rattle.step_lines.proofs.steps.Steps.stop_of_broker.Goals as goal
@@ -40,7 +44,9 @@ tell_event-requires c =
       broker = c.requires.broker;
       scripted = c.requires.scripted;
       place = c.place_of-place.ensures;
-      noted = c.in_ok-note.ensures.noted.senders.many;
+      noted =
+          seen_many c.note.new.self.rests (length c.args.scenario.now.setup.clusters) (node_at c.args.world.now.nodes (node_of c.args.scenario.now.setup c.args.event.now)).broker c.note.new.self.noted
+          c.in_ok-note.ensures.noted;
     }
 
 pub returns-in_err-tell_event : goal.returns-in_err-tell_event
@@ -59,9 +65,11 @@ returns c =
     let s = c.args.scenario.now.setup in
     record {
       told = λ w reached stands.
-          halted s w c.args.writes c.args.world.now c.halt.new.self c.args.event.now c.note.new.self.noted (telling_of c.args.self.now.telling) (telling_of c.tell_event.new.self.telling)
-          c.requires.broker c.requires.scripted c.requires.at c.halt.ensures.at stands (c.in_ok-halt.ensures.leads w reached stands).done.0 c.in_ok-note.ensures.noted
-          (from_text indent.Step s c.halt.new.self c.args.event.now c.note.new.self.noted c.args.self.now.telling c.note.new.self.telling _ c.note.ensures.telling c.in_ok-tell_event.ensures.told);
+          let e = c.args.event.now in let b = (node_at c.args.world.now.nodes (node_of s e)).broker in let a = (node_at c.halt.new.self.nodes (node_of s e)).broker in
+          let rested = may_rest c.note.new.self.rests b a (λ is. absurd (false≢true (c.note.ensures.rests is).0)) in
+          halted s w c.args.writes c.args.world.now c.halt.new.self e (telling_of c.args.self.now.telling) (telling_of c.tell_event.new.self.telling)
+          c.requires.broker c.requires.scripted c.requires.at c.halt.ensures.at stands (c.in_ok-halt.ensures.leads w reached stands).done.0
+          (from_text indent.Step s c.halt.new.self e b c.args.self.now.telling c.note.new.self.telling _ c.note.ensures.telling (c.in_ok-tell_event.ensures.told b c.in_ok-note.ensures.noted rested));
       leads = λ w reached stands. c.in_ok-halt.ensures.leads w reached stands;
       at = c.halt.ensures.at;
       knows = c.tell_event.ensures.knows;
