@@ -3,3 +3,4 @@ pub mod Counting
 pub mod Walking
 pub mod SeenNodes
 pub mod Waiting
+pub mod Crowding

@@ -1,4 +1,5 @@
 pub mod Order
 pub mod Drawing
 pub mod Tries
+pub mod Room
 pub mod Turns

@@ -11,6 +11,7 @@ mod draws;
 mod list;
 mod nodes;
 mod role;
+mod room;
 mod seeing;
 mod turning;
 

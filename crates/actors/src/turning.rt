@@ -82,7 +82,7 @@ impl Actor {
     }
 
     /// Whether a client is to connect; `None` exactly where the book is of another node.
-    fn is_connection_due<E: End>(&self, book: &NodeBook<E>, client: u32) -> Option<bool>
+    pub(crate) fn is_connection_due<E: End>(&self, book: &NodeBook<E>, client: u32) -> Option<bool>
         ensures { result ≡ connection_due self.now book.now client }
     {
         if is_client(book, client) {
@@ -94,7 +94,7 @@ impl Actor {
 }
 
 /// For how many of its turns in a row an actor has waited, one turn later. More than the most are told as the most.
-fn waited_after(waited: u32, is_waiting: bool) -> u32
+pub(crate) fn waited_after(waited: u32, is_waiting: bool) -> u32
     ensures { result ≡ (if is_waiting then min (waited + 1) most_waited else 0) }
 {
     if is_waiting {
@@ -166,7 +166,7 @@ fn control<E: End>(
 }
 
 /// A client's turn: a new connection where it is due, what came for it, its next line.
-fn run_client<E: End>(
+pub(crate) fn run_client<E: End>(
     alloc: Global,
     book: &mut NodeBook<E>,
     client: u32,
@@ -225,7 +225,7 @@ fn try_event<E: End>(alloc: Global, book: &mut NodeBook<E>, event: &Event) -> Re
 }
 
 /// Whether an actor whose turn had no event waited in it.
-fn has_waited<E: End>(role: Role, book: &NodeBook<E>) -> bool
+pub(crate) fn has_waited<E: End>(role: Role, book: &NodeBook<E>) -> bool
     ensures { result ≡ has_waited role book.now }
 {
     match role {

@@ -2,15 +2,17 @@
 use Rattle.std.proofs.Common.{◌≡◌, ℕ, zero, suc, ◌+◌, ◌^◌, ◌<◌, ◌≤◌, Bool, true, false, List, [], ◌∷◌, length, refl, sym, ap, subst, ◌∙◌, arith}
 use Rattle.std.specs.Prelude.{if◌then◌else◌, drop, slice_index_or}
 use Rattle.std.specs.List.{AllByRecursion}
+use Rattle.std.proofs.lemmas.Bool.{eq-eqb}
 use Rattle.std.proofs.lemmas.List.{at_drop_more, drop_all}
 use Rattle.geo_base.specs.declared.packet.Peer.{Peer}
+use Rattle.geo_base.specs.declared.packet.Peer.TheVariants as peer
 use Rattle.book_parts.specs.declared.sending.Addressed.{Addressed}
 use Rattle.book_parts.specs.declared.table.EndRow.{EndRow}
 use Rattle.book_parts.specs.Peers.{same_peer}
 use Rattle.wire_ends.specs.declared.packet.WirePacket.{WirePacket}
 use Rattle.wire_ends.specs.Looks.{Looked}
 use Rattle.book_parts.specs.Rows.{LooksRise, SamePeers, SameSends, free_to, has_peer, looks_to}
-use Rattle.book_parts.specs.Sending.{ArePeers, HasRoom, HasRoomFor, LacksRoom, places_to}
+use Rattle.book_parts.specs.Sending.{ArePeers, HasRoom, HasRoomFor, LacksRoom, behind_run, places_to}
 use Rattle.book_parts.proofs.Tables.{same_is}
 
 next_at : (q : Peer) (as' : List Addressed) (i : ℕ) (d : Addressed) → i < length as'
@@ -80,11 +82,52 @@ still_peers rs rs' (a ∷ as') h same = (same a.to ∙ h.0, still_peers rs rs' a
 pub room_none : {E : Type 0} (free : E → ℕ) (rs : List (EndRow E)) (as' : List Addressed) (i : ℕ) → length as' ≤ i → HasRoomFor free rs as' (drop i as')
 room_none free rs as' i h = subst (HasRoomFor free rs as') (sym (drop_all i as' h)) tt
 
-pub room_more : {E : Type 0} (sent : E → List WirePacket) (free : E → ℕ) (rs rs' : List (EndRow E)) (as' : List Addressed) (i : ℕ) (d : Addressed) → i < length as'
-    → places_to (slice_index_or as' i d).to as' ≤ free_to free rs (slice_index_or as' i d).to → SameSends sent free rs rs' → HasRoomFor free rs' as' (drop (i + 1) as') → HasRoomFor free rs' as' (drop i as')
-room_more sent free rs rs' as' i d lt here same rest =
-    let more = same.free (slice_index_or as' i d).to in
-    subst (HasRoomFor free rs' as') (sym (next_is as' i d lt)) (omega (arith, here, more), rest)
+-- those of a run have room where the first has
+room_of_run : {E : Type 0} (free : E → ℕ) (rs : List (EndRow E)) (all as' : List Addressed) (q : Peer) → places_to q all ≤ free_to free rs q → HasRoomFor free rs all (behind_run q as')
+    → HasRoomFor free rs all as'
+room_of_run free rs all [] q here = λ rest. tt
+room_of_run free rs all (a ∷ as') q here = by (same_peer a.to q) refl (room_of_run free rs all as' q here)
+  where
+    by : (t : Bool) → same_peer a.to q ≡ t → (HasRoomFor free rs all (behind_run q as') → HasRoomFor free rs all as')
+        → HasRoomFor free rs all (if t then behind_run q as' else a ∷ as') → HasRoomFor free rs all (a ∷ as')
+    by true e more rest = (subst (λ (p : Peer). places_to p all ≤ free_to free rs p) (sym (same_is a.to q e)) here, more rest)
+    by false e more rest = rest
+
+pub room_more : {E : Type 0} (sent : E → List WirePacket) (free : E → ℕ) (rs rs' : List (EndRow E)) (as' : List Addressed) (i end : ℕ) (d : Addressed)
+    → places_to (slice_index_or as' i d).to as' ≤ free_to free rs (slice_index_or as' i d).to → SameSends sent free rs rs'
+    → drop end as' ≡ behind_run (slice_index_or as' i d).to (drop i as') → HasRoomFor free rs' as' (drop end as') → HasRoomFor free rs' as' (drop i as')
+room_more sent free rs rs' as' i end d here same run rest =
+    let q = (slice_index_or as' i d).to in let more = same.free q in
+    room_of_run free rs' as' (drop i as') q (omega (arith, here, more)) (subst (HasRoomFor free rs' as') run rest)
+
+-- ---- where a run ends
+same_own : (q : Peer) → same_peer q q ≡ true
+same_own (peer.Forward x) = eq-eqb x x refl
+same_own (peer.Back x) = eq-eqb x x refl
+same_own (peer.Client x) = eq-eqb x x refl
+same_own (peer.Broker x) = eq-eqb x x refl
+
+behind_next : (q : Peer) (as' : List Addressed) (i : ℕ) (d : Addressed) → i < length as'
+    → behind_run q (drop i as') ≡ (if same_peer (slice_index_or as' i d).to q then behind_run q (drop (i + 1) as') else drop i as')
+behind_next q as' i d lt =
+    let is = next_is as' i d lt in
+    ap (behind_run q) is ∙ ap (λ (l : List Addressed). if same_peer (slice_index_or as' i d).to q then behind_run q (drop (i + 1) as') else l) (sym is)
+
+pub run_on : (q : Peer) (as' ps : List Addressed) (i : ℕ) (d : Addressed) → i < length as' → same_peer (slice_index_or as' i d).to q ≡ true
+    → behind_run q (drop i as') ≡ behind_run q ps → behind_run q (drop (i + 1) as') ≡ behind_run q ps
+run_on q as' ps i d lt own h =
+    sym (behind_next q as' i d lt ∙ ap (λ (t : Bool). if t then behind_run q (drop (i + 1) as') else drop i as') own) ∙ h
+
+pub run_begun : (as' : List Addressed) (i : ℕ) (d : Addressed) → i < length as' → behind_run (slice_index_or as' i d).to (drop (i + 1) as') ≡ behind_run (slice_index_or as' i d).to (drop i as')
+run_begun as' i d lt = let q = (slice_index_or as' i d).to in run_on q as' (drop i as') i d lt (same_own q) refl
+
+pub run_over : (q : Peer) (as' ps : List Addressed) (i : ℕ) (d : Addressed) → i < length as' → same_peer (slice_index_or as' i d).to q ≡ false
+    → behind_run q (drop i as') ≡ behind_run q ps → drop i as' ≡ behind_run q ps
+run_over q as' ps i d lt other h =
+    sym (behind_next q as' i d lt ∙ ap (λ (t : Bool). if t then behind_run q (drop (i + 1) as') else drop i as') other) ∙ h
+
+pub run_past : (q : Peer) (as' ps : List Addressed) (i : ℕ) → length as' ≤ i → behind_run q (drop i as') ≡ behind_run q ps → drop i as' ≡ behind_run q ps
+run_past q as' ps i le h = let none = drop_all i as' le in none ∙ (sym (ap (behind_run q) none) ∙ h)
 
 -- where an end has too few
 pub lacks_here : {E : Type 0} (free looks : E → ℕ) (old new : List (EndRow E)) (as' : List Addressed) (q : Peer) → free_to free new q < places_to q as' → Looked (looks_to looks old q) (looks_to looks new q)

@@ -19,6 +19,11 @@ abbrev pub places_to : Peer → List Addressed → ℕ
 places_to q [] = 0
 places_to q (a ∷ as') = if same_peer a.to q then a.parcel.places + places_to q as' else places_to q as'
 
+-- what is left behind those in front that go to a peer
+abbrev pub behind_run : Peer → List Addressed → List Addressed
+behind_run q [] = []
+behind_run q (a ∷ as') = if same_peer a.to q then behind_run q as' else a ∷ as'
+
 -- each goes to a peer of the table, and is cut as its end wants it
 abbrev pub AreAddressed : {E : Type 0} → (Packed → Type 0) → List (EndRow E) → List Addressed → Type 0
 AreAddressed fits rs as' = AllByRecursion (λ (a : Addressed). (has_peer rs a.to ≡ true) × fits a.parcel) as'

@@ -1,9 +1,10 @@
 //! What a node sends in an event: all of it, or nothing.
-ghost use Rattle.std.specs.Prelude.{◌≡◌, ◌<◌, ◌≤◌, ◌^◌, true, drop, IfSome, IfNone, IsTrue, IsFalse};
+ghost use Rattle.std.specs.Prelude.{◌≡◌, ◌<◌, ◌≤◌, ◌^◌, true, drop, length, slice_index_or, IfSome, IfNone, IsTrue, IsFalse};
 ghost use Rattle.std.specs.Vec.Iter.{into_iter_items};
 ghost use Rattle.wire_ends.specs.Looks.{Looked};
 ghost use Rattle.book_parts.specs.Rows.{LooksRise, SamePeers, SameSends, SameTaken, SameTakes, free_to, has_peer, looks_to};
-ghost use Rattle.book_parts.specs.Sending.{AreAddressed, ArePeers, HasRoom, HasRoomFor, LacksRoom, SentAll, places_to};
+ghost use Rattle.book_parts.specs.Sending.{AreAddressed, ArePeers, HasRoom, HasRoomFor, LacksRoom, SentAll, behind_run, places_to};
+ghost use Rattle.book_parts.specs.declared.sending.Addressed.{Addressed as AddressedParcel};
 
 use crate::peer::same_peer;
 use crate::table::EndTable;
@@ -37,6 +38,21 @@ fn places_to(parcels: &[Addressed], to: Peer) -> Option<usize>
     Some(places)
 }
 
+/// Where the parcels end that go to the peer of the one at a place and stand side by side from there on.
+#[tactic(auto, using(crate::proofs::Sends::run_begun, crate::proofs::Sends::run_on, crate::proofs::Sends::run_past, crate::proofs::Sends::run_over))]
+fn run_end(parcels: &[Addressed], at: usize) -> usize
+    requires { at < length parcels.now }
+    ensures later { at < result }
+    ensures run { (d : AddressedParcel) → drop result parcels.now ≡ behind_run (slice_index_or parcels.now at d).to (drop at parcels.now) }
+{
+    let to = parcels[at].to;
+    let mut end = at + 1;
+    while end < parcels.len() && same_peer(parcels[end].to, to) {
+        end += 1;
+    }
+    end
+}
+
 impl<E: End> EndTable<E> {
     /// Looks whether each end has places for all that goes to its peer.
     #[tactic(auto, using(crate::proofs::Sends::room_of))]
@@ -51,7 +67,7 @@ impl<E: End> EndTable<E> {
         self.has_room_from(parcels, 0)
     }
 
-    /// The same of the parcels from one on.
+    /// The same of the parcels from one on. Those to one peer that stand side by side are summed once, as all are that an event sends.
     #[tactic(auto, using(crate::proofs::Sends::peer_at, crate::proofs::Sends::still_peers, crate::proofs::Sends::room_none, crate::proofs::Sends::room_more, crate::proofs::Sends::lacks_here, crate::proofs::Sends::lacks_later))]
     fn has_room_from(&mut self, parcels: &[Addressed], at: usize) -> bool
         requires { ArePeers self.old.rows.items parcels.now }
@@ -68,7 +84,7 @@ impl<E: End> EndTable<E> {
         if !self.has_places(parcels[at].to, parcels) {
             return false;
         }
-        self.has_room_from(parcels, at + 1)
+        self.has_room_from(parcels, run_end(parcels, at))
     }
 
     /// Looks whether the end of a peer has places for all that goes to it.

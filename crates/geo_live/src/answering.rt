@@ -11,7 +11,7 @@ use geo_base::limits::INPUT_BYTES;
 use geo_base::{Blob, Memory};
 use geo_io::{Gate, ReadFault, Source, read_all};
 use geo_top::{Answer, Status, refusal};
-use live_output::live_output;
+use live_output::all_events_output;
 use live_run::live;
 use node_book::BookList;
 use script_text::{Scenario, ScriptFault, read_script};
@@ -107,7 +107,7 @@ fn output_of<R: Threads + Wait + Sync, G: Gate + Sync>(
     ensures { IfOk result (TellsRun (arc_value scenario.now)) }
 {
     let books = live(rt, alloc, scenario, asked.workers, asked.turns, gate)?;
-    let output = live_output(alloc, scenario, &books);
+    let output = all_events_output(alloc, scenario, &books);
     BookList::let_go(books);
     output
 }

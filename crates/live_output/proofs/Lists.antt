@@ -2,17 +2,22 @@
 use Rattle.std.proofs.Common.{◌≡◌, ℕ, zero, suc, List, [], ◌∷◌, length, sym, ap, subst, ◌∙◌}
 use Rattle.std.proofs.lemmas.List.{length-map}
 use Rattle.std.proofs.lemmas.Option.{none-some, same_Some}
-use Rattle.std.specs.Prelude.{Result, IfOk}
+use Rattle.std.specs.Prelude.{All, Err, IfOk, Ok, Result}
 use Rattle.std.specs.List.{AllByRecursion}
+use Rattle.geo_base.specs.declared.event.Step.{Step}
 use Rattle.geo_base.specs.declared.memory.Memory.{Memory}
 use Rattle.geo_base.specs.NodeState.{NodeState}
+use Rattle.geo_base.specs.Setup.{Setup}
 use Rattle.frame_laws.specs.Books.{IsBookOf}
 use Rattle.script_text.specs.Script.{Script}
 use Rattle.merge_history.specs.declared.merge.Merged.{Merged}
-use Rattle.merge_history.specs.Books.{AreBooks, BookView}
+use Rattle.merge_history.specs.Books.{AreBooks, AreOwn, BookView}
+use Rattle.merge_history.specs.Events.{AreMergedEvents, AreOwnEvents, MaySchedule}
 use Rattle.merge_history.specs.Merges.{IsMerged}
 use Rattle.node_book.specs.Books.{BookValue, IsReplayed}
 use Rattle.live_output.specs.Lists.{IsMergeOf, state_in, view_of, views_of}
+use Rattle.live_output.specs.Playing.{IsEventStep}
+use Rattle.live_output.proofs.Events.{all_steps}
 
 clock_in : {E : Type 0} → List (BookValue E) → ℕ → ℕ
 clock_in [] n = 0
@@ -34,3 +39,19 @@ merge_of_list c bs vs r is replayed merged =
 
 pub many_views : {E : Type 0} (bs : List (BookValue E)) (vs : List BookView) (n : ℕ) → vs ≡ views_of bs → length bs ≡ n → length vs ≡ n
 many_views bs vs n is many = ap (λ (us : List BookView). length us) is ∙ (length-map bs view_of ∙ many)
+
+-- the events of a list of books none of which is strange
+pub own_of_list : {E : Type 0} (c : Script) (bs : List (BookValue E)) (vs : List BookView) (r : Result (List Step) Memory) → vs ≡ views_of bs → AllByRecursion IsReplayed bs
+    → ((st : ℕ → NodeState) (clock : ℕ → ℕ) → AreBooks vs st clock → AreOwn c vs → IfOk r (AreOwnEvents c vs)) → AreOwn c (views_of bs) → IfOk r (AreOwnEvents c (views_of bs))
+own_of_list c bs vs r is replayed merged own =
+    subst (λ (us : List BookView). IfOk r (AreOwnEvents c us)) is
+    (merged (state_in bs) (clock_in bs) (subst (λ (us : List BookView). AreBooks us (state_in bs) (clock_in bs)) (sym is) (are_books bs replayed))
+    (subst (AreOwn c) (sym is) own))
+
+pub all_of_list : {E : Type 0} (s : Setup) (bs : List (BookValue E)) (vs : List BookView) (r : Result (List Step) Memory) → vs ≡ views_of bs
+    → IfOk r (AreMergedEvents s vs) → IfOk r (AreMergedEvents s (views_of bs))
+all_of_list s bs vs r is merged = subst (λ (us : List BookView). IfOk r (AreMergedEvents s us)) is merged
+
+pub steps_of_list : (s : Setup) (r : Result (List Step) Memory) → IfOk r (λ es. All (MaySchedule s) es) → IfOk r (λ es. All (IsEventStep s) es)
+steps_of_list s (Ok es) h = all_steps s es h
+steps_of_list s (Err m) h = tt

@@ -11,36 +11,58 @@ use Rattle.script_text.specs.Schedule.{schedule_of, schedule_text}
 use Rattle.script_text.specs.Script.{Script}
 use Rattle.merge_history.specs.declared.merge.Merged.{Merged}
 use Rattle.merge_history.specs.Books.{BookView}
+use Rattle.merge_history.specs.Ends.{layout_of}
+use Rattle.merge_history.specs.Events.{AreMergedEvents, AreOwnEvents}
 use Rattle.merge_history.specs.Merges.{IsMerged}
+use Rattle.merge_history.proofs.Allowed.{merged_may}
 use Rattle.world.specs.World.{WorldBook}
 use Rattle.geo_top.specs.Outputs.{passed_limit, report_of}
 use Rattle.geo_top.specs.Shown.{shown_world}
 use Rattle.geo_top.proofs.Claims.{holds_of}
 use Rattle.geo_top.proofs.Shown.{shown_report}
-use Rattle.live_output.specs.LiveRuns.{IsOutputOf, TellsRun, live_text}
+use Rattle.live_output.specs.LiveRuns.{IsOutputOf, IsOutputOfAll, TellsRun, live_text}
 use Rattle.live_output.specs.Playing.{IsEventStep, IsPlayed, with_steps}
 use Rattle.live_output.specs.Schedules.{EndsSettled, longest, scheduled, with_settling}
-use Rattle.live_output.proofs.Events.{merged_events}
+use Rattle.live_output.proofs.Events.{all_steps}
 use Rattle.live_output.proofs.Longest.{settled_law}
-
--- the steps of a merge are events that a script may schedule
-pub steps_known : (c : Script) (bs : List BookView) (st : ℕ → NodeState) (m : Merged) → IsMerged c bs st m → All (IsEventStep c.setup) m.steps
-steps_known c bs st m merged =
-    subst (All (IsEventStep c.setup)) (sym merged.steps) (merged_events c.setup _ merged.kept merged.said merged.stands)
 
 -- what was done is what is scheduled
 played_is : (c : Script) (es replayed played : List Step) → replayed ≡ longest c.setup [] es → played ≡ with_settling c.setup replayed → played ≡ scheduled c.setup es
 played_is c es replayed played is settled = settled ∙ ap (with_settling c.setup) is
 
-pub output_is : (c : Script) (bs : List BookView) (st : ℕ → NodeState) (m : Merged) (output : List ℕ) → IsMerged c bs st m → output ≡ live_text c (scheduled c.setup m.steps)
+output_of_all : (c : Script) (bs : List BookView) (es : List Step) (output : List ℕ) → AreMergedEvents c.setup bs es → output ≡ live_text c (scheduled c.setup es)
+    → IsOutputOfAll c bs output
+output_of_all c bs es output merged text = record { events = es; merged = merged; text = text }
+
+counted_output : (c : Script) (bs : List BookView) (es : List Step) (output : List ℕ) → AreOwnEvents c bs es → output ≡ live_text c (scheduled c.setup es)
     → IsOutputOf c bs output
-output_is c bs st m output merged text = record {
+counted_output c bs es output merged text = record {
   kept = merged.kept;
   counts = merged.counts;
   said = merged.said;
   stands = merged.stands;
   text = text ∙ ap (λ (es : List Step). live_text c (scheduled c.setup es)) merged.steps;
 }
+
+-- of a merge
+pub steps_known : (c : Script) (bs : List BookView) (st : ℕ → NodeState) (m : Merged) → IsMerged c bs st m → All (IsEventStep c.setup) m.steps
+steps_known c bs st m merged =
+    subst (All (IsEventStep c.setup)) (sym merged.steps) (all_steps c.setup _ (merged_may c.setup (layout_of c.setup) merged.kept merged.said merged.stands))
+
+pub output_is : (c : Script) (bs : List BookView) (st : ℕ → NodeState) (m : Merged) (output : List ℕ) → IsMerged c bs st m → output ≡ live_text c (scheduled c.setup m.steps)
+    → IsOutputOf c bs output
+output_is c bs st m output merged text =
+    counted_output c bs m.steps output (record { kept = merged.kept; counts = merged.counts; said = merged.said; stands = merged.stands; steps = merged.steps }) text
+
+pub of_all_if : (c : Script) (bs : List BookView) (es : List Step) (r : Result (List ℕ) Memory) → AreMergedEvents c.setup bs es → IfOk r (λ output. output ≡ live_text c (scheduled c.setup es))
+    → IfOk r (IsOutputOfAll c bs)
+of_all_if c bs es (Ok output) merged text = output_of_all c bs es output merged text
+of_all_if c bs es (Err m) merged text = tt
+
+pub of_books_if : (c : Script) (bs : List BookView) (es : List Step) (r : Result (List ℕ) Memory) → AreOwnEvents c bs es → IfOk r (λ output. output ≡ live_text c (scheduled c.setup es))
+    → IfOk r (IsOutputOf c bs)
+of_books_if c bs es (Ok output) merged text = counted_output c bs es output merged text
+of_books_if c bs es (Err m) merged text = tt
 
 pub text_of : (c : Script) (es replayed played : List Step) (output : List ℕ) → replayed ≡ longest c.setup [] es → played ≡ with_settling c.setup replayed
     → output ≡ live_text c played → output ≡ live_text c (scheduled c.setup es)

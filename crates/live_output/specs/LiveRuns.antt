@@ -10,6 +10,7 @@ use Rattle.script_text.specs.Script.{Script}
 use Rattle.merge_history.specs.Ends.{AreStood, layout_of}
 use Rattle.merge_history.specs.Kept.{Kept}
 use Rattle.merge_history.specs.Books.{AreKept, BookView}
+use Rattle.merge_history.specs.Events.{AreMergedEvents}
 use Rattle.geo_top.specs.Claims.{HoldsOf}
 use Rattle.geo_top.specs.Outputs.{passed_limit, report_of}
 use Rattle.live_output.specs.Playing.{with_steps}
@@ -38,6 +39,13 @@ pub record IsOutputOf (c : Script) (bs : List BookView) (output : List ℕ) : Ty
   pub said : List (List RecordedEvent)
   pub stands : AreStood c.setup (layout_of c.setup) kept said
   pub text : output ≡ live_text c (scheduled c.setup (steps_of (merge_of said)))
+
+-- Of all books, whatever configuration each keeps: what is written are report and schedule of as much of their events, as far as the
+-- script may schedule them, as the limits allow, with settling behind it where that fits.
+pub record IsOutputOfAll (c : Script) (bs : List BookView) (output : List ℕ) : Type 0 where
+  pub events : List Step
+  pub merged : AreMergedEvents c.setup bs events
+  pub text : output ≡ live_text c (scheduled c.setup events)
 
 -- what is written is report and schedule of some run
 pub record TellsRun (n : Script) (output : List ℕ) : Type 0 where

@@ -1,8 +1,9 @@
 //! What the program writes of a run whose nodes each kept a book.
 //!
 //! [`merge`] makes one schedule of the events of all books, and [`live_output`] the report and the schedule of its run: as many of its
-//! steps as the limits of a run allow, with settling behind them where that fits. Where the books come from is open: nothing here
-//! knows of a thread.
+//! steps as the limits of a run allow, with settling behind them where that fits. [`all_events_output`] gives the same of books none of
+//! which is strange, and compares nothing: it is what the program prints. Where the books come from is open: nothing here knows of a
+//! thread.
 #![tactic(auto)]
 
 mod law;
@@ -12,4 +13,4 @@ mod played;
 
 pub use law::law_schedules;
 pub use merging::merge;
-pub use output::live_output;
+pub use output::{all_events_output, live_output};

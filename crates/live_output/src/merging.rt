@@ -1,13 +1,16 @@
 //! The merge of a list of books.
-ghost use Rattle.std.specs.Prelude.{◌≡◌, IfOk, length};
+ghost use Rattle.std.specs.Prelude.{◌≡◌, All, IfOk, length};
 ghost use Rattle.std.specs.Arc.{arc_value};
 ghost use Rattle.geo_base.specs.Nodes.{node_count};
 ghost use Rattle.live_output.specs.Lists.{IsMergeOf, views_of};
+ghost use Rattle.live_output.specs.Playing.{IsEventStep};
+ghost use Rattle.merge_history.specs.Books.{AreOwn};
+ghost use Rattle.merge_history.specs.Events.{AreMergedEvents, AreOwnEvents};
 
 use geo_base::Memory;
-use merge_history::{Book, Merged, merge_books};
+use merge_history::{Book, Merged, merge_books, merge_events};
 use node_book::{BookList, NodeBook};
-use script_text::Scenario;
+use script_text::{Scenario, StepList};
 use std::alloc::Global;
 use std::sync::Arc;
 use wire_ends::End;
@@ -26,6 +29,21 @@ pub fn merge<E: End>(
 {
     let views = views_of(alloc, books.as_slice())?;
     merge_books(alloc, scenario, views.as_slice())
+}
+
+/// The events of all books that the script may schedule, ordered by stamp and node; nothing is compared. An `Err` is want of memory.
+pub(crate) fn events_of<E: End>(
+    alloc: Global,
+    scenario: &Arc<Scenario>,
+    books: &BookList<E>,
+) -> Result<StepList, Memory>
+    requires { length books.now ≡ node_count (arc_value scenario.now).setup }
+    ensures all { IfOk result (AreMergedEvents (arc_value scenario.now).setup (views_of books.now)) }
+    ensures own { AreOwn (arc_value scenario.now) (views_of books.now) → IfOk result (AreOwnEvents (arc_value scenario.now) (views_of books.now)) }
+    ensures events { IfOk result (λ es. All (IsEventStep (arc_value scenario.now).setup) es) }
+{
+    let views = views_of(alloc, books.as_slice())?;
+    merge_events(alloc, scenario, views.as_slice())
 }
 
 /// Books as the merge sees them.

@@ -5,11 +5,12 @@ ghost use Rattle.geo_base.specs.Nodes.{node_count};
 ghost use Rattle.script_text.specs.Naming.{names_of};
 ghost use Rattle.script_text.specs.Schedule.{schedule_of, schedule_text};
 ghost use Rattle.live_output.specs.Lists.{views_of};
-ghost use Rattle.live_output.specs.LiveRuns.{IsOutputOf, TellsRun, live_text};
+ghost use Rattle.live_output.specs.LiveRuns.{IsOutputOf, IsOutputOfAll, TellsRun, live_text};
 ghost use Rattle.live_output.specs.Playing.{IsEventStep, IsPlayed};
 ghost use Rattle.live_output.specs.Schedules.{scheduled};
+ghost use Rattle.merge_history.specs.Books.{AreOwn};
 
-use crate::merging::merge;
+use crate::merging::{events_of, merge};
 use crate::played::{Played, replay, settle_where_it_fits};
 use geo_base::{Blob, Memory};
 use geo_top::report;
@@ -36,6 +37,23 @@ pub fn live_output<E: End>(
     let output = output_of(alloc, scenario, &merged.steps);
     merged.let_go();
     output
+}
+
+/// The same of the events of all books, whichever configuration each keeps, as far as the script may schedule them: nothing is
+/// compared, so this is linear in nodes and events. Where no book is strange it is what [`live_output`] gives. An `Err` is want of
+/// memory.
+pub fn all_events_output<E: End>(
+    alloc: Global,
+    scenario: &Arc<Scenario>,
+    books: &BookList<E>,
+) -> Result<Blob, Memory>
+    requires { length books.now ≡ node_count (arc_value scenario.now).setup }
+    ensures of_all { IfOk result (IsOutputOfAll (arc_value scenario.now) (views_of books.now)) }
+    ensures of_books { AreOwn (arc_value scenario.now) (views_of books.now) → IfOk result (IsOutputOf (arc_value scenario.now) (views_of books.now)) }
+    ensures tells { IfOk result (TellsRun (arc_value scenario.now)) }
+{
+    let steps = events_of(alloc, scenario, books)?;
+    output_of(alloc, scenario, &steps)
 }
 
 /// The report and the schedule of as many of some events as the limits of a run allow, and of settling behind them where that fits.

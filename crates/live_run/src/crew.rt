@@ -10,6 +10,9 @@ use std::alloc::Global;
 use std::sync::Wait;
 use std::thread::yield_now;
 
+/// How many places a packet takes in a ring at least: that of its head, and that of a part of its frame.
+const PACKET_PLACES: usize = 2;
+
 /// An actor, and the nodes at whose books it takes its turns: so many from one on.
 #[derive(Drop)]
 struct Member {
@@ -41,7 +44,7 @@ impl Member {
     }
 
     /// A turn: the books of its nodes are taken in order, one at a time, until the actor does an event. Whether it did one; an `Err` is
-    /// want of memory.
+    /// want of memory. A client connects only once there is room for what it sends then, as no event is done before.
     fn turn<R: Wait>(
         &mut self,
         rt: &R,
@@ -50,7 +53,11 @@ impl Member {
     ) -> Result<bool, Memory> {
         for locked in books.iter().skip(self.first).take(self.nodes) {
             let mut book = locked.lock(rt);
-            let done = self.actor.turn(alloc, &mut book);
+            let done = if self.actor.waits_for_room(&mut book, PACKET_PLACES) {
+                self.actor.turn_unconnected(alloc, &mut book)
+            } else {
+                self.actor.turn(alloc, &mut book)
+            };
             drop(book);
             if done? {
                 return Ok(true);

@@ -6,7 +6,7 @@ ghost use Rattle.geo_base.specs.Nodes.{node_count};
 use actors::{client_count, cluster_count, node_count, topic_count};
 use geo_base::{Blob, Event, Memory};
 use link_rings::RingEnd;
-use live_output::live_output;
+use live_output::{all_events_output, live_output};
 use live_run::NodeRings;
 use node_book::{BookList, NodeBook};
 use script_text::{Scenario, read_script};
@@ -17,6 +17,10 @@ use std::test::Fail;
 /// Two clusters, and a producer of a message.
 const SCRIPT: &[u8] =
     b"geo 1\ncluster a\ncluster b\ntopic t\nclient p t a\ndo p produce\ndo p pub 0 * - hi\n";
+
+/// The same with another message.
+const OTHER: &[u8] =
+    b"geo 1\ncluster a\ncluster b\ntopic t\nclient p t a\ndo p produce\ndo p pub 0 * - ho\n";
 
 /// The producer connects; the rest is what settling does.
 const OUTPUT: &[u8] =
@@ -113,6 +117,22 @@ fn written(
     live_output(alloc, scenario, books)
 }
 
+/// What is written of three books that keep a configuration, of which none is asked.
+fn all_written(
+    alloc: Global,
+    kept: &Arc<Scenario>,
+    scenario: &Arc<Scenario>,
+) -> Result<Blob, Memory> {
+    let books = three_books(alloc, kept)?;
+    let output = if books.as_slice().len() == node_count(scenario) as usize {
+        all_events_output(alloc, scenario, &books)
+    } else {
+        Err(Memory)
+    };
+    books.let_go();
+    output
+}
+
 /// What is written of the three books.
 fn written_of_three(alloc: Global, scenario: &Arc<Scenario>) -> Result<Blob, Memory> {
     let books = three_books(alloc, scenario)?;
@@ -128,5 +148,19 @@ fn one_event_is_settled(rt: HostRuntime) -> Result<(), Fail> {
     let output = written_of_three(alloc, &scenario);
     drop(scenario);
     assert!(rt; output?.as_slice() == OUTPUT);
+    Ok(())
+}
+
+#[test]
+fn no_configuration_is_asked(rt: HostRuntime) -> Result<(), Fail> {
+    let alloc = rt.alloc();
+    let scenario = Arc::new(alloc, read_script(alloc, SCRIPT)?)?;
+    let other = Arc::new(alloc, read_script(alloc, OTHER)?)?;
+    let own = all_written(alloc, &scenario, &scenario);
+    let strange = all_written(alloc, &other, &scenario);
+    drop(other);
+    drop(scenario);
+    assert!(rt; own?.as_slice() == OUTPUT);
+    assert!(rt; strange?.as_slice() == OUTPUT);
     Ok(())
 }

@@ -16,3 +16,4 @@ pub mod Judging
 pub mod Rising
 pub mod Said
 pub mod Fits
+pub mod Allowed

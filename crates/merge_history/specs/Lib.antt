@@ -8,3 +8,4 @@ pub mod Ends
 pub mod Turns
 pub mod Books
 pub mod Merges
+pub mod Events

@@ -1,6 +1,6 @@
 -- What holds of a book before any event, and of one over other ends.
 use Rattle.std.proofs.Common.{◌≡◌, ℕ, ◌+◌, ◌-◌, ◌<◌, Bool, true, false, List, [], length, refl, sym, ap, subst, ◌∙◌, arith, nat_lt}
-use Rattle.std.specs.Prelude.{None}
+use Rattle.std.specs.Prelude.{Option, None}
 use Rattle.std.proofs.lemmas.Bool.{lt-ltb, ltb-true}
 use Rattle.std.proofs.lemmas.List.{length-replicate}
 use Rattle.book_parts.specs.declared.table.EndRow.{EndRow}
@@ -14,10 +14,11 @@ use Rattle.geo_base.specs.Nodes.{BrokerNode, ClientNode, broker_count, is_node, 
 use Rattle.geo_base.specs.Scripted.{IsScripted}
 use Rattle.geo_base.specs.Setup.{Setup, declared_at}
 use Rattle.geo_base.specs.World.{node}
-use Rattle.book_parts.specs.Rows.{SamePeers}
+use Rattle.book_parts.specs.Rows.{SamePeers, SameSends, SameTakes}
 use Rattle.node_book.specs.declared.state.NodeState.{NodeState as Kept}
 use Rattle.node_book.specs.declared.state.NodeState.TheVariants as kept
-use Rattle.node_book.specs.Books.{BookHolds, HasPeers}
+use Rattle.node_book.specs.Acts.{SameBook}
+use Rattle.node_book.specs.Books.{BookHolds, HasPeers, book_at}
 use Rattle.script_text.specs.Script.{Script}
 use Rattle.wire_ends.specs.declared.packet.WirePacket.{WirePacket}
 use Rattle.world_laws.specs.ByteHistories.{ByteEvent}
@@ -88,6 +89,12 @@ client_holds s c k h clock rs scripted lt new peers none begins = record {
 -- over other ends of the same peers
 pub holds_still : {E : Type 0} (s : Setup) (st : Kept) (h : List (ByteEvent WirePacket)) (clock : ℕ) (rs rs' : List (EndRow E)) → BookHolds s st h clock rs → SamePeers rs rs' → BookHolds s st h clock rs'
 holds_still s st h clock rs rs' is same = record { scripted = is.scripted; there = is.there; state = is.state; replays = is.replays; peers = λ q. same q ∙ is.peers q }
+
+-- a look at the ends leaves all else
+pub same_looked : {E : Type 0} (sent_in taken_in : E → List WirePacket) (shown : E → Option WirePacket) (free : E → ℕ) (sc : Script) (st : Kept) (h : List (ByteEvent WirePacket)) (clock : ℕ) (rs rs' : List (EndRow E))
+    → SameSends sent_in free rs rs' → SameTakes taken_in shown rs rs' → SameBook sent_in taken_in (book_at sc st h clock rs) (book_at sc st h clock rs')
+same_looked sent_in taken_in shown free sc st h clock rs rs' sends takes =
+    record { scenario = refl; node = refl; state = refl; history = refl; clock = refl; sent = sends.sent; taken = takes.taken }
 
 -- as it is known by a borrow of the configuration
 pub broker_begins : {E : Type 0} (a b : Script) (t x : ℕ) (v : BrokerBook) (h : List (ByteEvent WirePacket)) (clock : ℕ) (rs : List (EndRow E)) → b ≡ a → IsScripted b.setup → t < length a.setup.topics → x < length a.setup.clusters

@@ -16,6 +16,7 @@ mod looking;
 mod moving;
 mod owning;
 mod packing;
+mod room;
 mod starting;
 mod state;
 

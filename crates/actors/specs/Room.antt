@@ -1,0 +1,56 @@
+-- Whether there is room for what a client sends as it connects, and what is tried where there is none (own: without it each turn would
+-- write all these packets, and then find no room).
+use Rattle.std.specs.Prelude.{◌≡◌, ℕ, ◌+◌, ◌*◌, ◌<◌, Bool, false, length, List, [], Option, Some, None}
+use Rattle.actors.specs.declared.role.Role.{Role}
+use Rattle.actors.specs.declared.role.Role.TheVariants as role
+use Rattle.actors.specs.declared.room.Reconnection.{Reconnection}
+use Rattle.actors.specs.Drawing.{Drawing}
+use Rattle.actors.specs.Tries.{Actor, Try, client_tries, connection_due}
+use Rattle.book_parts.specs.Rows.{free_to, looks_to}
+use Rattle.geo_base.specs.declared.packet.Peer.TheVariants as peer
+use Rattle.geo_base.specs.Client.{Client}
+use Rattle.geo_base.specs.NodeState.{BrokerState, ClientState, NodeState}
+use Rattle.node_book.specs.Books.{BookValue}
+use Rattle.wire_ends.specs.Looks.{Looked}
+
+abbrev pub is_due : Option Bool → Bool
+is_due None = false
+is_due (Some due) = due
+
+-- a client's actor that is to connect in a turn at a book
+abbrev pub connects_now : {E : Type 0} → Actor → Role → BookValue E → Bool
+connects_now a (role.Sender l) b = false
+connects_now a (role.Receiver l) b = false
+connects_now a (role.Controller t x) b = false
+connects_now a (role.Dispatcher t x i) b = false
+connects_now a (role.Client c) b = is_due (connection_due a b c)
+connects_now a (role.Server t c) b = false
+
+abbrev pub one_if : {X : Type 0} → Option X → ℕ
+one_if None = 0
+one_if (Some x) = 1
+
+-- CONNECT, what is in force, and each publish without receipt
+abbrev pub connect_packets : Client → ℕ
+connect_packets k = 1 + one_if k.produce + one_if k.sub + one_if k.flow + length k.unanswered
+
+abbrev pub connecting : NodeState → Option Reconnection
+connecting (BrokerState b) = None
+connecting (ClientState k) = Some (record { to = peer.Broker k.cluster; packets = connect_packets k })
+
+-- A look found that the end to the client's broker has fewer places than its packets take, so many each. free_of and looks_of are those
+-- of an end.
+pub record IsTooFull {E : Type 0} (free_of looks_of : E → ℕ) (places : ℕ) (old new : BookValue E) : Type 0 where
+  pub at : Reconnection
+  pub client : connecting old.state ≡ Some at
+  pub few : free_to free_of new.ends at.to < places * at.packets
+  pub looked : Looked (looks_to looks_of old.ends at.to) (looks_to looks_of new.ends at.to)
+
+-- what a client tries but for a connection
+abbrev pub unconnected_tries : Role → Drawing → List Try
+unconnected_tries (role.Sender l) d = []
+unconnected_tries (role.Receiver l) d = []
+unconnected_tries (role.Controller t x) d = []
+unconnected_tries (role.Dispatcher t x i) d = []
+unconnected_tries (role.Client c) d = client_tries (Some false) d c
+unconnected_tries (role.Server t c) d = []

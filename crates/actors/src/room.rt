@@ -1,0 +1,132 @@
+//! Whether there is room for what a client sends as it connects, and its turn where there is none.
+ghost use Rattle.std.specs.Prelude.{◌≡◌, ◌≤◌, IsTrue};
+ghost use Rattle.actors.specs.Drawing.{Drawing};
+ghost use Rattle.actors.specs.Room.{IsTooFull, connect_packets, connecting, connects_now, one_if, unconnected_tries};
+ghost use Rattle.actors.specs.Turns.{Walks, waited_after};
+ghost use Rattle.geo_base.specs.declared.packet.Peer.TheVariants as peer;
+ghost use Rattle.node_book.specs.Acts.{SameBook};
+
+use crate::actor::Actor;
+use crate::role::Role;
+use crate::turning::{has_waited, run_client, waited_after};
+use client::Client;
+use geo_base::{Memory, Peer};
+use node_book::{NodeBook, NodeState};
+use std::alloc::Global;
+use wire_ends::End;
+
+/// Where a client connects, and how many packets it sends then.
+#[derive(Clone, Copy, Drop)]
+pub(crate) struct Reconnection {
+    pub to: Peer,
+    pub packets: usize,
+}
+
+impl Actor {
+    /// Whether the actor is a client's that is to connect in its next turn at the book, and a look finds fewer places at the end to
+    /// its broker than its packets take, each at least so many as the caller knows that a packet takes there. To write all these
+    /// would be in vain. State, history, clock and what was sent and taken are as they were.
+    pub fn waits_for_room<E: End>(&self, book: &mut NodeBook<E>, places: usize) -> bool
+        ensures due { IsTrue result → IsTrue (connects_now self.now self.now.role book.old) }
+        ensures full { IsTrue result → IsTooFull E.free E.looks places book.old book.new }
+        ensures same { SameBook E.sent E.taken book.old book.new }
+    {
+        if !self.connects_now(book) {
+            return false;
+        }
+        is_too_full(book, places)
+    }
+
+    /// Whether the actor is a client's that is to connect in its next turn at the book.
+    fn connects_now<E: End>(&self, book: &NodeBook<E>) -> bool
+        ensures { result ≡ connects_now self.now self.now.role book.now }
+    {
+        match self.role {
+            Role::Client { client } => match self.is_connection_due(book, client) {
+                Some(is_due) => is_due,
+                None => false,
+            },
+            _ => false,
+        }
+    }
+
+    /// A turn of a client's actor that leaves its connection as it is: what came for it is tried, and its next line. Any other actor
+    /// does nothing in it. False exactly where nothing was done. An `Err` is want of memory; then no event was done.
+    #[tactic(auto, using(crate::proofs::Waiting::waited_is))]
+    pub fn turn_unconnected<E: End>(
+        &mut self,
+        alloc: Global,
+        book: &mut NodeBook<E>,
+    ) -> Result<bool, Memory>
+        ensures walk { Walks E.sent E.taken E.shown E.free E.looks (unconnected_tries self.old.role self.old.drawing) self.old.drawing book.old book.new self.old.drawing result }
+        ensures waited { self.new.waited ≡ waited_after self.old book.new result }
+        ensures rest { self.new ≡ record self.old { waited = self.new.waited } }
+    {
+        let is_done = try_unconnected(self.role, alloc, book)?;
+        let is_waiting = !is_done && has_waited(self.role, book);
+        self.waited = waited_after(self.waited, is_waiting);
+        Ok(is_done)
+    }
+}
+
+/// What came for a client, and its next line.
+fn try_unconnected<E: End>(
+    role: Role,
+    alloc: Global,
+    book: &mut NodeBook<E>,
+) -> Result<bool, Memory>
+    ensures { (d : Drawing) → Walks E.sent E.taken E.shown E.free E.looks (unconnected_tries role d) d book.old book.new d result }
+{
+    match role {
+        Role::Client { client } => run_client(alloc, book, client, Some(false)),
+        _ => Ok(false),
+    }
+}
+
+/// Whether a look finds fewer places at the end to a client's broker than its packets take as it connects. False at a broker's book.
+#[tactic(auto, using(crate::proofs::Crowding::too_full, crate::proofs::Crowding::same_book))]
+fn is_too_full<E: End>(book: &mut NodeBook<E>, places: usize) -> bool
+    ensures full { IsTrue result → IsTooFull E.free E.looks places book.old book.new }
+    ensures same { SameBook E.sent E.taken book.old book.new }
+{
+    let Some(connecting) = connecting(book) else {
+        return false;
+    };
+    if !book.has_peer(connecting.to) {
+        return false;
+    }
+    book.free(connecting.to) < places.saturating_mul(connecting.packets)
+}
+
+/// Where the client of a book connects; `None` exactly for a broker's.
+#[tactic(auto, using(crate::proofs::Crowding::client_connecting, crate::proofs::Crowding::broker_connecting))]
+fn connecting<E: End>(book: &NodeBook<E>) -> Option<Reconnection>
+    ensures { result ≡ connecting book.now.state }
+{
+    match book.state() {
+        NodeState::Broker(_) => None,
+        NodeState::Client(state) => Some(connecting_of(&state.client)),
+    }
+}
+
+#[tactic(auto, using(crate::proofs::Crowding::connecting_is))]
+fn connecting_of(client: &Client) -> Reconnection
+    ensures { result ≡ record { to = peer.Broker client.now.cluster; packets = connect_packets client.now } }
+{
+    let view = client.view();
+    let in_force = one_if(view.produce) + one_if(view.sub) + one_if(view.flow);
+    Reconnection {
+        to: Peer::Broker(view.cluster),
+        packets: 1 + in_force + view.unanswered.len(),
+    }
+}
+
+fn one_if(line: Option<usize>) -> usize
+    ensures value { result ≡ one_if line }
+    ensures few { result ≤ 1 }
+{
+    match line {
+        Some(_) => 1,
+        None => 0,
+    }
+}
