@@ -1,0 +1,4 @@
+pub mod Observed
+pub mod Safe
+pub mod Findings
+pub mod Safety
