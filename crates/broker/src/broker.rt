@@ -1,5 +1,5 @@
 //! The broker of a topic at a cluster, and what may be read of it.
-ghost use Rattle.std.specs.Prelude.{◌≡◌, ◌<◌, ◌≤◌, length, slice_get, IfOk, MatchOption, Some};
+ghost use Rattle.std.specs.Prelude.{◌≡◌, ◌<◌, ◌≤◌, length, slice_get, IfOk, MatchOption, Some, is_some};
 ghost use Rattle.geo_base.specs.Broker.{backlog, new_broker, sender_at};
 ghost use Rattle.geo_base.specs.Cursor.{mark};
 ghost use Rattle.broker_subs.specs.SubBook.{subs_of};
@@ -122,6 +122,16 @@ impl Broker {
         ensures { result ≡ backlog self.now.broker (sub_at self.now.broker.subs i) }
     {
         self.book.backlog(self.book.subs().at(i))
+    }
+
+    /// Whether a snapshot is in the making, which a broker keeps in memory alone: a restart forgets it.
+    pub fn is_making(&self) -> bool
+        ensures { result ≡ is_some self.now.broker.builder }
+    {
+        match self.book.builder() {
+            None => false,
+            Some(_) => true,
+        }
     }
 
     /// Lets the broker go, as `drop` does: a crate that calls this need not show again how each part of a broker ends.

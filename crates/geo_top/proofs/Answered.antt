@@ -2,7 +2,7 @@
 use Rattle.std.proofs.Common.{◌≡◌, ℕ, ◌<◌, ◌≤◌, Bool, false, List, [], take, length, refl, ap, subst, sym, ◌∙◌, inl, inr, arith}
 use Rattle.std.proofs.lemmas.Bool.{lt-ltb}
 use Rattle.std.proofs.lemmas.Bool.Decides.{nat_tests}
-use Rattle.std.specs.Prelude.{Option, Some, None, nat_lt}
+use Rattle.std.specs.Prelude.{Option, Some, None, true, nat_lt}
 use Rattle.geo_io.specs.Faults.{Rose, Stood}
 use Rattle.world_laws.proofs.KeptRuns.ResumedRuns.{resumed_law}
 use Rattle.world_laws.proofs.KeptRuns.SavedRuns.{reached_law}
@@ -12,24 +12,28 @@ use Rattle.geo_top.specs.declared.top.command.Command.TheVariants as command
 use Rattle.geo_top.specs.declared.top.command.Reading.{Reading}
 use Rattle.geo_top.specs.declared.top.status.Status.{Status}
 use Rattle.geo_top.specs.declared.top.status.Status.TheVariants as status
+use Rattle.geo_base.specs.Run.{run}
 use Rattle.script_text.specs.Rules.{script_of}
+use Rattle.script_text.specs.Schedule.{schedule_of}
 use Rattle.geo_top.specs.Answered.{FaultCounts, HasCause, IsAnswered, WentOut, WritesLine, no_faults}
 use Rattle.geo_top.specs.Claims.{HoldsOf, HoldsWithin}
 use Rattle.geo_top.specs.Commands.{Reads}
 use Rattle.geo_top.specs.Founded.{IsFounded, IsKnown, IsReady, IsSent}
+use Rattle.geo_top.specs.Losing.{LossHolds, lost_of}
 use Rattle.geo_top.specs.OneRun.{GoesOnAlike, IsKept}
 use Rattle.geo_top.specs.Outputs.{IsAnswerFor, IsAnswerToBytes, UnlessLarge, answer_to_big, answer_to_big_steps, output_of, refused, report_of}
-use Rattle.geo_top.specs.States.{file_of, gone_on, stopped}
+use Rattle.geo_top.specs.States.{file_of, gone_on, state_of_run, stopped}
 use Rattle.geo_top.specs.Statuses.{IsDue, IsMade, refusal_line}
-use Rattle.geo_top.specs.Stepped.{steps_of}
+use Rattle.geo_top.specs.Stepped.{AreAllSaid, steps_of}
 use Rattle.geo_top.proofs.Accepted.{traced_accepted, traced_whole}
-use Rattle.geo_top.proofs.Answering.{big_is, counted, judged_whole, of_saved, of_script, ok_audited, ok_big, ok_big_steps, ok_resumed, ok_saved, ok_told, ok_told_on, safe_audited}
+use Rattle.geo_top.proofs.Answering.{big_is, counted, judged_whole, of_saved, of_script, ok_audited, ok_big, ok_big_steps, ok_resumed, ok_saved, LosesOn, loss_holds, ok_told, ok_told_on, safe_audited, told_loss, told_loss_on, told_loss_saved}
 use Rattle.geo_top.proofs.Causing.{IsCaused, caused, caused_made, lined}
 use Rattle.geo_top.proofs.Claims.{generated_holds, holds_of}
 use Rattle.geo_top.proofs.GoingOut.{only_answer, same_due, went, went_is, writes}
 use Rattle.geo_top.proofs.GoingOn.{goes_alike, goes_within}
-use Rattle.geo_top.proofs.OneRun.{kept_is, reports_same}
+use Rattle.geo_top.proofs.OneRun.{kept_is, losses_same, reports_same}
 use Rattle.geo_top.proofs.Quiet.{generated_quiet}
+use Rattle.geo_top.proofs.SaidSteps.{script_said}
 use Rattle.geo_top.proofs.SavedWith.{ok_maps}
 
 not_long : (n : ℕ) → n ≤ 67108864 → nat_lt 67108864 n ≡ false
@@ -65,9 +69,19 @@ answered c input a f founded stood = record {
   audited_safe = safe_audited c input a founded;
   accepted = traced_accepted;
   whole = judged_whole c input a founded;
-  stepped = ok_told c input a founded (λ n. (a.bytes ≡ steps_of input n) × HoldsWithin n) (λ n k is none. (is, (none, holds_of n k.setup none)));
+  stepped = ok_told c input a founded (λ n. (a.bytes ≡ steps_of input n) × HoldsWithin n × AreAllSaid input n)
+      (λ n read k is none. (is, (none, holds_of n k.setup none), script_said input n read));
   stepped_on = ok_told_on c input a founded;
   stepped_big = λ number ok is. let big = ok_big_steps c input a number founded ok is in (big.0, (big.1, generated_holds number big.1));
+  lost = record {
+    ended = told_loss c input a founded;
+    on_state = told_loss_on c input a founded;
+    one_run = λ name n lines ok is k.
+        ok_maps (schedule_of n.setup lines) (LosesOn name a.bytes (state_of_run n)) (λ es. let m = gone_on n es in (a.bytes ≡ lost_of name true m) × HoldsWithin m × LossHolds n.setup (run n.setup m.steps))
+        (λ es h. let within = goes_within n es k.kept h.2 in
+        (h.1 ∙ losses_same resumed_law n name es (kept_is reached_law n k.kept), (within, holds_of (gone_on n es) k.kept.scenario.setup within), loss_holds n.setup (gone_on n es).steps))
+        (told_loss_saved c input a founded name n lines ok is k);
+  };
   summary = λ number ok is. let big = ok_big c input a number founded ok is in (big.0, (big.1, generated_holds number big.1));
   quiet = generated_quiet;
   cause = cause_of c input f a.status (caused c input a founded.due);
@@ -144,6 +158,11 @@ failed c input output f s fault cause out line = record {
   stepped = λ is steps. absurd (other is);
   stepped_on = λ is steps. absurd (other is);
   stepped_big = λ number is big. absurd (other is);
+  lost = record {
+    ended = λ name names is lost. absurd (other is);
+    on_state = λ name is lost. absurd (other is);
+    one_run = λ name n lines is lost k. absurd (other is);
+  };
   summary = λ number is big. absurd (other is);
   quiet = generated_quiet;
   cause = cause;
@@ -233,6 +252,7 @@ counted_again c input output f g s made stood h = record {
   stepped = h.stepped;
   stepped_on = h.stepped_on;
   stepped_big = h.stepped_big;
+  lost = h.lost;
   summary = h.summary;
   quiet = h.quiet;
   cause = cause_again c input f g s made h.cause;

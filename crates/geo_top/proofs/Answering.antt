@@ -1,11 +1,16 @@
 -- What an answer is where it is Ok, and what holds of the run behind it.
 use Rattle.std.proofs.Common.{◌≡◌, ℕ, Bool, true, false, List, [], ◌∷◌, ◌++◌, refl, ap, subst}
-use Rattle.std.specs.Prelude.{Option, Some, None, Result, Ok, Err, IsOkAnd, length, drop, nat_lt}
+use Rattle.std.specs.Prelude.{Option, Some, None, Result, Ok, Err, IsOkAnd, if◌then◌else◌, length, drop, nat_lt}
 use Rattle.audit.specs.AuditOf.{audit_by, audit_of}
 use Rattle.audit.specs.declared.strictness.Strictness.TheVariants as strictness
 use Rattle.geo_base.specs.declared.event.Step.{Step}
 use Rattle.geo_base.specs.Audit.{Refusal as RefusedLine}
+use Rattle.geo_base.specs.Run.{run}
 use Rattle.geo_base.specs.Setup.{Setup}
+use Rattle.loss_laws.proofs.ComesAgain.{comes_law}
+use Rattle.loss_laws.proofs.LostForGood.{lost_law}
+use Rattle.loss_laws.proofs.Missing.{missing_law}
+use Rattle.script_rows.specs.NameBytes.{is_among}
 use Rattle.script_text.specs.Rules.{script_of}
 use Rattle.script_text.specs.Scenario.{IsScenario}
 use Rattle.script_text.specs.Schedule.{schedule_of}
@@ -26,17 +31,21 @@ use Rattle.geo_top.specs.declared.top.command.Shown.TheVariants as shown
 use Rattle.geo_top.specs.declared.top.status.Status.TheVariants as status
 use Rattle.geo_top.specs.Answered.{OfSaved, OfScript}
 use Rattle.geo_top.specs.Audits.{IsAuditedSafe, audit_line}
-use Rattle.geo_top.specs.Commands.{audit_command, resume_command, save_command, steps_command, steps_on_command, whole_command}
+use Rattle.geo_top.specs.Claims.{HoldsWithin}
+use Rattle.geo_top.specs.Commands.{audit_command, lost_command, lost_on_command, resume_command, save_command, steps_command, steps_on_command, whole_command}
 use Rattle.geo_top.specs.Founded.{IsAccepted, IsFounded, IsKnown, IsKnownFor}
+use Rattle.geo_top.specs.Losing.{Declares, LossHolds, declaring, declaring_on, lost_of, lost_on, undeclared}
 use Rattle.geo_top.specs.OneRun.{IsKept, IsSavedWith, counted_on, lines_before, text_on}
-use Rattle.geo_top.specs.Outputs.{IsAnswerFor, IsAnswerToBytes, IsAnswerToFile, IsAnswerToInput, UnlessLarge, answer_to, answer_to_audited, answer_to_big, answer_to_judged, answer_to_loaded, answer_to_resumed, answer_to_save, answer_to_steps, answer_to_steps_on, big_steps, output_of, passed_limit, resumed_limit, resumed_report, summary_of, unless_passed}
+use Rattle.geo_top.specs.Outputs.{IsAnswerFor, IsAnswerToBytes, IsAnswerToFile, IsAnswerToInput, UnlessLarge, answer_to, answer_to_audited, answer_to_big, answer_to_judged, answer_to_loaded, answer_to_losing, answer_to_losing_loaded, answer_to_losing_on, answer_to_resumed, answer_to_save, answer_to_steps, answer_to_steps_on, big_steps, output_of, passed_limit, resumed_limit, resumed_report, summary_of, unless_passed}
 use Rattle.geo_top.specs.States.{file_of, state_of_run, stopped}
-use Rattle.geo_top.specs.Stepped.{steps_of, steps_on}
+use Rattle.geo_top.specs.Stepped.{AreAllSaidOn, steps_of, steps_on}
 use Rattle.script_inputs.specs.Generated.{generated_run}
 use Rattle.geo_top.specs.Wholly.{IsAuditedWhole, IsJudgedWhole}
 use Rattle.geo_top.proofs.Accepted.{traced_whole}
 use Rattle.geo_top.proofs.Auditing.{accepted_safe, accepted_whole}
+use Rattle.geo_top.proofs.Claims.{holds_of}
 use Rattle.geo_top.proofs.OneRun.{counted_same, kept_is}
+use Rattle.geo_top.proofs.SaidSteps.{schedule_said}
 use Rattle.geo_top.proofs.SavedWith.{loaded_holds, ok_maps}
 
 -- an output, unless a limit was passed
@@ -72,12 +81,12 @@ of_script c input a f P holds = λ v ok is.
 
 -- ---- to a script whose steps are told
 by_told : (a : Answer) (text : List ℕ) (r : Result Script Fault) (P : Script → Type 0) → a ≡ answer_to_steps text r → a.status ≡ status.Ok → IsAccepted r
-    → ((m : Script) → IsScenario m → a.bytes ≡ steps_of text m → passed_limit m ≡ None → P m) → IsOkAnd r P
-by_told a text (Ok m) P is ok known f = let p = ok_passed a (steps_of text m) (passed_limit m) is ok in f m known p.0 p.1
+    → ((m : Script) → r ≡ Ok m → IsScenario m → a.bytes ≡ steps_of text m → passed_limit m ≡ None → P m) → IsOkAnd r P
+by_told a text (Ok m) P is ok known f = let p = ok_passed a (steps_of text m) (passed_limit m) is ok in f m refl known p.0 p.1
 by_told a text (Err e) P is ok known f = absurd (cc (ap (λ (a : Answer). a.status) is))
 
 pub ok_told : (c : Option Command) (input : List ℕ) (a : Answer) → IsFounded c input a → (P : Script → Type 0)
-    → ((m : Script) → IsScenario m → a.bytes ≡ steps_of input m → passed_limit m ≡ None → P m) → a.status ≡ status.Ok → c ≡ Some steps_command → IsOkAnd (script_of input) P
+    → ((m : Script) → script_of input ≡ Ok m → IsScenario m → a.bytes ≡ steps_of input m → passed_limit m ≡ None → P m) → a.status ≡ status.Ok → c ≡ Some steps_command → IsOkAnd (script_of input) P
 ok_told c input a f P holds ok is = by_told a input (script_of input) P (ok_bytes reading.Steps c input a f ok is) ok (known_of reading.Steps c input a f ok is) holds
 
 -- ---- to a script whose run is saved
@@ -110,18 +119,20 @@ ok_resumed c input a f ok is = let file = ok_bytes (reading.Resume going_on.Repo
 
 -- with its steps told
 abbrev pub Tells : List ℕ → SavedState → List ℕ → List Step → Type 0
-Tells output g lines es = (output ≡ steps_on g lines es) × (resumed_limit g es ≡ None)
+Tells output g lines es = (output ≡ steps_on g lines es) × (resumed_limit g es ≡ None) × AreAllSaidOn lines es
 
 abbrev pub TellsOn : List ℕ → List ℕ → Type 0
 TellsOn input output =
     (g : SavedState) × (used : ℕ) × IsLoaded input (Ok (g, used)) × IsOkAnd (schedule_of g.scenario.setup (drop used input)) (Tells output g (drop used input))
 
-by_steps_told : (a : Answer) (g : SavedState) (lines : List ℕ) (r : Result (List Step) Fault) → a ≡ answer_to_steps_on g lines r → a.status ≡ status.Ok → IsOkAnd r (Tells a.bytes g lines)
-by_steps_told a g lines (Ok es) is ok = ok_passed a (steps_on g lines es) (resumed_limit g es) is ok
-by_steps_told a g lines (Err e) is ok = absurd (cc (ap (λ (a : Answer). a.status) is))
+by_steps_told : (a : Answer) (g : SavedState) (lines : List ℕ) (r : Result (List Step) Fault) → schedule_of g.scenario.setup lines ≡ r → a ≡ answer_to_steps_on g lines r → a.status ≡ status.Ok
+    → IsOkAnd r (Tells a.bytes g lines)
+by_steps_told a g lines (Ok es) read is ok =
+    let p = ok_passed a (steps_on g lines es) (resumed_limit g es) is ok in (p.0, p.1, schedule_said g.scenario.setup lines es read)
+by_steps_told a g lines (Err e) read is ok = absurd (cc (ap (λ (a : Answer). a.status) is))
 
 by_told_on : (input : List ℕ) (a : Answer) (l : Loaded) → IsLoaded input l → a ≡ answer_to_loaded going_on.Steps input l → a.status ≡ status.Ok → TellsOn input a.bytes
-by_told_on input a (Ok x) loaded is ok = (x.0, x.1, loaded, by_steps_told a x.0 (drop x.1 input) (schedule_of x.0.scenario.setup (drop x.1 input)) is ok)
+by_told_on input a (Ok x) loaded is ok = (x.0, x.1, loaded, by_steps_told a x.0 (drop x.1 input) (schedule_of x.0.scenario.setup (drop x.1 input)) refl is ok)
 by_told_on input a (Err (bad_state offset rule)) loaded is ok = absurd (cc (ap (λ (a : Answer). a.status) is))
 by_told_on input a (Err (version number)) loaded is ok = absurd (cc (ap (λ (a : Answer). a.status) is))
 
@@ -147,6 +158,67 @@ pub counted : (c : Option Command) (input : List ℕ) (a : Answer) → IsFounded
 counted c input a f text lines n small is said k =
     counted_same resumed_law text lines input n a (reached_law.opening n.setup) (kept_is reached_law n k.kept) said k
     (small_file (nat_lt 67108864 (length input)) input a refl small (of_reading (reading.Resume going_on.Report) c input a is f.due))
+
+-- ---- to a script, or a state, of whose run it is told what is lost
+pub loss_holds : (s : Setup) (es : List Step) → LossHolds s (run s es)
+loss_holds s es = record {
+  missing = (missing_law s).run es;
+  again = λ u t x y j v remote may since. comes_law.since s u (run s es) t x y j v remote may since;
+  lost = lost_law s (run s es);
+}
+
+abbrev pub LosesAt : List ℕ → Bool → List ℕ → Script → Type 0
+LosesAt name names output n = Declares n.setup name × (output ≡ lost_of name names n) × HoldsWithin n × LossHolds n.setup (run n.setup n.steps)
+
+by_name : (name input : List ℕ) (names : Bool) (a : Answer) (m : Script) (b : Bool) → is_among m.setup.clusters name ≡ b → IsScenario m
+    → a ≡ answer_to_losing name names (if b then Ok m else Err (undeclared input)) → a.status ≡ status.Ok → LosesAt name names a.bytes m
+by_name name input names a m true here known is ok =
+    let p = ok_passed a (lost_of name names m) (passed_limit m) is ok in (here, p.0, (p.1, holds_of m known.setup p.1), loss_holds m.setup m.steps)
+by_name name input names a m false none known is ok = absurd (cc (ap (λ (a : Answer). a.status) is))
+
+by_losing : (name input : List ℕ) (names : Bool) (a : Answer) (r : Result Script Fault) → a ≡ answer_to_losing name names (declaring name input r) → a.status ≡ status.Ok
+    → IsAccepted r → IsOkAnd r (LosesAt name names a.bytes)
+by_losing name input names a (Ok m) is ok known = by_name name input names a m (is_among m.setup.clusters name) refl known is ok
+by_losing name input names a (Err f) is ok known = absurd (cc (ap (λ (a : Answer). a.status) is))
+
+abbrev pub LosesOn : List ℕ → List ℕ → SavedState → List Step → Type 0
+LosesOn name output g es = Declares g.scenario.setup name × (output ≡ lost_on name g es) × (resumed_limit g es ≡ None)
+
+by_name_on : (name lines : List ℕ) (a : Answer) (g : SavedState) (es : List Step) (b : Bool) → is_among g.scenario.setup.clusters name ≡ b
+    → a ≡ answer_to_losing_on name g (if b then Ok es else Err (undeclared lines)) → a.status ≡ status.Ok → LosesOn name a.bytes g es
+by_name_on name lines a g es true here is ok = let p = ok_passed a (lost_on name g es) (resumed_limit g es) is ok in (here, p.0, p.1)
+by_name_on name lines a g es false none is ok = absurd (cc (ap (λ (a : Answer). a.status) is))
+
+by_losing_on : (name lines : List ℕ) (a : Answer) (g : SavedState) (r : Result (List Step) Fault)
+    → a ≡ answer_to_losing_on name g (declaring_on g.scenario.setup name lines r) → a.status ≡ status.Ok → IsOkAnd r (LosesOn name a.bytes g)
+by_losing_on name lines a g (Ok es) is ok = by_name_on name lines a g es (is_among g.scenario.setup.clusters name) refl is ok
+by_losing_on name lines a g (Err e) is ok = absurd (cc (ap (λ (a : Answer). a.status) is))
+
+abbrev pub LosesBehind : List ℕ → List ℕ → List ℕ → Type 0
+LosesBehind name input output = (g : SavedState) × (used : ℕ) × IsLoaded input (Ok (g, used))
+    × IsOkAnd (schedule_of g.scenario.setup (drop used input)) (LosesOn name output g)
+
+by_losing_loaded : (name input : List ℕ) (a : Answer) (l : Loaded) → IsLoaded input l → a ≡ answer_to_losing_loaded name input l → a.status ≡ status.Ok
+    → LosesBehind name input a.bytes
+by_losing_loaded name input a (Ok x) loaded is ok =
+    (x.0, x.1, loaded, by_losing_on name (drop x.1 input) a x.0 (schedule_of x.0.scenario.setup (drop x.1 input)) is ok)
+by_losing_loaded name input a (Err (bad_state offset rule)) loaded is ok = absurd (cc (ap (λ (a : Answer). a.status) is))
+by_losing_loaded name input a (Err (version number)) loaded is ok = absurd (cc (ap (λ (a : Answer). a.status) is))
+
+pub told_loss : (c : Option Command) (input : List ℕ) (a : Answer) → IsFounded c input a → (name : List ℕ) (names : Bool) → a.status ≡ status.Ok
+    → c ≡ Some (lost_command name names) → IsOkAnd (script_of input) (LosesAt name names a.bytes)
+told_loss c input a f name names ok is =
+    by_losing name input names a (script_of input) (ok_bytes (reading.Lost name names) c input a f ok is) ok (known_of (reading.Lost name names) c input a f ok is)
+
+pub told_loss_on : (c : Option Command) (input : List ℕ) (a : Answer) → IsFounded c input a → (name : List ℕ) → a.status ≡ status.Ok
+    → c ≡ Some (lost_on_command name) → LosesBehind name input a.bytes
+told_loss_on c input a f name ok is = let file = ok_bytes (reading.LostOn name) c input a f ok is in by_losing_loaded name input a file.0 file.1 file.2 ok
+
+-- and where it is what `save` wrote of a script
+pub told_loss_saved : (c : Option Command) (input : List ℕ) (a : Answer) → IsFounded c input a → (name : List ℕ) (n : Script) (lines : List ℕ) → a.status ≡ status.Ok
+    → c ≡ Some (lost_on_command name) → IsSavedWith n lines input → IsOkAnd (schedule_of n.setup lines) (LosesOn name a.bytes (state_of_run n))
+told_loss_saved c input a f name n lines ok is k =
+    let g = told_loss_on c input a f name ok is in loaded_holds n lines input g.0 g.1 (LosesOn name a.bytes) k g.2 g.3
 
 -- ---- to a trace
 abbrev pub IsTold : List ℕ → Setup → List ℕ → Type 0

@@ -23,8 +23,9 @@ use Rattle.geo_top.specs.declared.top.command.Shown.{Shown}
 use Rattle.geo_top.specs.declared.top.status.Status.{Status}
 use Rattle.geo_top.specs.declared.top.status.Status.TheVariants as status
 use Rattle.geo_top.specs.Causes.{HasBadLine, HasBadState, HasRefusedLine, IsPassed, RunPasses}
-use Rattle.geo_top.specs.Commands.{auditing_command, command_resuming, command_showing, resume_command, steps_on_command}
-use Rattle.geo_top.specs.Outputs.{IsAnswerFor, IsAnswerToBytes, UnlessLarge, answer_going_on, answer_to, answer_to_audited, answer_to_generated, answer_to_judged, answer_to_loaded, answer_to_resumed, answer_to_save, answer_to_steps, answer_to_steps_on, big_steps, output_of, passed_limit, resumed_limit, resumed_report, summary_of, unless_passed}
+use Rattle.geo_top.specs.Commands.{auditing_command, command_resuming, command_showing, lost_command, lost_on_command, resume_command, steps_on_command}
+use Rattle.geo_top.specs.Losing.{declaring, lost_of, lost_on}
+use Rattle.geo_top.specs.Outputs.{IsAnswerFor, IsAnswerToBytes, UnlessLarge, answer_going_on, answer_to, answer_to_audited, answer_to_generated, answer_to_judged, answer_to_loaded, answer_to_losing, answer_to_losing_loaded, answer_to_losing_on, answer_to_resumed, answer_to_save, answer_to_steps, answer_to_steps_on, big_steps, output_of, passed_limit, resumed_limit, resumed_report, steps_declaring, summary_of, unless_passed}
 use Rattle.geo_top.specs.States.{file_of, stopped}
 use Rattle.geo_top.specs.Statuses.{IsMade, refusal_line}
 use Rattle.geo_top.specs.Stepped.{steps_of, steps_on}
@@ -94,8 +95,27 @@ caused_on going_on.Steps input g used loaded = caused_steps_on input g used (sch
 
 caused_resume : (v : GoingOn) (input : List ℕ) (l : Loaded) → IsLoaded input l → IsCaused (Some (command_resuming v)) input (answer_to_loaded v input l).status
 caused_resume v input (Ok x) loaded = caused_on v input x.0 x.1 loaded
-caused_resume v input (Err (bad_state offset rule)) loaded = (v, refl, loaded)
-caused_resume v input (Err (version number)) loaded = (v, refl, loaded)
+caused_resume v input (Err (bad_state offset rule)) loaded = (inl (v, refl), loaded)
+caused_resume v input (Err (version number)) loaded = (inl (v, refl), loaded)
+
+caused_losing : (name : List ℕ) (names : Bool) (input : List ℕ) (r : Result Script Fault) → declaring name input (script_of input) ≡ r
+    → IsCaused (Some (lost_command name names)) input (answer_to_losing name names r).status
+caused_losing name names input (Ok m) script =
+    caused_passed (reading.Lost name names) input (lost_of name names m) (passed_limit m) (only_limit m.setup m.steps)
+    (λ limit passed. ok_with (declaring name input (script_of input)) m (λ n. passed_limit n ≡ Some limit) script passed)
+caused_losing name names input (Err f) script = script
+
+caused_losing_on : (name input : List ℕ) (g : SavedState) (used : ℕ) (r : Result (List Step) Fault) → IsLoaded input (Ok (g, used))
+    → steps_declaring name input g used ≡ r → IsCaused (Some (lost_on_command name)) input (answer_to_losing_on name g r).status
+caused_losing_on name input g used (Ok es) loaded is =
+    caused_passed (reading.LostOn name) input (lost_on name g es) (resumed_limit g es) (only_limit_from g.scenario.setup _ es refl)
+    (λ limit passed. (g, used, loaded, ok_with (steps_declaring name input g used) es (λ fs. resumed_limit g fs ≡ Some limit) is passed))
+caused_losing_on name input g used (Err e) loaded is = (g, used, loaded, is)
+
+caused_losing_file : (name input : List ℕ) (l : Loaded) → IsLoaded input l → IsCaused (Some (lost_on_command name)) input (answer_to_losing_loaded name input l).status
+caused_losing_file name input (Ok x) loaded = caused_losing_on name input x.0 x.1 (steps_declaring name input x.0 x.1) loaded refl
+caused_losing_file name input (Err (bad_state offset rule)) loaded = (inr (name, refl), loaded)
+caused_losing_file name input (Err (version number)) loaded = (inr (name, refl), loaded)
 
 caused_judged : (k : Strictness) (input : List ℕ) (n : Script) (r : Result ℕ RefusedLine) → script_of (declarations_in input) ≡ Ok n → audit_by k n.setup (trace_in input) ≡ r
     → IsCaused (Some (auditing_command k)) input (answer_to_judged r).status
@@ -118,6 +138,10 @@ caused_bytes (reading.Audit k) input a is =
     subst (λ (a : Answer). IsCaused (Some (auditing_command k)) input a.status) (sym is) (caused_audit k input (script_of (declarations_in input)) refl)
 caused_bytes reading.Steps input a is =
     subst (λ (a : Answer). IsCaused (Some (command.Reads reading.Steps)) input a.status) (sym is) (caused_told input (script_of input) refl)
+caused_bytes (reading.Lost name names) input a is =
+    subst (λ (a : Answer). IsCaused (Some (lost_command name names)) input a.status) (sym is) (caused_losing name names input (declaring name input (script_of input)) refl)
+caused_bytes (reading.LostOn name) input a is =
+    subst (λ (a : Answer). IsCaused (Some (lost_on_command name)) input a.status) (sym is.2) (caused_losing_file name input is.0 is.1)
 
 caused_input : (t : Bool) (r : Reading) (input : List ℕ) (a : Answer) → nat_lt 67108864 (length input) ≡ t → UnlessLarge t a (IsAnswerToBytes r input a)
     → IsCaused (Some (command.Reads r)) input a.status
@@ -199,6 +223,19 @@ line_loaded v input (Ok x) = line_on v x.0 (drop x.1 input)
 line_loaded v input (Err (bad_state offset rule)) = refl
 line_loaded v input (Err (version number)) = refl
 
+line_losing : (name : List ℕ) (names : Bool) (r : Result Script Fault) → Lined (answer_to_losing name names r)
+line_losing name names (Ok m) = line_passed (lost_of name names m) (passed_limit m)
+line_losing name names (Err f) = refl
+
+line_losing_on : (name : List ℕ) (g : SavedState) (r : Result (List Step) Fault) → Lined (answer_to_losing_on name g r)
+line_losing_on name g (Ok es) = line_passed (lost_on name g es) (resumed_limit g es)
+line_losing_on name g (Err e) = refl
+
+line_losing_file : (name input : List ℕ) (l : Loaded) → Lined (answer_to_losing_loaded name input l)
+line_losing_file name input (Ok x) = line_losing_on name x.0 (steps_declaring name input x.0 x.1)
+line_losing_file name input (Err (bad_state offset rule)) = refl
+line_losing_file name input (Err (version number)) = refl
+
 line_judged : (r : Result ℕ RefusedLine) → Lined (answer_to_judged r)
 line_judged (Ok events) = tt
 line_judged (Err r) = refl
@@ -213,6 +250,8 @@ line_bytes reading.Save input a is = subst Lined (sym is) (line_save (script_of 
 line_bytes (reading.Resume v) input a is = subst Lined (sym is.2) (line_loaded v input is.0)
 line_bytes (reading.Audit k) input a is = subst Lined (sym is) (line_audit k (trace_in input) (script_of (declarations_in input)))
 line_bytes reading.Steps input a is = subst Lined (sym is) (line_told input (script_of input))
+line_bytes (reading.Lost name names) input a is = subst Lined (sym is) (line_losing name names (declaring name input (script_of input)))
+line_bytes (reading.LostOn name) input a is = subst Lined (sym is.2) (line_losing_file name input is.0)
 
 line_input : (t : Bool) (r : Reading) (input : List ℕ) (a : Answer) → UnlessLarge t a (IsAnswerToBytes r input a) → Lined a
 line_input true r input a is = subst Lined (sym is) refl

@@ -11,7 +11,7 @@ use Rattle.geo_top.specs.declared.top.command.Reading.TheVariants as reading
 use Rattle.geo_top.specs.declared.top.status.Status.{Status}
 use Rattle.geo_top.specs.declared.top.status.Status.TheVariants as status
 use Rattle.geo_top.specs.Answered.{FaultCounts, WentOut, WritesLine}
-use Rattle.geo_top.specs.Outputs.{IsAnswerFor, IsAnswerToBytes, IsAnswerToFile, UnlessLarge, answer_to_loaded}
+use Rattle.geo_top.specs.Outputs.{IsAnswerFor, IsAnswerToBytes, IsAnswerToFile, IsAnswerToLosingFile, UnlessLarge, answer_to_loaded, answer_to_losing_loaded}
 use Rattle.geo_top.specs.Statuses.{IsDue, IsMade}
 use Rattle.geo_top.proofs.Causing.{IsLine}
 
@@ -20,12 +20,18 @@ one_file : (v : GoingOn) (input : List ℕ) (a d : Answer) → IsAnswerToFile v 
 one_file v input a d own is =
     own.2 ∙ (ap (answer_to_loaded v input) (loaded_one input own.0 is.0 own.1 is.1) ∙ sym is.2)
 
+one_losing : (name input : List ℕ) (a d : Answer) → IsAnswerToLosingFile name input a → IsAnswerToLosingFile name input d → a ≡ d
+one_losing name input a d own is =
+    own.2 ∙ (ap (answer_to_losing_loaded name input) (loaded_one input own.0 is.0 own.1 is.1) ∙ sym is.2)
+
 one_bytes : (r : Reading) (input : List ℕ) (a d : Answer) → IsAnswerToBytes r input a → IsAnswerToBytes r input d → a ≡ d
 one_bytes (reading.Script v) input a d own is = own ∙ sym is
 one_bytes reading.Save input a d own is = own ∙ sym is
 one_bytes (reading.Resume v) input a d own is = one_file v input a d own is
 one_bytes (reading.Audit k) input a d own is = own ∙ sym is
 one_bytes reading.Steps input a d own is = own ∙ sym is
+one_bytes (reading.Lost name names) input a d own is = own ∙ sym is
+one_bytes (reading.LostOn name) input a d own is = one_losing name input a d own is
 
 one_input : (t : Bool) (r : Reading) (input : List ℕ) (a d : Answer) → UnlessLarge t a (IsAnswerToBytes r input a) → UnlessLarge t d (IsAnswerToBytes r input d) → a ≡ d
 one_input true r input a d own is = own ∙ sym is

@@ -26,6 +26,7 @@ pub mod Handed
 pub mod Claims
 pub mod Auditing
 pub mod Accepted
+pub mod Losing
 pub mod Causing
 pub mod Answering
 pub mod GoingOut

@@ -1,6 +1,6 @@
 -- A run that goes on from its state file is one run.
 use Rattle.std.proofs.Common.{◌≡◌, ℕ, suc, ◌+◌, ◌<◌, arith, List, [], ◌∷◌, ◌++◌, length, Result, Ok, Err, refl, sym, ap, subst, ◌∙◌}
-use Rattle.std.specs.Prelude.{Option, Some, None, map, replicate, slice_index_or}
+use Rattle.std.specs.Prelude.{Option, Some, None, true, map, replicate, slice_index_or}
 use Rattle.geo_base.specs.declared.change.Change.TheVariants as change
 use Rattle.geo_base.specs.declared.event.Step.{Step}
 use Rattle.geo_base.specs.declared.event.Step.TheVariants as step
@@ -19,6 +19,8 @@ use Rattle.script_text.specs.Rules.{script_of}
 use Rattle.script_text.specs.Schedule.{followed, schedule_of}
 use Rattle.script_text.specs.Script.{Fault, Script}
 use Rattle.script_text.proofs.Following.{behind}
+use Rattle.loss_laws.proofs.Alike.{same_brokers}
+use Rattle.loss_laws.specs.LostLines.{lost_text}
 use Rattle.world_laws.specs.AlikeWorlds.{LawResumed, RunsAlike, kept_behind}
 use Rattle.world_laws.specs.Reached.{LawReached}
 use Rattle.world_laws.specs.Starts.{IsStart, resumed_world}
@@ -26,9 +28,10 @@ use Rattle.geo_top.specs.declared.top.answer.Answer.{Answer}
 use Rattle.geo_top.specs.declared.top.command.GoingOn.TheVariants as going_on
 use Rattle.geo_top.specs.declared.top.command.Shown.TheVariants as shown
 use Rattle.geo_top.specs.declared.top.status.Status.TheVariants as status
+use Rattle.geo_top.specs.Losing.{cluster_number, lost_of, lost_on}
 use Rattle.geo_top.specs.OneRun.{IsGoneOn, IsKept, IsSavedWith, IsTextOn, counted_on, lines_before, text_on}
 use Rattle.geo_top.specs.Outputs.{IsAnswerToFile, answer_to, answer_to_resumed, answer_to_run, passed_limit, refused, report_of, resumed_limit, resumed_report, unless_passed}
-use Rattle.geo_top.specs.States.{resumed_under, state_of_run, stopped}
+use Rattle.geo_top.specs.States.{gone_on, resumed_under, state_of_run, stopped}
 use Rattle.geo_top.proofs.Limits.{unlimited}
 use Rattle.geo_top.proofs.SavedWith.{answer_is}
 
@@ -66,6 +69,15 @@ pub reports_same : (law : LawResumed) (n : Script) (es : List Step) → world_fr
 reports_same law n es kept =
     let s = n.setup in
     ap (λ (w : World). report s (run_from no_limits s (begun w) es).world) kept ∙ sym (law.reports s (run s (n.steps ++ step.Stop ∷ es)) (run_from no_limits s (begun (kept_behind s n.steps)) es).world (law.script s n.steps es))
+
+-- and the same loss
+pub losses_same : (law : LawResumed) (n : Script) (name : List ℕ) (es : List Step) → world_from (state_of_run n) ≡ kept_behind n.setup n.steps
+    → lost_on name (state_of_run n) es ≡ lost_of name true (gone_on n es)
+losses_same law n name es kept =
+    let s = n.setup in
+    let x = cluster_number s name in
+    ap (λ (w : World). lost_text true s (run_from no_limits s (begun w) es).world x) kept
+    ∙ sym (same_brokers true s (run s (n.steps ++ step.Stop ∷ es)) (run_from no_limits s (begun (kept_behind s n.steps)) es).world x (law.script s n.steps es).brokers)
 
 -- and the same limit
 pub limits_same : (law : LawResumed) (n : Script) (es : List Step) → IsStart n.setup (opening_world n.setup) → world_from (state_of_run n) ≡ kept_behind n.setup n.steps → passed_limit (stopped n) ≡ None → (resumed_under all_limits (state_of_run n) es).ended ≡ (run_under all_limits n.setup (n.steps ++ step.Stop ∷ es)).ended

@@ -17,7 +17,6 @@ use Rattle.report_lines.specs.Tiers.{moved_ledgers, moved_line, tier_lines}
 use Rattle.script_text.specs.Scenario.{IsScenario}
 use Rattle.script_text.specs.Script.{Script}
 use Rattle.world.specs.World.{IsAt, WorldBook, node_at}
-use Rattle.geo_top.specs.declared.top.command.Shown.TheVariants as shown
 use Rattle.geo_top.specs.Finished.{IsFinished}
 use Rattle.geo_top.specs.Shown.{shown_world}
 use Rattle.geo_top.specs.Tiered.{AreTopicsTellable, tiered, tiers_at, tiers_of}

@@ -16,7 +16,6 @@ use Rattle.script_text.specs.Script.{Script}
 use Rattle.world.specs.World.{IsAt, WorldBook, node_at}
 use Rattle.geo_top.specs.Compacted.{compacted, views_at, views_of}
 use Rattle.geo_top.specs.declared.top.command.Shown.{Shown}
-use Rattle.geo_top.specs.declared.top.command.Shown.TheVariants as shown
 use Rattle.geo_top.specs.Finished.{IsFinished}
 use Rattle.geo_top.specs.Outputs.{output_of}
 use Rattle.geo_top.specs.Shown.{shown_world}

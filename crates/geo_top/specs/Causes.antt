@@ -14,8 +14,9 @@ use Rattle.geo_top.specs.declared.top.command.Command.TheVariants as command
 use Rattle.geo_top.specs.declared.top.command.GoingOn.{GoingOn}
 use Rattle.geo_top.specs.declared.top.command.Reading.{Reading}
 use Rattle.geo_top.specs.declared.top.command.Reading.TheVariants as reading
-use Rattle.geo_top.specs.Commands.{Reads, auditing_command, command_resuming}
-use Rattle.geo_top.specs.Outputs.{passed_limit, resumed_limit}
+use Rattle.geo_top.specs.Commands.{Reads, auditing_command, command_resuming, lost_on_command}
+use Rattle.geo_top.specs.Losing.{declaring}
+use Rattle.geo_top.specs.Outputs.{passed_limit, resumed_limit, steps_declaring}
 use Rattle.geo_top.specs.States.{stopped}
 use Rattle.script_inputs.specs.Generated.{generated_run}
 
@@ -27,6 +28,9 @@ HasBadLineIn (reading.Resume v) input f =
     (s : SavedState) × (used : ℕ) × IsLoaded input (Ok (s, used)) × (schedule_of s.scenario.setup (drop used input) ≡ Err f)
 HasBadLineIn (reading.Audit k) input f = script_of (declarations_in input) ≡ Err f
 HasBadLineIn reading.Steps input f = script_of input ≡ Err f
+HasBadLineIn (reading.Lost name names) input f = declaring name input (script_of input) ≡ Err f
+HasBadLineIn (reading.LostOn name) input f =
+    (s : SavedState) × (used : ℕ) × IsLoaded input (Ok (s, used)) × (steps_declaring name input s used ≡ Err f)
 
 abbrev pub HasBadLine : Option Command → List ℕ → Fault → Type 0
 HasBadLine None input f = ⊥
@@ -42,6 +46,9 @@ RunPasses (reading.Resume v) input limit = (s : SavedState) × (used : ℕ) × I
     × IsOkAnd (schedule_of s.scenario.setup (drop used input)) (λ es. resumed_limit s es ≡ Some limit)
 RunPasses (reading.Audit k) input limit = ⊥
 RunPasses reading.Steps input limit = IsOkAnd (script_of input) (λ n. passed_limit n ≡ Some limit)
+RunPasses (reading.Lost name names) input limit = IsOkAnd (declaring name input (script_of input)) (λ n. passed_limit n ≡ Some limit)
+RunPasses (reading.LostOn name) input limit = (s : SavedState) × (used : ℕ) × IsLoaded input (Ok (s, used))
+    × IsOkAnd (steps_declaring name input s used) (λ es. resumed_limit s es ≡ Some limit)
 
 abbrev pub PassesRunning : Option Command → List ℕ → ℕ → Type 0
 PassesRunning None input limit = ⊥
@@ -54,8 +61,11 @@ IsPassed c input limit =
     (Reads c × (limit ≡ 1) × (67108864 < length input)) ⊎ (((limit ≡ 2) ⊎ (limit ≡ 3)) × PassesRunning c input limit)
 
 -- a state that is refused
+abbrev pub ReadsState : Option Command → Type 0
+ReadsState c = ((v : GoingOn) × (c ≡ Some (command_resuming v))) ⊎ ((name : List ℕ) × (c ≡ Some (lost_on_command name)))
+
 abbrev pub HasBadState : Option Command → List ℕ → Refusal → Type 0
-HasBadState c input r = (v : GoingOn) × (c ≡ Some (command_resuming v)) × IsLoaded input (Err r)
+HasBadState c input r = ReadsState c × IsLoaded input (Err r)
 
 -- a line of a trace that is refused, by how strictly it was to be judged: behind this event, by this rule
 abbrev pub HasRefusedLine : Option Command → List ℕ → RefusedLine → Type 0

@@ -1,5 +1,5 @@
 -- The commands of the program, by its words: `run`, `save`, `resume`, `audit`, `audit whole`, `trace`, `steps`, `steps from`,
--- `steps big NUMBER`, `big NUMBER`, `compact HORIZON` and `tiered KEEP`.
+-- `steps big NUMBER`, `big NUMBER`, `compact HORIZON`, `tiered KEEP`, and `lost CLUSTER`, alone or with `numbers` or `from` behind it.
 -- Any other words are none (own).
 use Rattle.std.specs.Prelude.{◌≡◌, ℕ, Bool, true, false, ◌&&◌, if◌then◌else◌, List, [], ◌∷◌, Option, Some, None, codes}
 use Rattle.std.specs.Str.{bytes_eq}
@@ -96,11 +96,25 @@ alone_of w =
     else if bytes_eq w (codes "steps") then Some steps_command
     else None
 
+-- what is lost if a cluster goes, with the messages' names or without; and of a run that goes on from a state
+abbrev pub lost_command : List ℕ → Bool → Command
+lost_command name names = command.Reads (reading.Lost name names)
+
+abbrev pub lost_on_command : List ℕ → Command
+lost_on_command name = command.Reads (reading.LostOn name)
+
+-- the word behind `lost CLUSTER`
+abbrev pub lost_with : List ℕ → List ℕ → Option Command
+lost_with name w =
+    if bytes_eq w (codes "numbers") then Some (lost_command name false)
+    else if bytes_eq w (codes "from") then Some (lost_on_command name)
+    else None
+
 -- `steps` with a word
 abbrev pub steps_with : List ℕ → Option Command
 steps_with n = if bytes_eq n (codes "from") then Some steps_on_command else None
 
--- a word with another, which is mostly a number
+-- a word with another
 abbrev pub numbered_of : List ℕ → List ℕ → Option Command
 numbered_of w n =
     if bytes_eq w (codes "big") then big_of (number_of most_number n)
@@ -108,6 +122,7 @@ numbered_of w n =
     else if bytes_eq w (codes "tiered") then tier_of (number_of most_keep n)
     else if bytes_eq w (codes "steps") then steps_with n
     else if bytes_eq w (codes "audit") then audit_of_word n
+    else if bytes_eq w (codes "lost") then Some (lost_command n true)
     else None
 
 -- the steps of a generated run
@@ -119,11 +134,15 @@ big_steps_of (Some number) = Some (command.BigSteps number)
 abbrev pub stepped_of : List ℕ → List ℕ → List ℕ → Option Command
 stepped_of w v n = if bytes_eq w (codes "steps") && bytes_eq v (codes "big") then big_steps_of (number_of most_number n) else None
 
+-- three words
+abbrev pub three_of : List ℕ → List ℕ → List ℕ → Option Command
+three_of w v n = if bytes_eq w (codes "lost") then lost_with v n else stepped_of w v n
+
 abbrev pub command_of : List (List ℕ) → Option Command
 command_of [] = None
 command_of (w ∷ []) = alone_of w
 command_of (w ∷ n ∷ []) = numbered_of w n
-command_of (w ∷ v ∷ n ∷ []) = stepped_of w v n
+command_of (w ∷ v ∷ n ∷ []) = three_of w v n
 command_of (w ∷ v ∷ n ∷ u ∷ ws) = None
 
 -- words that have an input

@@ -24,6 +24,8 @@ IsKnown reading.Save input = IsAccepted (script_of input)
 IsKnown (reading.Resume v) input = ⊤
 IsKnown (reading.Audit k) input = ⊤
 IsKnown reading.Steps input = IsAccepted (script_of input)
+IsKnown (reading.Lost name names) input = IsAccepted (script_of input)
+IsKnown (reading.LostOn name) input = ⊤
 
 abbrev pub IsKnownFor : Option Command → List ℕ → Status → Type 0
 IsKnownFor None input s = ⊤

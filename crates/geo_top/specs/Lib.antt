@@ -10,11 +10,13 @@ pub mod States
 pub mod Audits
 pub mod Traced
 pub mod Stepped
+pub mod Losing
 pub mod Outputs
 pub mod Causes
 pub mod Wholly
 pub mod Finished
 pub mod Claims
 pub mod OneRun
+pub mod ToldLoss
 pub mod Answered
 pub mod Founded

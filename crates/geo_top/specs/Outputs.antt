@@ -26,6 +26,7 @@ use Rattle.geo_top.specs.declared.top.status.Status.TheVariants as status
 use Rattle.geo_top.specs.declared.top.status.Status.{Status}
 use Rattle.geo_top.specs.Audits.{audit_line}
 use Rattle.geo_top.specs.Compacted.{compacted}
+use Rattle.geo_top.specs.Losing.{declaring, declaring_on, lost_of, lost_on}
 use Rattle.geo_top.specs.States.{file_of, resumed, resumed_under, stopped}
 use Rattle.geo_top.specs.Statuses.{refusal_line}
 use Rattle.geo_top.specs.Stepped.{steps_by_schedule, steps_of, steps_on}
@@ -119,6 +120,28 @@ answer_to_loaded v input (Err (version number)) = refused (status.StateVersion n
 abbrev pub IsAnswerToFile : GoingOn → List ℕ → Answer → Type 0
 IsAnswerToFile v input a = (l : Loaded) × IsLoaded input l × (a ≡ answer_to_loaded v input l)
 
+-- ---- to a script, or a state with a schedule behind it, of whose run it is told what is lost if a cluster goes. Rules of the lines come
+-- ---- first, then that the cluster is declared, then the limits
+abbrev pub answer_to_losing : List ℕ → Bool → Result Script Fault → Answer
+answer_to_losing name names (Ok n) = unless_passed (lost_of name names n) (passed_limit n)
+answer_to_losing name names (Err f) = refused (status.BadScript f.line f.rule)
+
+abbrev pub answer_to_losing_on : List ℕ → SavedState → Result (List Step) Fault → Answer
+answer_to_losing_on name f (Ok es) = unless_passed (lost_on name f es) (resumed_limit f es)
+answer_to_losing_on name f (Err e) = refused (status.BadScript e.line e.rule)
+
+-- the steps behind a state, of which the input has the bytes
+abbrev pub steps_declaring : List ℕ → List ℕ → SavedState → ℕ → Result (List Step) Fault
+steps_declaring name input f used = declaring_on f.scenario.setup name (drop used input) (schedule_of f.scenario.setup (drop used input))
+
+abbrev pub answer_to_losing_loaded : List ℕ → List ℕ → Loaded → Answer
+answer_to_losing_loaded name input (Ok x) = answer_to_losing_on name x.0 (steps_declaring name input x.0 x.1)
+answer_to_losing_loaded name input (Err (bad_state offset rule)) = refused (status.BadState offset rule)
+answer_to_losing_loaded name input (Err (version number)) = refused (status.StateVersion number)
+
+abbrev pub IsAnswerToLosingFile : List ℕ → List ℕ → Answer → Type 0
+IsAnswerToLosingFile name input a = (l : Loaded) × IsLoaded input l × (a ≡ answer_to_losing_loaded name input l)
+
 -- ---- to a script's declarations with a trace behind them. Steps of the script are read, and not looked at
 abbrev pub answer_to_judged : Result ℕ Refusal → Answer
 answer_to_judged (Ok events) = record { status = status.Ok; bytes = audit_line events }
@@ -161,6 +184,8 @@ IsAnswerToBytes reading.Save input a = a ≡ answer_to_save (script_of input)
 IsAnswerToBytes (reading.Resume v) input a = IsAnswerToFile v input a
 IsAnswerToBytes (reading.Audit k) input a = a ≡ answer_to_auditing k input
 IsAnswerToBytes reading.Steps input a = a ≡ answer_to_steps input (script_of input)
+IsAnswerToBytes (reading.Lost name names) input a = a ≡ answer_to_losing name names (declaring name input (script_of input))
+IsAnswerToBytes (reading.LostOn name) input a = IsAnswerToLosingFile name input a
 
 abbrev pub UnlessLarge : Bool → Answer → Type 0 → Type 0
 UnlessLarge true a P = a ≡ refused (status.TooLarge 1)

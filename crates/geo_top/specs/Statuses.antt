@@ -19,7 +19,7 @@ status_number (status.AuditRefused event rule) = 10
 -- the one line that a refusal writes. Want of memory writes nothing, and a write fault has no line of its own
 abbrev pub refusal_line : Status → List ℕ
 refusal_line status.Ok = []
-refusal_line status.Usage = codes "usage: geo run, live WORKERS TURNS, big NUMBER, save, resume, audit, compact HORIZON, tiered KEEP, trace, steps, steps from, steps big NUMBER, audit whole\n"
+refusal_line status.Usage = codes "usage: geo run, live WORKERS TURNS, big NUMBER, save, resume, audit, compact HORIZON, tiered KEEP, trace, steps, steps from, steps big NUMBER, audit whole, lost CLUSTER, lost CLUSTER numbers, lost CLUSTER from\n"
 refusal_line (status.BadScript line rule) = codes "bad script line " ++ (decimal line ++ (codes " rule " ++ (decimal rule ++ 10 ∷ [])))
 refusal_line status.ReadFault = codes "read fault\n"
 refusal_line status.WriteFault = []

@@ -1,5 +1,5 @@
 -- The steps of a run, as `steps` writes them (own).
-use Rattle.std.specs.Prelude.{ℕ, List, ◌++◌}
+use Rattle.std.specs.Prelude.{ℕ, ◌≤◌, List, ◌++◌, length}
 use Rattle.geo_base.specs.declared.event.Step.{Step}
 use Rattle.geo_base.specs.Report.{with_line_feeds}
 use Rattle.geo_base.specs.Run.{all_limits}
@@ -26,9 +26,16 @@ steps_text n w said es =
 abbrev pub steps_of : List ℕ → Script → List ℕ
 steps_of text n = steps_text n (opening_world n.setup) (said_in n.first_event text) n.steps
 
+-- each step of a script has a line of its text that says it: none is left untold for want of one
+abbrev pub AreAllSaid : List ℕ → Script → Type 0
+AreAllSaid text n = length n.steps ≤ length (said_in n.first_event text)
+
 -- of a run that goes on from a state, by the lines behind it
 abbrev pub steps_on : SavedState → List ℕ → List Step → List ℕ
 steps_on f lines es = steps_text f.scenario (world_from f) (said_from 1 (lines_of lines)) es
+
+abbrev pub AreAllSaidOn : List ℕ → List Step → Type 0
+AreAllSaidOn lines es = length es ≤ length (said_from 1 (lines_of lines))
 
 -- of the run of a script that no text said, by its schedule as it is written
 abbrev pub steps_by_schedule : Script → List ℕ

@@ -7,6 +7,7 @@
 
 mod compacted;
 mod law;
+mod lost;
 mod run;
 mod stepped;
 mod summary;

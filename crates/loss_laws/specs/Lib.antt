@@ -1,2 +1,3 @@
 pub mod Lost
 pub mod LossLaws
+pub mod LostLines

@@ -1,5 +1,5 @@
-//! What is lost, what comes again and what was never told, if a cluster goes now: the measures of a world, as definitions, and laws that tie
-//! two of them, `missing` and `again`, to what holds of every run. No command prints them.
+//! What is lost, what comes again and what was never told, if a cluster goes now: the measures of a world, as definitions, the lines that
+//! print them, and laws that tie them to what holds of every run.
 //!
 //! As in `world_laws`, a law is a public function without parameters and without an answer. Its contract is the statement, in the words of
 //! the definitions; nothing is done in its body, and its proof stands in `proofs/`.
@@ -7,4 +7,4 @@
 
 mod losses;
 
-pub use losses::{law_comes_again, law_missing};
+pub use losses::{law_comes_again, law_lost, law_missing};

@@ -28,4 +28,4 @@ pub use lines::{
 };
 pub use tier_lines::{TieredTopic, add_read_entries, moved_line, moved_to_tier};
 pub use view_lines::{add_messages, horizon_line};
-pub use words::{add_number, add_position};
+pub use words::{add_ident, add_number, add_position};

@@ -65,12 +65,8 @@ pub fn add_position(lines: &mut Blob, position: Position) -> Result<(), Memory>
     add_number(lines, position.entry)
 }
 
-/// What names an entry: its origin, its producer and its sequence id.
-pub(crate) fn add_ident(
-    lines: &mut Blob,
-    clusters: &[ClusterName],
-    ident: &Ident,
-) -> Result<(), Memory>
+/// Appends what names an entry: its origin, its producer and its sequence id.
+pub fn add_ident(lines: &mut Blob, clusters: &[ClusterName], ident: &Ident) -> Result<(), Memory>
     ensures ok { OnOk result (lines.new ≡ lines.old ++ words (shown_ident clusters.now ident.now)) }
     ensures err { OnErr result (take (length lines.old) lines.new ≡ lines.old) }
 {

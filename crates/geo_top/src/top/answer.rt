@@ -32,7 +32,7 @@ fn refusal_line(alloc: Global, status: Status) -> Result<String, Memory>
     match status {
         Status::Usage => Ok(String::from_str(
             alloc,
-            "usage: geo run, live WORKERS TURNS, big NUMBER, save, resume, audit, compact HORIZON, tiered KEEP, trace, steps, steps from, steps big NUMBER, audit whole\n",
+            "usage: geo run, live WORKERS TURNS, big NUMBER, save, resume, audit, compact HORIZON, tiered KEEP, trace, steps, steps from, steps big NUMBER, audit whole, lost CLUSTER, lost CLUSTER numbers, lost CLUSTER from\n",
         )?),
         Status::BadScript { line, rule } => ruled_line(alloc, "bad script line ", line, rule),
         Status::ReadFault => Ok(String::from_str(alloc, "read fault\n")?),

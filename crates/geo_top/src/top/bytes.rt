@@ -10,6 +10,7 @@ ghost use Rattle.geo_top.specs.declared.top.command.Command.TheVariants as comma
 use crate::top::answer::{Answer, refusal};
 use crate::top::auditing::answer_to_audit;
 use crate::top::command::{Command, Reading, Word};
+use crate::top::losing::{answer_to_losing, answer_to_losing_on};
 use crate::top::scripts::{answer_to_number, answer_to_script};
 use crate::top::states::{answer_to_file, answer_to_saving};
 use crate::top::status::Status;
@@ -23,7 +24,8 @@ use std::alloc::Global;
 /// end; for `tiered KEEP` the entries of each topic there, read back once its closed ledgers but the last ones moved to a tier; for
 /// `trace` each event of the run with what it wrote durably; for `steps` each step with what it changed of a report; for `save` it is the
 /// state file of the run and a stop behind it; for `resume` the input is a state file and a schedule behind it, and the output the report
-/// of the run that goes on from there, and for `steps from` its steps; for `audit`, and for `audit whole`, which judges gaps as well, the
+/// of the run that goes on from there, and for `steps from` its steps; for `lost CLUSTER` what is lost if the cluster goes at the run's
+/// end, with `numbers` behind it without the messages' names, and with `from` for the input of `resume`; for `audit`, and for `audit whole`, which judges gaps as well, the
 /// input is what a script declares and a trace behind it, and the output how many events the trace tells; for `big NUMBER` it is the
 /// summary of the run that the number generates, and for `steps big NUMBER` its steps. Else, and where it refuses, it is one line.
 ///
@@ -42,8 +44,12 @@ pub fn answer(alloc: Global, words: &[Word], input: Blob) -> Result<Answer, Memo
 
 /// The answer to a command, or to words that are none.
 #[tactic(auto, using(crate::proofs::Answered::founded_usage, crate::proofs::Answered::founded_big, crate::proofs::Answered::founded_big_steps))]
-fn answer_to_command(alloc: Global, asked: Option<Command>, input: Blob) -> Result<Answer, Memory>
-    ensures { IfOk result (IsFounded asked input) }
+fn answer_to_command(
+    alloc: Global,
+    asked: Option<Command<'_>>,
+    input: Blob,
+) -> Result<Answer, Memory>
+    ensures { IfOk result (IsFounded asked.entry input) }
 {
     match asked {
         Some(Command::Reads(reading)) => answer_to_input(alloc, reading, input),
@@ -55,8 +61,8 @@ fn answer_to_command(alloc: Global, asked: Option<Command>, input: Blob) -> Resu
 
 /// The answer to an input.
 #[tactic(auto, using(crate::proofs::Answered::founded_large, crate::proofs::Answered::founded_bytes))]
-fn answer_to_input(alloc: Global, reading: Reading, input: Blob) -> Result<Answer, Memory>
-    ensures { IfOk result (IsFounded (Some (command.Reads reading)) input) }
+fn answer_to_input(alloc: Global, reading: Reading<'_>, input: Blob) -> Result<Answer, Memory>
+    ensures { IfOk result (IsFounded (Some (command.Reads reading.entry)) input) }
 {
     if input.len() > INPUT_BYTES {
         return refusal(alloc, Status::TooLarge(1));
@@ -65,10 +71,10 @@ fn answer_to_input(alloc: Global, reading: Reading, input: Blob) -> Result<Answe
 }
 
 /// The answer to the bytes of an input that is not too long.
-fn answer_to_bytes(alloc: Global, reading: Reading, bytes: Blob) -> Result<Answer, Memory>
+fn answer_to_bytes(alloc: Global, reading: Reading<'_>, bytes: Blob) -> Result<Answer, Memory>
     requires { length bytes ≤ INPUT_BYTES }
-    ensures answer { IfOk result (IsAnswerToBytes reading bytes) }
-    ensures known { OnOk result (IsKnown reading bytes) }
+    ensures answer { IfOk result (IsAnswerToBytes reading.entry bytes) }
+    ensures known { OnOk result (IsKnown reading.entry bytes) }
 {
     match reading {
         Reading::Script(shown) => answer_to_script(alloc, shown, bytes),
@@ -76,5 +82,11 @@ fn answer_to_bytes(alloc: Global, reading: Reading, bytes: Blob) -> Result<Answe
         Reading::Resume(shown) => answer_to_file(alloc, shown, bytes.as_slice()),
         Reading::Audit(strictness) => answer_to_audit(alloc, strictness, bytes.as_slice()),
         Reading::Steps => answer_to_steps(alloc, bytes.as_slice()),
+        Reading::Lost(cluster, with_names) => {
+            answer_to_losing(alloc, cluster.as_bytes(), with_names, bytes)
+        }
+        Reading::LostOn(cluster) => {
+            answer_to_losing_on(alloc, cluster.as_bytes(), bytes.as_slice())
+        }
     }
 }

@@ -72,7 +72,7 @@ pub fn answer_to_file(alloc: Global, shown: GoingOn, bytes: &[u8]) -> Result<Ans
 }
 
 /// The bytes behind so many.
-fn behind(bytes: &[u8], used: usize) -> &[u8]
+pub fn behind(bytes: &[u8], used: usize) -> &[u8]
     ensures behind { result.now ≡ drop used bytes.now }
     ensures shorter { length result.now ≤ length bytes.now }
 {
