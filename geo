@@ -4,7 +4,7 @@
 #   ./geo run SCRIPT          a file behind a command is read in place of standard input, which is what the program itself reads;
 #   ./geo run SCRIPT ..       several behind run are several runs, each answer under a line `== SCRIPT`,
 #   ./geo resume STATE ..     and several behind resume are read one after the other, as a state and the events that go on from it
-#   ./geo steps from STATE .. and so behind steps from; ./geo show STATE is that of a state alone
+#   ./geo steps from STATE .. and so behind steps from and lost CLUSTER from; ./geo show STATE is that of a state alone
 #   ./geo drill FILE          words that are no command of the program are of tools/geo_tools
 #
 # What runs is the first of these that no source is newer than: the proved program that tools/build made (.built/geo), the unproved one that a
@@ -122,7 +122,7 @@ fi
 # a state alone: its steps, of which there are none
 if [ "${words[0]:-}" = show ]; then words=(steps from "${words[@]:1}"); fi
 
-# which words stand before the files; `whole` behind audit is a word of the command, and ./whole a file
+# which words stand before the files; `whole` behind audit, `numbers` and `from` behind a cluster are words of the command, and ./whole is a file
 own=0
 case "${words[0]:-}:${#words[@]}" in
 audit:2) if [ "${words[1]}" != whole ]; then own=1; fi ;;
@@ -134,6 +134,14 @@ steps:*)
     from) own=2 ;;
     big) ;;
     *) if [ ${#words[@]} = 2 ]; then own=1; fi ;;
+    esac
+    ;;
+lost:[12]) ;;
+lost:*)
+    case ${words[2]} in
+    from) own=3 ;;
+    numbers) if [ ${#words[@]} -le 4 ]; then own=3; fi ;;
+    *) if [ ${#words[@]} = 3 ]; then own=2; fi ;;
     esac
     ;;
 compact:3 | tiered:3) own=2 ;;
@@ -185,7 +193,9 @@ read_input() {
     input=/dev/null
     case "${words[*]-}" in
     run | save | resume | trace | audit | 'audit whole' | steps | steps\ from | compact\ * | tiered\ * | live\ *) ;;
-    '' | big* | steps\ *) return ;;
+    lost\ *\ numbers | lost\ *\ from) ;;
+    '' | big* | steps\ * | lost | lost\ *\ *) return ;;
+    lost\ *) ;;
     *) if [ ${#files[@]} = 0 ] && ! is_known "${words[0]}"; then return; fi ;;
     esac
     if [ ${#files[@]} = 1 ] && [ -f "${files[0]}" ]; then

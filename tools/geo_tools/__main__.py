@@ -18,6 +18,7 @@
   examples     makes and checks the input and output of crates/geo_examples
   compacted    makes the compacted views of a run from its report
   tiered       makes what `geo tiered` prints, from a script and its report
+  losses       makes what `geo lost` prints, from a run's report, trace and steps
   states       writes state files by the rules of their form, and broken ones
   slow         prints scripts that are slow where something is walked that could be looked up
 
@@ -42,8 +43,8 @@ MODULES = {
     'drill': 'drill.main', 'story': 'story', 'page': 'page.document', 'why': 'refusals', 'check': 'check',
     'live': 'live_runs', 'pages': 'pages', 'edits': 'contracts.edits', 'weak': 'contracts.weak', 'observed': 'observed.main', 'help': 'help', 'completion': 'completion',
     'refused': 'refusals.behind', 'json': 'documents',
-    'examples': 'stored.examples', 'compacted': 'stored.compacted', 'tiered': 'stored.tiered', 'states': 'stored.states', 'slow': 'stored.slow',
-    'definitions': 'computed.definitions', 'planted': 'computed.planted', 'random': 'computed.random_runs',
+    'examples': 'stored.examples', 'compacted': 'stored.compacted', 'tiered': 'stored.tiered', 'losses': 'stored.losses', 'states': 'stored.states', 'slow': 'stored.slow',
+    'definitions': 'computed.main', 'planted': 'computed.planted', 'random': 'computed.random_runs',
     'audit': 'apart.audit', 'memory': 'apart.memory'}
 # those that have words of their own behind --help
 PARSING = ('drill', 'story', 'page', 'check', 'live', 'edits', 'weak', 'observed', 'help')

@@ -23,6 +23,9 @@ def arguments(parser):
                         'events that go on from it')
     parser.add_argument('--from', dest='first', type=int, default=1, metavar='LINE', help='the first line of the events to show')
     parser.add_argument('--to', dest='last', type=int, metavar='LINE', help='the last line of the events to show')
+    parser.add_argument('--at', type=int, action='append', default=[], metavar='ROW', help='says of the row of this number what is lost, what comes '
+                        'again and what was never told, if a region goes behind it (geo lost): of the regions that are lost or left there, else of '
+                        'each; may be said again')
     parser.add_argument('--program', metavar='FILE', help='a built geo to run in place of the one that ./geo runs')
     parser.epilog = ('What each event did is told by one run, `geo steps` or `geo steps from`. What takes longer than two seconds says on '
                      'standard error how far it is. Without a build the sources are compiled once, in one to two minutes, and the program is '

@@ -8,7 +8,7 @@ from .report import Report
 
 WRONG_WORDS = 2
 # the commands whose answer is a report, and those whose answer is lines
-REPORTS, LINES = ('run', 'resume', 'live'), ('trace', 'audit', 'compact', 'tiered', 'big', 'steps')
+REPORTS, LINES = ('run', 'resume', 'live'), ('trace', 'audit', 'compact', 'tiered', 'big', 'steps', 'lost')
 
 
 def entry_document(entry):

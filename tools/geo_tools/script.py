@@ -22,8 +22,8 @@ class Script:
     what goes on from a state the lines that declare stand above the first line of a file.
     """
 
-    # the command that tells its steps
-    command, is_script = 'steps', True
+    # the command that tells its steps, and the one that tells what is lost if a cluster goes
+    command, losing, is_script = 'steps', 'lost %s numbers', True
 
     def __init__(self, raw, above=0):
         self.raw = raw
@@ -80,6 +80,10 @@ class Script:
         """The script of the first `count` events."""
         return self.raw[:self.events[count - 1].end if count else self.begin]
 
+    def up_to(self, _, end):
+        """What is given, as far as this offset of its script."""
+        return self.raw[:end]
+
     def subscription(self, client, done):
         """The name of the subscription of a client that has done so many of its lines; None where it has none in force."""
         return in_force(self.does.get(client, [])[:done])
@@ -88,14 +92,18 @@ class Script:
 class Behind:
     """A state with the events that go on from it, which have its names."""
 
-    command, is_script = 'steps from', False
+    command, losing, is_script = 'steps from', 'lost %s from', False
 
     def __init__(self, state, events):
-        self.raw, self.events = state + events, events
+        self.raw, self.state, self.events = state + events, state, events
 
     def known(self, declared):
         """The events as a script, below what the state declares; their lines count from 1."""
         return Script('\n'.join(declared + ['']).encode() + self.events, len(declared))
+
+    def up_to(self, script, end):
+        """The state with the events as far as this offset of their script."""
+        return self.state + script.raw[len(script.raw) - len(self.events):end]
 
 
 def in_force(lines, name=None):

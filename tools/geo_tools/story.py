@@ -24,6 +24,7 @@ from . import command, steps as m
 from .acts import Act, acts_of, own_names
 from .changes import folded_changes
 from .idle import Idle
+from .measures import Measures, by_names, chosen, is_head, rows_of
 from .progress import silent
 
 # an event's words take at most this many columns before what it did
@@ -131,10 +132,10 @@ def row(number, width, left, right):
 
 
 class Lines:
-    """The lines of a story: numbers, words and effects in columns."""
+    """The lines of a story: numbers, words and effects in columns; under a row that is measured what is lost there."""
 
-    def __init__(self, script, teller, nodes, packets):
-        self.script, self.teller, self.packets = script, teller, packets
+    def __init__(self, script, teller, nodes, packets, measures):
+        self.script, self.teller, self.packets, self.measures = script, teller, packets, measures
         self.width = len(str(max([node.line for node in nodes] + [event.line for event in script.events[-1:]] + [0])))
         acts = [node for node in nodes if isinstance(node, Act)]
         words = [' '.join(moment.event.words) for act in acts if not act.own for moment in act.moments]
@@ -150,12 +151,15 @@ class Lines:
             yield from ('# ' + line for line in node.lines)
         elif node.own:
             yield from self.own(node)
+            yield from self.measured(node.line, True)
         elif node.facts and not node.moments:
             yield row(node.line, self.width, '# ' + node.text, None)
+            yield from self.measured(node.line, False)
         else:
             for moment in node.moments:
                 yield from self.told(moment.event.line, ' '.join(moment.event.words), self.teller.effects(moment))
                 yield from self.inside(moment)
+                yield from self.measured(moment.event.line, False)
 
     def own(self, act):
         """A line of a drill, folded or with its events."""
@@ -167,6 +171,12 @@ class Lines:
         for moment in act.moments:
             yield from self.told('', UNDER + ' '.join(moment.event.words), self.teller.effects(moment))
             yield from self.inside(moment)
+
+    def measured(self, line, is_own):
+        """What is lost if a region goes behind a row."""
+        for measure in self.measures.get((line, is_own), ()):
+            for text in measure.lines:
+                yield row('', self.width, UNDER * (1 if is_head(text) else 2) + by_names(text, self.teller.name), None)
 
     def inside(self, moment):
         """The events of a settle."""
@@ -203,11 +213,18 @@ def closing(teller, nodes, whole):
     yield whole.text.split('\n', 1)[0]
 
 
-def story(run, teller, packets=False, tell=silent):
-    """The lines of a story."""
+def measured(run, given, program, numbers, tell=silent):
+    """The measures of the rows of these numbers, by row."""
+    measures = Measures(given, program, tell)
+    measures.take(run, chosen(run.script, list(rows_of(run, acts_of(run.script, run.moments)[0], True)), numbers))
+    return measures.of
+
+
+def story(run, teller, packets=False, tell=silent, measures=None):
+    """The lines of a story; `measures` are those of its rows."""
     script = run.script
     nodes, _ = acts_of(script, run.moments)
-    lines = Lines(script, teller, nodes, packets)
+    lines = Lines(script, teller, nodes, packets, measures or {})
     if len(run.moments) < len(script.events):
         yield '# %d of %d lines of events are shown' % (len(run.moments), len(script.events))
     if not run.left_out and (run.moments or not script.events):
@@ -228,14 +245,21 @@ def record_of(teller, moment):
             'events': [record_of(teller, event) for event in moment.inside]}
 
 
-def records(run, teller):
+def measures_of(measures, node):
+    """The measures of an act's rows, as records; nothing where none was asked for."""
+    keys = [(node.line, True)] if node.own else [(moment.event.line, False) for moment in node.moments] or [(node.line, False)]
+    found = [{'line': key[0], 'region': it.cluster, 'lines': it.lines} for key in keys for it in measures.get(key, ())]
+    return {'measures': found} if found else {}
+
+
+def records(run, teller, measures=None):
     """A story as one document: its headings, its lines with their events, and its counts."""
     nodes, _ = acts_of(run.script, run.moments)
     told = []
     for node in nodes:
         if isinstance(node, Act):
             told.append({'line': node.line, 'words': node.text, 'own': node.own, 'seen': node.seen, 'effects': teller.folded(node.moments) if node.moments else [],
-                         'events': [record_of(teller, moment) for moment in node.moments]})
+                         'events': [record_of(teller, moment) for moment in node.moments], **measures_of(measures or {}, node)})
         else:
             told.append({'line': node.line, 'heading': node.text})
     whole = run.whole
@@ -251,9 +275,10 @@ def main(words):
     def show(given, _, program, tell):
         run = m.run(given, program, words.first, words.last, tell)
         teller = Teller(run.script, program if given.is_script else None)
+        measures = measured(run, given, program, words.at, tell)
         if words.json:
-            print(json.dumps(records(run, teller), indent=1))
+            print(json.dumps(records(run, teller, measures), indent=1))
             return
-        for line in story(run, teller, words.packets, tell):
+        for line in story(run, teller, words.packets, tell, measures):
             print(line)
     return command.shown(show, parser, words)

@@ -29,6 +29,7 @@ class Bash(unittest.TestCase):
 
     def test_bash(self):
         self.assertEqual(self.offered('./geo', 'com'), ['compact', 'completion'])
+        self.assertEqual(self.offered('./geo', 'lo'), ['lost'])
         self.assertEqual(self.offered('./geo', '--j'), ['--json'])
         self.assertEqual(self.offered('./geo', 'help', 's'), ['save', 'steps', 'show', 'story'])
         self.assertEqual(self.offered('./geo', 'completion', ''), ['bash', 'zsh'])

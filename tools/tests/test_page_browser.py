@@ -436,6 +436,26 @@ class PageTest(unittest.TestCase):
         self.assertEqual(['read orders east west', 'take orders east west good', 'receipt orders east west good'] * 3, words)
         self.assertEqual(0, self.ask('[...document.querySelectorAll("#%s > summary .a")].filter(shown).length' % row))
 
+    def test_what_is_lost_opens_below_its_row(self):
+        """Where a region is lost: by a click, also without the page's script."""
+        for scripts in (True, False):
+            self.open('region_lost')
+            self.browser.scripts(scripts)
+            self.browser.open(pages().page('region_lost')[0])
+            self.assertEqual(1, self.count('.run .ms'))
+            row = self.ask('document.querySelector(".run .ms").previousElementSibling.id')
+            self.assertEqual('lose east', self.ask('document.querySelector("#%s .tx").firstChild.data.trim()' % row))
+            self.assertIn('missing at west 1; again sub billing at west 2', self.ask('document.querySelector(".ms > summary").textContent'))
+            lines = 'document.querySelector(".ms > pre").checkVisibility({ contentVisibilityAuto: true })'
+            self.assertFalse(self.ask(lines))
+            self.browser.click('.ms > summary')
+            self.assertTrue(self.ask(lines))
+            self.assertIn('backlog sub billing at west 3', self.ask('document.querySelector(".ms > pre").textContent'))
+            # it stands below its row, and above the lanes
+            self.assertTrue(self.ask('(() => { const e = document.querySelector(".ms > pre").getBoundingClientRect(); '
+                                     'return !!document.elementFromPoint(e.left + 70, e.top + e.height / 2).closest(".ms"); })()'))
+        self.browser.scripts(True)
+
     def test_the_first_screen_is_the_drill(self):
         for name in ('region_lost', 'five', 'again_3'):
             self.open(name)

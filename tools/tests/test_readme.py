@@ -8,7 +8,7 @@ from geo_tools.program import ROOT, built_program
 
 # a line of a page for lines that it leaves out
 LEFT_OUT = '..'
-PAGES = ('README.md', 'docs/REPORT.md', 'docs/AUDIT.md', 'docs/SCRIPT.md', 'docs/STEPS.md')
+PAGES = ('README.md', 'docs/REPORT.md', 'docs/AUDIT.md', 'docs/SCRIPT.md', 'docs/STEPS.md', 'docs/LOST.md')
 
 
 def blocks(text):

@@ -86,6 +86,38 @@ class Files(unittest.TestCase):
         self.assertEqual(status, USAGE)
         self.assertIn('steps big NUMBER', said)
 
+    def test_what_is_lost(self):
+        """Of a script, of standard input, by numbers, and of a state with its events; the words behind the cluster are no files."""
+        script, lines = content('drills/behind_lost.geo'), content('answers/lost.txt').split('== lost east < drills/behind_lost.geo to 115\nstatus 0\n')[1]
+        script, wanted = ''.join(script.splitlines(keepends=True)[:115]), lines.split('\n\n')[0] + '\n'
+        numbers = ''.join(line for line in wanted.splitlines(keepends=True) if not line.startswith('  '))
+        with tempfile.TemporaryDirectory() as folder:
+            for name, text in (('numbers', script), ('from', script), ('events', 'settle\n'), ('wrong', 'settle\nstops\n')):
+                with open(os.path.join(folder, name), 'w', encoding='utf-8') as file:
+                    file.write(text)
+            file, state, events, wrong = (os.path.join(folder, name) for name in ('numbers', 'state', 'events', 'wrong'))
+            self.assertEqual(asked('lost', 'east', file), (0, wanted, ''))
+            self.assertEqual(asked('lost', 'east', given=script), (0, wanted, ''))
+            self.assertEqual(asked('lost', 'east', 'numbers', file), (0, numbers, ''))
+            self.assertEqual(asked('lost', 'east', 'numbers', given=script), (0, numbers, ''))
+            with open(state, 'wb') as out:
+                subprocess.run([built_program(), 'save'], input=script.encode(), stdout=out, check=True)
+            self.assertEqual(asked('lost', 'east', 'from', state), (0, wanted, ''))
+            self.assertIn('\nlost 0\n', asked('lost', 'east', 'from', state, events)[1])
+            status, out, said = asked('lost', 'east', 'from', state, wrong)
+            self.assertEqual((status, out), (BAD_SCRIPT, 'bad script line 2 rule 3\n'))
+            self.assertIn('(behind the state):2:1', said)
+            status, out, said = asked('lost', 'eats', 'from', state, events)
+            self.assertEqual((status, out), (BAD_SCRIPT, 'bad script line 2 rule 15\n'))
+            self.assertIn('eats, of which lost is asked, is no cluster of the script (did you mean east?)', said)
+            status, out, said = asked('lost', 'nowhere', file)
+            self.assertEqual((status, out), (BAD_SCRIPT, 'bad script line 116 rule 15\n'))
+            self.assertIn('nowhere, of which lost is asked, is no cluster of the script; declared: east, west', said)
+        for words in (('lost',), ('lost', 'east', 'names', ONE), ('lost', 'east', 'numbers', ONE, ONE)):
+            status, out, said = asked(*words)
+            self.assertEqual(status, USAGE, words)
+            self.assertIn('geo lost CLUSTER numbers FILE', said)
+
     def test_what_cannot_be_read(self):
         status, out, said = asked('run', 'nowhere.geo')
         self.assertEqual((status, out, said), (NO_FILE, '', "geo: nowhere.geo can't be read\n"))

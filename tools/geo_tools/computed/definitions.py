@@ -3,16 +3,11 @@
 A run is a script NAME.geo with its report NAME.report beside it, and NAME.bytes (the bytes of all frames sent) where that is
 known. From these a module of proofs is written whose statements hold by computation alone: the machine's report of the run
 over the script's schedule is the report, line by line, and the frames have these bytes. Nothing is typed by hand.
-
-usage: geo_tools definitions write OUT NAME.geo ..   writes OUT/Run_NAME.antt for each script
-       geo_tools definitions check NAME.geo ..       computes the runs in a copy of the crate, and says which agree
-       geo_tools definitions traces NAME.geo ..      the same of the traces that ./geo trace writes of the scripts: the definitions' lines
 """
 import os
 import re
 import shutil
 import subprocess
-import sys
 import tempfile
 import time
 
@@ -59,14 +54,17 @@ def items(parts):
 class Script:
     """The declarations and the schedule of a script that is known to be accepted."""
 
-    def __init__(self, path):
+    def __init__(self, text):
         self.per_ledger = 50000
         self.clusters, self.topics, self.clients, self.events = [], [], [], []
         self.at, self.lines, self.subs = {}, {}, {}
-        with open(path) as file:
-            for line in file.read().split('\n'):
-                if line and not line.startswith('#'):
-                    self.read(line, line.split(' '))
+        # the number of the line of the first event, where there is one
+        self.first_event = None
+        for number, line in enumerate(text.split('\n'), 1):
+            if line and not line.startswith('#'):
+                self.read(line, line.split(' '))
+                if self.events and self.first_event is None:
+                    self.first_event = number
         for client in self.clients:
             subs = self.subs.setdefault(self.at[client][0], [])
             for words, _ in self.lines[client]:
@@ -168,21 +166,27 @@ def trace_of(path):
     return lines[lines.index('trace'):]
 
 
+def as_definitions(script, shown):
+    """The definitions that a run is computed from: what is declared, the schedule, and the lines that it is to have."""
+    out = ['setup : Setup', 'setup = record {', '  per_ledger = %d;' % script.per_ledger]
+    out += ['  clusters = %s;' % items([text(name) for name in script.clusters])]
+    out += ['  topics = %s;' % items([text(name) for name in script.topics]), '  clients =']
+    out += ['    ' + script.declared(client) for client in script.clients] + ['    [];', '}', '']
+    out += ['schedule : List Step', 'schedule ='] + ['    %s ∷' % script.step(words) for words in script.events] + ['    []', '']
+    return out + ['shown : List (List ℕ)', 'shown ='] + ['    %s ∷' % text(line) for line in shown] + ['    []', '']
+
+
 def module(path, as_test=False, as_trace=False):
     """The text of the proof module of a script."""
-    script, base = Script(path), path[:-len('.geo')]
+    base = path[:-len('.geo')]
+    with open(path) as file:
+        script = Script(file.read())
     if as_trace:
         report = trace_of(path)
     else:
         with open(base + '.report') as file:
             report = file.read().split('\n')[:-1]
-    out = [TEST] if as_test else []
-    out += ['setup : Setup', 'setup = record {', '  per_ledger = %d;' % script.per_ledger]
-    out += ['  clusters = %s;' % items([text(name) for name in script.clusters])]
-    out += ['  topics = %s;' % items([text(name) for name in script.topics]), '  clients =']
-    out += ['    ' + script.declared(client) for client in script.clients] + ['    [];', '}', '']
-    out += ['schedule : List Step', 'schedule ='] + ['    %s ∷' % script.step(words) for words in script.events] + ['    []', '']
-    out += ['shown : List (List ℕ)', 'shown ='] + ['    %s ∷' % text(line) for line in report] + ['    []', '']
+    out = ([TEST] if as_test else []) + as_definitions(script, report)
     report = 'trace_lines setup (traced all_limits setup schedule)' if as_trace else 'report_lines setup (run setup schedule)'
     equal = 'same_lines (%s) shown ≡ true' % report if as_test else report + ' ≡ shown'
     unfolded = UNFOLDED + (' item_line event_items halt_items step_items' if as_trace else ' report_lines') + (' same_lines' if as_test else '')
@@ -213,8 +217,13 @@ def used(imports, body):
     return '\n'.join(kept) + '\n'
 
 
+def run_of(path):
+    """What a run is called."""
+    return os.path.splitext(os.path.basename(path))[0]
+
+
 def name_of(path):
-    return 'Run_' + os.path.basename(path)[:-len('.geo')]
+    return 'Run_' + run_of(path)
 
 
 def write(out, paths, as_test=False, as_trace=False):
@@ -223,15 +232,21 @@ def write(out, paths, as_test=False, as_trace=False):
             file.write(module(path, as_test, as_trace))
 
 
-def copy_of_crate(where, paths, as_test=False, as_trace=False):
-    """A copy of the repository's lowest crate with these runs in place of its own; gives its folder."""
-    crate = os.path.join(where, 'crates', 'geo_base')
-    shutil.copytree(os.path.join(ROOT, 'crates', 'geo_base'), crate, symlinks=True)
+def copy_of_crates(where, names):
+    """A copy of crates of the repository, with their rows of crates.txt."""
+    for name in names:
+        shutil.copytree(os.path.join(ROOT, 'crates', name), os.path.join(where, 'crates', name), symlinks=True)
     shutil.copy(os.path.join(ROOT, 'HANDLES'), where)
     with open(os.path.join(ROOT, 'crates.txt'), encoding='utf-8') as file:
-        row = [line for line in file if line.startswith('geo_base:') or line.strip() == 'geo_base']
+        rows = [line for line in file if line.split(':')[0].split()[:1] in [[name] for name in names]]
     with open(os.path.join(where, 'crates.txt'), 'w', encoding='utf-8') as file:
-        file.writelines(row)
+        file.writelines(rows)
+
+
+def copy_of_crate(where, paths, as_test=False, as_trace=False):
+    """A copy of the repository's lowest crate with these runs in place of its own; gives its folder."""
+    copy_of_crates(where, ['geo_base'])
+    crate = os.path.join(where, 'crates', 'geo_base')
     proofs = os.path.join(crate, 'proofs')
     for old in os.listdir(proofs):
         if old.startswith('Run_'):
@@ -242,6 +257,11 @@ def copy_of_crate(where, paths, as_test=False, as_trace=False):
     with open(os.path.join(proofs, 'Lib.antt'), 'w') as file:
         file.write('\n'.join(kept + ['mod ' + name_of(path) for path in paths]) + '\n')
     return crate
+
+
+def copy_for_traces(where, paths):
+    """The same, where each run is to have the trace that the program writes of it."""
+    return copy_of_crate(where, paths, as_test=True, as_trace=True)
 
 
 NO_CHECKER = 'rt, the command of the Rattle kit, is not in the path'
@@ -278,16 +298,16 @@ REFUSED, NOT_COMPUTED = 1, 2
 SHOWN = 20
 
 
-def verdicts(paths, as_trace=False):
-    """What becomes of each run, and what the checker said last.
+def verdicts(paths, copied=copy_of_crate):
+    """What becomes of each run, and what the checker said last; `copied` makes a crate of them in a folder.
 
     Of those that stand beside a run that is refused nothing is known, so they are computed again without it.
     """
     said, left = {path: 'not computed' for path in paths}, list(paths)
     while left:
         with tempfile.TemporaryDirectory() as where:
-            verdict = checked(copy_of_crate(where, left, as_trace, as_trace))
-        refused = [path for path in left if os.path.basename(path)[:-len('.geo')] in verdict.runs]
+            verdict = checked(copied(where, left))
+        refused = [path for path in left if run_of(path) in verdict.runs]
         if verdict.is_proved:
             said.update(dict.fromkeys(left, 'agrees'))
         if verdict.is_proved or verdict.other or not refused:
@@ -297,24 +317,14 @@ def verdicts(paths, as_trace=False):
     return said, verdict
 
 
-def check(paths, as_trace=False):
+def check(paths, copied=copy_of_crate):
     """Computes runs, and says which agree; gives the status."""
     began = time.time()
-    said, verdict = verdicts(paths, as_trace)
+    said, verdict = verdicts(paths, copied)
     for path, word in said.items():
-        print('%s %s' % (word, os.path.basename(path)[:-len('.geo')]))
+        print('%s %s' % (word, run_of(path)))
     if 'not computed' in said.values():
         print('\n'.join(verdict.said[-SHOWN:]))
     count = {word: list(said.values()).count(word) for word in ('agrees', 'REFUSED', 'not computed')}
     print('%d runs: %d agree, %d refused, %d not computed, %.0f seconds' % (len(paths), *count.values(), time.time() - began))
     return REFUSED if count['REFUSED'] else NOT_COMPUTED if count['not computed'] else 0
-
-
-def main(words):
-    if len(words) > 2 and words[0] == 'write':
-        write(words[1], words[2:])
-        return 0
-    if len(words) > 1 and words[0] in ('check', 'traces'):
-        return check(words[1:], as_trace=words[0] == 'traces')
-    print(__doc__, file=sys.stderr)
-    return 2

@@ -10,22 +10,29 @@ import argparse
 
 from .. import command, steps
 from ..acts import Act, acts_of, facts_of, own_names
+from ..measures import Measures, by_names, chosen, counts, rows_of
 from ..progress import silent
 from ..steps import Got, Stored
 from ..story import Teller, counted
 from .cursors import Cursors, appended
 from .lanes import Standing
 from .messages import PIECE, Receipts, fates, head, legend, row
-from .rows import MOST_WHOLE, ROWS, STANDING, Pieces, Rows, Stretches, pieces_of_rows
+from .rows import LINE, MOST_WHOLE, PAD, ROWS, STANDING, Pieces, Rows, Stretches, pieces_of_rows
 from .signs import Columns, Signs, hidden, safe, text_labels
 from .style import chooser_rules, column_rules, key, open_topics, script_text, style_text
 
 
-class Page:
-    """What is drawn of a run, and what it is drawn with: the lines of its trace, None where there is none, and who tells an event."""
+# of a run all is shown, and no row is measured but those at which a region goes
+SHOWN = argparse.Namespace(first=1, last=None, at=())
 
-    def __init__(self, run, trace, teller, tell):
+
+class Page:
+    """What is drawn of a run, and what it is drawn with: the lines of its trace, None where there is none, who tells an event, and the
+    measures of rows, None where none are taken."""
+
+    def __init__(self, run, trace, teller, tell, measures=None):
         self.script, self.moments, self.whole, self.teller, self.tell, self.run = run.script, run.moments, run.whole, teller, tell, run
+        self.measures = measures
         script = run.script
         self.names = own_names(script)
         self.columns = Columns(script, self.names)
@@ -137,13 +144,27 @@ def protocol(page, nodes, rows, stretches):
         counted(lines, 'line'), counted(events, 'event'), safe(', '.join(list(names)[:6])), stretches.of(rows))
 
 
+def measured(page, node, row):
+    """The row of a heading or an act, and folded below it what is lost if a region goes behind it."""
+    found = page.measures.of.get((node.line, node.own), ()) if page.measures and isinstance(node, Act) else ()
+    told = ''.join(fold(page, measure) for measure in found)
+    return row._replace(text=row.text + told, height=row.height + len(found) * (LINE + PAD)) if told else row
+
+
+def fold(page, measure):
+    """What is lost if a region goes: what counts, and behind it every line."""
+    lines = [by_names(line, page.name) for line in measure.lines]
+    return '<details class="ms"><summary><span>If %s goes here: %s</span></summary><pre>%s</pre></details>' % (
+        safe(page.name(measure.cluster)), safe('; '.join(counts(lines)) or 'all numbers are 0'), '\n'.join(map(safe, lines)))
+
+
 def drawing(page):
     """The rows."""
     columns = page.columns
     signs = Signs(columns, Cursors(page.trace), text_labels(columns, page.moments), page.most())
     rows = []
-    for row in Rows(page.script, signs, page.standing(), page.pieces, page.teller).made(page.nodes, page.run.places):
-        rows.append(row)
+    for node, row in zip(page.nodes, Rows(page.script, signs, page.standing(), page.pieces, page.teller).made(page.nodes, page.run.places)):
+        rows.append(measured(page, node, row))
         page.tell('drawing rows', len(rows), len(page.nodes))
     stretches = Stretches(columns)
     begin = first_message(page.nodes)
@@ -202,6 +223,8 @@ def summary(page):
     if len(page.moments) < len(script.events):
         yield '<p><b>%d of %d lines of events are shown</b>, from line %s on.</p>' % (
             len(page.moments), len(script.events), page.moments[0].event.line if page.moments else '\u2013')
+    if page.measures and page.measures.left_out:
+        yield '<p>What is lost if a region goes is not told at %s where one goes: <code>--at ROW</code> says it.</p>' % counted(page.measures.left_out, 'row')
 
 
 def tools_bar():
@@ -212,9 +235,9 @@ def tools_bar():
             '<kbd>/</kbd> find, <kbd>n</kbd> next one found</span></div>')
 
 
-def drawn(name, run, trace, teller, tell=silent):
+def drawn(name, run, trace, teller, tell=silent, measures=None):
     """The page, part by part."""
-    page = Page(run, trace, teller, tell)
+    page = Page(run, trace, teller, tell, measures)
     yield '<!DOCTYPE html>\n<html lang="en"><head><meta charset="utf-8"><meta name="viewport" content="width=device-width, initial-scale=1">'
     yield '<title>%s</title><style>%s%s%s</style></head><body>' % (safe(name), style_text(page.columns), column_rules(page.columns), chooser_rules(page.columns))
     yield '<header><h1>%s</h1>' % safe(name)
@@ -235,12 +258,21 @@ def drawn(name, run, trace, teller, tell=silent):
     yield '<script>%s</script></body></html>' % script_text()
 
 
-def page_of(name, given, program, first=1, last=None, tell=silent):
-    """The lines of the page of a script, or of a state with what goes on from it: of a run that tells its steps, and one that tells its
-    trace, where it is a script's."""
-    run = steps.run(given, program, first, last, tell)
+def measures_of(run, given, program, numbers, tell=silent):
+    """The measures of the rows of these numbers, and of those at which a region goes."""
+    measures, found = Measures(given, program, tell), list(rows_of(run, acts_of(run.script, run.moments)[0], False))
+    measures.take(run, chosen(run.script, found, numbers))
+    measures.take_going(run, found)
+    return measures
+
+
+def page_of(name, given, program, words=SHOWN, tell=silent):
+    """The lines of the page of a script, or of a state with what goes on from it: of a run that tells its steps, one that tells its trace,
+    where it is a script's, and one for each row that is measured. `words` say which lines of events are shown, and which rows are measured."""
+    run = steps.run(given, program, words.first, words.last, tell)
+    measures = measures_of(run, given, program, words.at, tell)
     trace = list(program.lines('trace', given.raw, tell)) if given.is_script else None
-    yield from drawn(name, run, trace, Teller(run.script, program if given.is_script else None), tell)
+    yield from drawn(name, run, trace, Teller(run.script, program if given.is_script else None), tell, measures)
 
 
 def main(words):
@@ -248,6 +280,6 @@ def main(words):
     words = parser.parse_args(words)
 
     def show(given, name, program, tell):
-        for part in page_of(name, given, program, words.first, words.last, tell):
+        for part in page_of(name, given, program, words, tell):
             print(part)
     return command.shown(show, parser, words)

@@ -16,12 +16,14 @@ from . import audits, rules, scripts, states
 from .forms import near
 from .told import Refusal, document, words_of
 
-COMMANDS = {'run': 0, 'live': 2, 'big': 1, 'save': 0, 'resume': 0, 'audit': 0, 'compact': 1, 'tiered': 1, 'trace': 0, 'steps': 0}
+COMMANDS = {'run': 0, 'live': 2, 'big': 1, 'save': 0, 'resume': 0, 'audit': 0, 'compact': 1, 'tiered': 1, 'trace': 0, 'steps': 0, 'lost': 1}
 # the word that may stand behind audit, so that it judges gaps as well
 WHOLE = 'whole'
 TOOLS = ('drill', 'story', 'page', 'why', 'check', 'help')
 # what goes on from a state as resume does
 STEPS_FROM = ['steps', 'from']
+# what the words of `lost` may be
+LOST = 'geo lost CLUSTER FILE, geo lost CLUSTER numbers FILE, or geo lost CLUSTER from STATE EVENTS'
 # what the words of `steps` may be
 STEPS = 'geo steps FILE, geo steps from FILE, or geo steps big NUMBER; NUMBER is 0 to 4294967295'
 TOO_LARGE = {
@@ -43,6 +45,8 @@ def of_words(words, usage=''):
         return Refusal(file='geo', said='%s is no command' % first, near=near(first.lower(), [*COMMANDS, *TOOLS]), expected='./geo help lists the commands')
     if first == 'steps':
         return Refusal(file='geo', said='steps does not take %s' % ' '.join(words[1:]), expected=STEPS)
+    if first == 'lost':
+        return Refusal(file='geo', said='lost does not take %s' % ' '.join(words[1:]) if words[1:] else 'lost takes the cluster that goes', expected=LOST)
     shown = {'live': 'live WORKERS TURNS', 'big': 'big NUMBER', 'compact': 'compact HORIZON', 'tiered': 'tiered KEEP'}.get(first, first)
     ranges = {'live': 'WORKERS is 1 to 64, and WORKERS times TURNS 2000000 at most', 'big': 'NUMBER is 0 to 4294967295',
               'compact': 'HORIZON is 0 to 2000000, or end', 'tiered': 'KEEP is 0 to 1000000'}.get(first)
@@ -58,10 +62,11 @@ def of_words(words, usage=''):
 
 def of_script(raw, name, line, rule, command):
     """The refusal of a line of a script, of the declarations of a trace, or of what stands behind a state."""
-    state = states.split(raw) if command[:1] == ['resume'] or command[:2] == STEPS_FROM else None
+    state = states.split(raw) if goes_on(command) else None
     if state:
         declared, events = state
-        told = scripts.told(scripts.Script(events, declared), name + ' (behind the state)', line, rule)
+        script = scripts.Script(events, declared)
+        told = of_lost(script, name, command) if is_lost(script, line, rule, command) else scripts.told(script, name + ' (behind the state)', line, rule)
         if rule in (3, 6) and told.text is not None and told.text.startswith('GEOSTATE'):
             return told._replace(said='a second state stands here: %s goes on from one' % ' '.join(command))
         return told
@@ -70,7 +75,26 @@ def of_script(raw, name, line, rule, command):
         raw = head[0] + b'\n' if len(head) > 1 else raw
     if states.is_state(raw):
         return Refusal(file=name, line=line, said='this is a state file, not a script: ./geo resume goes on from it', rule_of='script', rule=rule)
-    return scripts.told(scripts.Script(raw), name, line, rule)
+    script = scripts.Script(raw)
+    return of_lost(script, name, command) if is_lost(script, line, rule, command) else scripts.told(script, name, line, rule)
+
+
+def goes_on(command):
+    """Whether a command reads a state with events behind it."""
+    return command[:1] == ['resume'] or command[:2] == STEPS_FROM or (command[:1] == ['lost'] and command[2:] == ['from'])
+
+
+def is_lost(script, line, rule, command):
+    """Whether it is the command's own cluster that is refused: no line of the script names it."""
+    return rule == 15 and command[:1] == ['lost'] and script.line(line) is None
+
+
+def of_lost(script, name, command):
+    """The refusal of a cluster that is not declared."""
+    known = script.declared('cluster', len(script.lines) + 1)
+    like = near(command[1].lower(), known)
+    said = '%s, of which lost is asked, is no cluster of the script%s' % (command[1], '' if like else '; declared: ' + ', '.join(known))
+    return Refusal(file=name, said=said, near=like, rule_of='script', rule=15)
 
 
 def of_audit(raw, name, event, rule, command=('audit',)):

@@ -88,8 +88,11 @@ class Case:
     def __init__(self, name, line):
         words, _, given = line.partition(' < ')
         self.name, self.words = name, words
+        given, _, to = given.partition(' to ')
         self.saved, self.file = given.startswith('save '), given.rpartition(' ')[2]
         self.given = entire(self.file) if given else b''
+        if to:
+            self.given = b''.join(self.given.splitlines(keepends=True)[:int(to)])
         self.behind, self.left_out, self.answer = b'', None, b''
 
     def add(self, line):
@@ -125,20 +128,22 @@ def entire(path):
         return file.read()
 
 
+def answers_in(file):
+    """The cases of a file of answers/, which is named without its ending, each named by the line that it begins with."""
+    cases = []
+    for number, line in enumerate(entire('answers/%s.txt' % file).split(b'\n'), 1):
+        if line.startswith(HEADING):
+            cases.append(Case('answers/%s/%d' % (file, number), line[len(HEADING):].decode()))
+        elif line and not line.startswith(b'#'):
+            cases[-1].add(line)
+    return cases
+
+
 def asked():
     """The cases of answers/*.txt, each as its name with the command's words, its input and what is answered."""
     for file in sorted(os.listdir(os.path.join(ROOT, 'answers'))):
-        if not file.endswith('.txt'):
-            continue
-        case = None
-        for number, line in enumerate(entire('answers/' + file).split(b'\n'), 1):
-            if line.startswith(HEADING):
-                if case:
-                    yield case.section()
-                case = Case('answers/%s/%d' % (file[:-len('.txt')], number), line[len(HEADING):].decode())
-            elif line and not line.startswith(b'#'):
-                case.add(line)
-        yield case.section()
+        if file.endswith('.txt'):
+            yield from (case.section() for case in answers_in(file[:-len('.txt')]))
 
 
 def told():
