@@ -48,7 +48,7 @@ class Heads(unittest.TestCase):
         self.assertEqual(found['law_once'], ['always'])
         self.assertIn('law_prefix', found)
         own = [name for path in pages.files_below(ROOT + '/crates/dispatcher/src', '.rt') for name, _, _ in pages.functions(path)]
-        self.assertIn('Dispatcher::least_due', own)
+        self.assertIn('Dispatcher::choice', own)
 
     def test_functions_have_docs(self):
         for crate, _ in pages.crates():

@@ -1,20 +1,28 @@
 -- What ACK makes of the indexes that it names.
-use Rattle.std.proofs.Common.{◌≡◌, ℕ, ◌+◌, ◌<◌, Bool, true, List, [], ◌∷◌, ◌++◌, length, refl, sym, ◌∙◌, ap, subst, arith}
-use Rattle.std.specs.Prelude.{if◌then◌else◌, Option, Some, None, IfSome}
+use Rattle.std.proofs.Common.{◌≡◌, ℕ, ◌+◌, ◌<◌, Bool, true, false, List, [], ◌∷◌, ◌++◌, length, refl, sym, ◌∙◌, ap, subst, arith}
+use Rattle.std.specs.Prelude.{if◌then◌else◌, Option, Some, None, IfSome, Result, Ok, Err, is_err}
 use Rattle.std.specs.List.{All}
 use Rattle.std.proofs.lemmas.List.Elements.{All-push}
+use Rattle.std.proofs.lemmas.Option.{none-some, same_Some}
 use Rattle.std.proofs.lemmas.List.FromFn.{length-range_with_len}
 use Rattle.geo_base.specs.declared.change.Change.TheVariants as change
 use Rattle.geo_base.specs.declared.entry.Entry.{Entry}
 use Rattle.geo_base.specs.declared.write.Write.{Write}
 use Rattle.geo_base.specs.declared.write.Write.TheVariants as write
-use Rattle.geo_base.specs.Acknowledging.{acks, up_to}
+use Rattle.geo_base.specs.declared.frame.AckKind.{AckKind}
+use Rattle.geo_base.specs.declared.frame.AckKind.TheVariants as ack_kind
+use Rattle.geo_base.specs.declared.position.Position.{Position}
+use Rattle.geo_base.specs.Acknowledging.{acked_indexes, acks, allows_cumulative, cumulative_indexes, up_to}
 use Rattle.geo_base.specs.Broker.{Broker, Site}
 use Rattle.geo_base.specs.Cursor.{below}
 use Rattle.geo_base.specs.Name.{is_name}
 use Rattle.geo_base.specs.Plan.{plan_of, quiet_plan}
 use Rattle.geo_base.specs.Storing.{cursor_write}
-use Rattle.geo_base.specs.Subscription.{Subscription}
+use Rattle.geo_base.specs.Subscribing.{consumed_by}
+use Rattle.geo_base.specs.Subscription.{Subscription, has_consumer}
+use Rattle.dispatcher.specs.declared.fault.AckFault.{AckFault}
+use Rattle.dispatcher.specs.declared.fault.AckFault.TheVariants as ack_fault
+use Rattle.dispatcher.specs.Acks.{ack_answer, kind_answer}
 use Rattle.broker_subs.specs.Steps.{SubWriteFits, machine_sub_write}
 use Rattle.broker_subs.specs.Table.{names_of, sub_at}
 use Rattle.broker_subs.specs.declared.changing.SubChange.TheVariants as sub_change
@@ -56,8 +64,54 @@ writes_to es s i within = some_of es s (below (i + 1)) (sub_write.AckTo i) (omeg
 pub to_some : (es : List Entry) (s : Subscription) (o : Option ℕ) (i : ℕ) → o ≡ Some i → IfSome o (λ j. j < length es) → WritesAcks es s (up_to o) (Some (sub_write.AckTo i))
 to_some es s o i is h = subst (λ (x : Option ℕ). IfSome x (λ j. j < length es) → WritesAcks es s (up_to x) (Some (sub_write.AckTo i))) (sym is) (λ within. writes_to es s i within) h
 
-pub allowed_some : (es : List Entry) (s : Subscription) (is : List ℕ) (a : Bool) (o : Option SubWrite) → a ≡ true → WritesAcks es s is o → WritesAcks es s (if a then is else []) o
-allowed_some es s is a o allowed writes = rw allowed writes
+-- the subscription that has the consumer which acknowledges
+pub consumed : (ss : List Subscription) (c id : ℕ) (s : Subscription) → consumed_by ss c id ≡ Some s → has_consumer c id s ≡ true
+consumed [] c id s h = absurd (none-some s h)
+consumed (x ∷ xs) c id s h = by (has_consumer c id x) refl h (consumed xs c id s)
+  where
+    by : (t : Bool) → has_consumer c id x ≡ t → (if t then Some x else consumed_by xs c id) ≡ Some s → (consumed_by xs c id ≡ Some s → has_consumer c id s ≡ true) → has_consumer c id s ≡ true
+    by true is e more = subst (λ (u : Subscription). has_consumer c id u ≡ true) (same_Some x s e) is
+    by false is e more = more e
+
+abbrev cumulative_answer : Bool → Result (Unit {0}) AckFault
+cumulative_answer t = if t then Ok tt else Err ack_fault.CumulativeNotAllowed
+
+abbrev answered : Bool → AckKind → Subscription → Result (Unit {0}) AckFault
+answered b asked s = if b then kind_answer asked s else Err ack_fault.ConsumerNotFound
+
+-- what is answered to it, by its kind and the subscription's
+answer_is : (c id : ℕ) (asked : AckKind) (s : Subscription) (r : Result (Unit {0}) AckFault) → has_consumer c id s ≡ true → r ≡ ack_answer c id asked s → r ≡ kind_answer asked s
+answer_is c id asked s r here told = told ∙ ap (λ (t : Bool). answered t asked s) here
+
+-- one that is refused would acknowledge nothing
+none_refused : (ledgers : List ℕ) (ps : List Position) (asked : AckKind) (s : Subscription) → is_err (kind_answer asked s) ≡ true → acked_indexes ledgers s.kind ps asked ≡ []
+none_refused ledgers ps ack_kind.Individual s h = absurd cc
+none_refused ledgers ps ack_kind.Cumulative s h = by (allows_cumulative s.kind) h
+  where
+    by : (t : Bool) → is_err (cumulative_answer t) ≡ true → (if t then cumulative_indexes ledgers ps else []) ≡ []
+    by true e = absurd cc
+    by false e = refl
+
+pub refused_writes : (es : List Entry) (ledgers : List ℕ) (ps : List Position) (c id : ℕ) (asked : AckKind) (s : Subscription) (r : Result (Unit {0}) AckFault) → has_consumer c id s ≡ true
+    → r ≡ ack_answer c id asked s → is_err r ≡ true → WritesAcks es s (acked_indexes ledgers s.kind ps asked) None
+refused_writes es ledgers ps c id asked s r here told err =
+    writes_none es s (acked_indexes ledgers s.kind ps asked) (none_refused ledgers ps asked s (sym (ap is_err (answer_is c id asked s r here told)) ∙ err))
+
+-- one that is not acknowledges what it names
+all_allowed : (ledgers : List ℕ) (ps : List Position) (s : Subscription) → is_err (kind_answer ack_kind.Cumulative s) ≡ false → acked_indexes ledgers s.kind ps ack_kind.Cumulative ≡ cumulative_indexes ledgers ps
+all_allowed ledgers ps s h = by (allows_cumulative s.kind) h
+  where
+    by : (t : Bool) → is_err (cumulative_answer t) ≡ false → (if t then cumulative_indexes ledgers ps else []) ≡ cumulative_indexes ledgers ps
+    by true e = refl
+    by false e = absurd cc
+
+pub allowed_writes : (es : List Entry) (ledgers : List ℕ) (ps : List Position) (c id : ℕ) (asked : AckKind) (s : Subscription) (r : Result (Unit {0}) AckFault) (o : Option SubWrite) → asked ≡ ack_kind.Cumulative
+    → has_consumer c id s ≡ true → r ≡ ack_answer c id asked s → is_err r ≡ false → WritesAcks es s (cumulative_indexes ledgers ps) o → WritesAcks es s (acked_indexes ledgers s.kind ps asked) o
+allowed_writes es ledgers ps c id asked s r o is here told ok writes =
+    let allowed : is_err (kind_answer ack_kind.Cumulative s) ≡ false =
+    sym (ap (λ (a : AckKind). is_err (kind_answer a s)) is) ∙ sym (ap is_err (answer_is c id asked s r here told)) ∙ ok in
+    writes_some es s (cumulative_indexes ledgers ps) (acked_indexes ledgers s.kind ps asked) o writes
+    (sym (ap (λ (a : AckKind). acked_indexes ledgers s.kind ps a) is ∙ all_allowed ledgers ps s allowed))
 
 -- ---- the indexes
 

@@ -17,6 +17,7 @@ use Rattle.geo_base.specs.Broker.{Broker, Site, sub_named}
 use Rattle.geo_base.specs.Name.{is_name}
 use Rattle.geo_base.specs.Subscribing.{altering, has_room, is_busy, joins, same_kind, serve_subscribe, subscribes}
 use Rattle.geo_base.specs.Subscription.{Subscription, is_attached, new_subscription}
+use Rattle.dispatcher.specs.Dispatch.{turns_away}
 use Rattle.broker_subs.specs.SubBook.{SubBook}
 use Rattle.broker_subs.specs.Table.{names_of, room_at, sub_at}
 use Rattle.broker_subs.specs.declared.writing.SubWrite.TheVariants as sub_write
@@ -170,6 +171,24 @@ same_name (x ∷ xs) n s h = by (bytes_eq x.name n) refl h (same_name xs n s)
     by : (t : Bool) → bytes_eq x.name n ≡ t → (if t then Some x else sub_named xs n) ≡ Some s → (sub_named xs n ≡ Some s → s.name ≡ n) → s.name ≡ n
     by true is e more = subst (λ (u : Subscription). u.name ≡ n) (same_Some x s e) ((bytes_eq-Decides x.name n).0 is)
     by false is e more = more e
+
+neither : (a b : Bool) → (a || b) ≡ false → (a ≡ false) × (b ≡ false)
+neither true b h = absurd cc
+neither false b h = (refl, h)
+
+-- a client that has no consumer has none at the subscription of a name
+pub apart_named : (c : ℕ) (ss : List Subscription) (n : List ℕ) (s : Subscription) → list_any (is_attached c) ss ≡ false → sub_named ss n ≡ Some s → is_attached c s ≡ false
+apart_named c [] n s none h = absurd (none-some s h)
+apart_named c (x ∷ xs) n s none h =
+    let apart = neither (is_attached c x) (list_any (is_attached c) xs) none in
+    by (bytes_eq x.name n) h apart.0 (apart_named c xs n s apart.1)
+  where
+    by : (t : Bool) → (if t then Some x else sub_named xs n) ≡ Some s → is_attached c x ≡ false → (sub_named xs n ≡ Some s → is_attached c s ≡ false) → is_attached c s ≡ false
+    by true e apart more = subst (λ (u : Subscription). is_attached c u ≡ false) (same_Some x s e) apart
+    by false e apart more = more e
+
+pub turned_away : (c : ℕ) (kind : SubKind) (s : Subscription) → is_attached c s ≡ false → turns_away c kind s ≡ is_busy kind s
+turned_away c kind s apart = rw apart refl
 
 pub busy_refused : (c : ℕ) (s : Session) (n : List ℕ) (kind : SubKind) (id request : ℕ) (earliest replicated : Bool) (v : Subscription) → is_busy kind v ≡ true
     → refuses c s request consumer_busy ≡ subscribes c s n kind id request earliest replicated (Some v)

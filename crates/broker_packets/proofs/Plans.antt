@@ -1,13 +1,20 @@
 -- Prepared events at the ends of a link, step by step.
-use Rattle.std.proofs.Common.{◌≡◌, ℕ, ◌+◌, ◌<◌, ◌≤◌, [], ◌∷◌, length, refl, arith}
+use Rattle.std.proofs.Common.{◌≡◌, ℕ, ◌+◌, ◌<◌, ◌≤◌, [], ◌∷◌, length, refl, sym, ◌∙◌, ap, subst, arith}
 use Rattle.std.specs.Prelude.{◌^◌, Some}
 use Rattle.std.proofs.lemmas.List.{length-set}
 use Rattle.geo_base.specs.declared.change.Change.TheVariants as change
+use Rattle.geo_base.specs.declared.packet.Packet.{Packet}
 use Rattle.geo_base.specs.declared.write.Write.TheVariants as write
 use Rattle.geo_base.specs.Broker.{Broker, Site, sender_at}
 use Rattle.geo_base.specs.Cursor.{with_index}
-use Rattle.geo_base.specs.Forwarding.{receives}
-use Rattle.geo_base.specs.Plan.{idle_plan, plan_of, quiet_plan}
+use Rattle.geo_base.specs.Forwarding.{receipt_packet, receives}
+use Rattle.geo_base.specs.Plan.{Plan, idle_plan, plan_of, quiet_plan}
+use Rattle.replicator.specs.declared.answering.Heard.{Heard}
+use Rattle.replicator.specs.declared.answering.Heard.TheVariants as means
+use Rattle.replicator.specs.Answering.{heard}
+use Rattle.replicator.specs.Events.{plan_of_answer}
+use Rattle.replicator.specs.Sending.{Sending, sending_of}
+use Rattle.replicator.proofs.Events.{answer_as_heard}
 use Rattle.broker_state.specs.Plan.{PlanBook, idle_book, quiet_book}
 use Rattle.broker_state.specs.Room.{HasRoom, Room}
 use Rattle.broker_state.specs.declared.change.BookChange.TheVariants as book_change
@@ -88,3 +95,23 @@ received_prepared h b y number i p within fits is =
 pub received_room : (room : Room) (y number i : ℕ) (p : PlanBook) → 1 ≤ room.senders → p ≡ receives_book y number i → HasRoom room p
 received_room room y number i p some is =
     rw is (record { writes = record { entries = omega arith; streams = omega arith; places = omega arith; acks = (tt, tt); senders = omega (arith, some) }; given = omega arith; senders = omega (arith, some) })
+
+-- ---- what a sender hears
+
+as_heard : (h : Site) (b : Broker) (y : ℕ) (p : Packet) (s : Sending) (now told : Heard) (q : PlanBook) → s ≡ sending_of (sender_at b y) → now ≡ heard p.session p.frame s → now ≡ told
+    → IsPrepared h b (plan_of_answer y told) q → IsPrepared h b (receipt_packet b y p) q
+as_heard h b y p s now told q same by is prepared =
+    subst (λ (plan : Plan). IsPrepared h b plan q) (sym (answer_as_heard b y p))
+    (subst (λ (v : Heard). IsPrepared h b (plan_of_answer y v) q) (sym is ∙ by ∙ ap (λ (v : Sending). heard p.session p.frame v) same) prepared)
+
+pub quiet_heard : (h : Site) (b : Broker) (y : ℕ) (p : Packet) (s : Sending) (now : Heard) (q : PlanBook) → s ≡ sending_of (sender_at b y) → now ≡ heard p.session p.frame s → now ≡ means.Nothing
+    → q ≡ quiet_book 0 → IsPrepared h b (receipt_packet b y p) q
+quiet_heard h b y p s now q same told is begun = as_heard h b y p s now means.Nothing q same told is (quiet h b q begun)
+
+pub opened_heard : (h : Site) (b : Broker) (y : ℕ) (p : Packet) (s : Sending) (now : Heard) (q : PlanBook) → y < length b.senders → s ≡ sending_of (sender_at b y) → now ≡ heard p.session p.frame s → now ≡ means.Opened
+    → q ≡ record (quiet_book 0) { changes = book_change.Opened y ∷ [] } → IsPrepared h b (receipt_packet b y p) q
+opened_heard h b y p s now q within same told is done = as_heard h b y p s now means.Opened q same told is (opened_prepared h b y q within done)
+
+pub received_heard : (h : Site) (b : Broker) (y : ℕ) (p : Packet) (s : Sending) (now : Heard) (number i : ℕ) (q : PlanBook) → y < length b.senders → s ≡ sending_of (sender_at b y) → now ≡ heard p.session p.frame s
+    → now ≡ means.Receipt number i → i + 1 < 2 ^ 64 → q ≡ receives_book y number i → IsPrepared h b (receipt_packet b y p) q
+received_heard h b y p s now number i q within same told is fits done = as_heard h b y p s now (means.Receipt number i) q same told is (received_prepared h b y number i q within fits done)

@@ -11,13 +11,18 @@ use Rattle.geo_base.specs.declared.packet.Packet.{Packet}
 use Rattle.geo_base.specs.declared.write.Write.TheVariants as write
 use Rattle.geo_base.specs.Broker.{Broker, Site, receiver_at}
 use Rattle.geo_base.specs.Entry.{same_stream}
-use Rattle.geo_base.specs.Forwarding.{take_command, take_frame, take_in}
+use Rattle.geo_base.specs.Forwarding.{take_command, take_frame}
 use Rattle.geo_base.specs.Plan.{Plan, done, plan_of, quiet_plan, twice}
 use Rattle.geo_base.specs.Position.{nowhere}
 use Rattle.geo_base.specs.Receiver.{is_from, is_open}
 use Rattle.geo_base.specs.Sizes.{entry_size, most_entry_size}
 use Rattle.geo_base.specs.Topic.{accepts, next_position}
-use Rattle.broker_packets.specs.Acts.{act_of, acted, closing_plan, command_act, opening_plan, receipts, receiving_plan, session_act}
+use Rattle.replicator.specs.declared.receiver.Taken.{Taken}
+use Rattle.replicator.specs.declared.receiver.Taken.TheVariants as takes
+use Rattle.replicator.specs.Events.{is_to_open, is_unreadable, opened_by, plan_of_take}
+use Rattle.replicator.specs.Taking.{taken}
+use Rattle.replicator.proofs.Events.{take_as_answered}
+use Rattle.broker_packets.specs.Acts.{act_of, acted, closing_plan, command_act, opening_act, opening_plan, receipts, receiving_plan, taken_act}
 use Rattle.broker_packets.proofs.Again.{twice_is}
 use Rattle.broker_packets.specs.declared.act.TakeAct.{TakeAct}
 use Rattle.broker_packets.specs.declared.act.TakeAct.TheVariants as act
@@ -51,36 +56,37 @@ command_once h b x session frame.Ping = refl
 command_once h b x session frame.Pong = refl
 command_once h b x session frame.Unreadable = refl
 
-session_once : (h : Site) (b : Broker) (x : ℕ) (p : Packet) (f : Frame) → p.frame ≡ f → take_in h b x p ≡ acted h b x p.session false (session_act h (receiver_at b x) x p.session f)
-session_once h b x p f is =
-    by_test (acted h b x p.session false) (is_open (receiver_at b x) p.session) _ _ (command_act h x f) act.Discards
-    (ap (λ (f : Frame). take_command h b x p.session f) is ∙ command_once h b x p.session f) refl
+opening_once : (h : Site) (b : Broker) (x session : ℕ) (f : Frame) → opened_by h x f ≡ acted h b x session false (opening_act f)
+opening_once h b x session frame.Connect = refl
+opening_once h b x session frame.Connected = refl
+opening_once h b x session (frame.Subscribe topic sub kind id request consumer earliest replicated) = refl
+opening_once h b x session (frame.Producer topic id request name) = refl
+opening_once h b x session (frame.Send id seq source e) = refl
+opening_once h b x session (frame.SendReceipt id seq position) = refl
+opening_once h b x session (frame.SendError id seq code) = refl
+opening_once h b x session (frame.Message id position source e) = refl
+opening_once h b x session (frame.Ack id kind positions) = refl
+opening_once h b x session (frame.Flow id permits) = refl
+opening_once h b x session (frame.Unsubscribe id request) = refl
+opening_once h b x session (frame.Success request) = refl
+opening_once h b x session (frame.Error request code) = refl
+opening_once h b x session (frame.CloseProducer id request) = refl
+opening_once h b x session (frame.CloseConsumer id request) = refl
+opening_once h b x session (frame.ProducerSuccess request name) = refl
+opening_once h b x session frame.Ping = refl
+opening_once h b x session frame.Pong = refl
+opening_once h b x session frame.Unreadable = refl
 
-frame_once : (h : Site) (b : Broker) (x : ℕ) (p : Packet) (f : Frame) → p.frame ≡ f → take_frame h b x p f ≡ acted h b x p.session false (act_of h (receiver_at b x) x p.session f)
-frame_once h b x p frame.Connect is = session_once h b x p frame.Connect is
-frame_once h b x p frame.Connected is = session_once h b x p frame.Connected is
-frame_once h b x p (frame.Subscribe topic sub kind id request consumer earliest replicated) is = session_once h b x p (frame.Subscribe topic sub kind id request consumer earliest replicated) is
-frame_once h b x p (frame.Producer topic id request name) is =
-    by_test (acted h b x p.session false) (bytes_eq topic h.topic && (id == p.session)) _ _ (act.Opens id request) (session_act h (receiver_at b x) x p.session (frame.Producer topic id request name))
-    refl (session_once h b x p (frame.Producer topic id request name) is)
-frame_once h b x p (frame.Send id seq source e) is = session_once h b x p (frame.Send id seq source e) is
-frame_once h b x p (frame.SendReceipt id seq position) is = session_once h b x p (frame.SendReceipt id seq position) is
-frame_once h b x p (frame.SendError id seq code) is = session_once h b x p (frame.SendError id seq code) is
-frame_once h b x p (frame.Message id position source e) is = session_once h b x p (frame.Message id position source e) is
-frame_once h b x p (frame.Ack id kind positions) is = session_once h b x p (frame.Ack id kind positions) is
-frame_once h b x p (frame.Flow id permits) is = session_once h b x p (frame.Flow id permits) is
-frame_once h b x p (frame.Unsubscribe id request) is = session_once h b x p (frame.Unsubscribe id request) is
-frame_once h b x p (frame.Success request) is = session_once h b x p (frame.Success request) is
-frame_once h b x p (frame.Error request code) is = session_once h b x p (frame.Error request code) is
-frame_once h b x p (frame.CloseProducer id request) is = session_once h b x p (frame.CloseProducer id request) is
-frame_once h b x p (frame.CloseConsumer id request) is = session_once h b x p (frame.CloseConsumer id request) is
-frame_once h b x p (frame.ProducerSuccess request name) is = session_once h b x p (frame.ProducerSuccess request name) is
-frame_once h b x p frame.Ping is = session_once h b x p frame.Ping is
-frame_once h b x p frame.Pong is = session_once h b x p frame.Pong is
-frame_once h b x p frame.Unreadable is = refl
+taken_act_once : (h : Site) (b : Broker) (x session : ℕ) (f : Frame) (t : Taken) → plan_of_take h b x session f t ≡ acted h b x session false (taken_act h x f t)
+taken_act_once h b x session f takes.Opened = opening_once h b x session f
+taken_act_once h b x session f takes.Process = command_once h b x session f
+taken_act_once h b x session f takes.Discard = refl
 
 pub taken_once : (h : Site) (b : Broker) (x : ℕ) (p : Packet) → take_frame h b x p p.frame ≡ acted h b x p.session false (act_of h (receiver_at b x) x p.session p.frame)
-taken_once h b x p = frame_once h b x p p.frame refl
+taken_once h b x p =
+    let t = taken (receiver_at b x) p.session (is_to_open h p.session p.frame) in
+    take_as_answered h b x p
+    ∙ by_test (acted h b x p.session false) (is_unreadable p.frame) _ _ act.Unreadable (taken_act h x p.frame t) refl (taken_act_once h b x p.session p.frame t)
 
 -- ---- two times in a row
 
@@ -185,45 +191,53 @@ acts_twice h b x session P act.Unreadable may acts true is = absurd may
 acts_twice h b x session P (act.Opens id request) may acts true is = absurd may
 acts_twice h b x session P act.Discards may acts true is = absurd may
 
-command_twice : (h : Site) (b : Broker) (x session : ℕ) (f : Frame) (P : Broker → Plan)
-    → ((now : Broker) → P now ≡ acted h now x session false (session_act h (receiver_at now x) x session f))
-    → twice h.per_ledger b P ≡ acted h b x session true (session_act h (receiver_at b x) x session f)
-command_twice h b x session f P acts =
-    acts_twice h b x session P (command_act h x f) (is_command h x f) acts (is_open (receiver_at b x) session) refl
-
 -- what opens a session opens it again
-opens_twice : (h : Site) (b : Broker) (x session id request : ℕ) (f : Frame) (P : Broker → Plan) (opening : Bool)
-    → ((now : Broker) → P now ≡ acted h now x session false (if opening then act.Opens id request else session_act h (receiver_at now x) x session f))
-    → twice h.per_ledger b P ≡ acted h b x session true (if opening then act.Opens id request else session_act h (receiver_at b x) x session f)
-opens_twice h b x session id request f P true acts =
+opens_twice : (h : Site) (b : Broker) (x session : ℕ) (f : Frame) (P : Broker → Plan) → ((now : Broker) → P now ≡ acted h now x session false (opening_act f))
+    → twice h.per_ledger b P ≡ acted h b x session true (opening_act f)
+opens_twice h b x session (frame.Producer topic id request name) P acts =
     twice_is h.per_ledger b P (opening_plan h x false id request) (opening_plan h x false id request) (acts b) (acts (done h.per_ledger b (opening_plan h x false id request)))
-opens_twice h b x session id request f P false acts = command_twice h b x session f P acts
+opens_twice h b x session frame.Connect P acts = discards_twice h b x session P (acts b)
+opens_twice h b x session frame.Connected P acts = discards_twice h b x session P (acts b)
+opens_twice h b x session (frame.Subscribe topic sub kind id request consumer earliest replicated) P acts = discards_twice h b x session P (acts b)
+opens_twice h b x session (frame.Send id seq source e) P acts = discards_twice h b x session P (acts b)
+opens_twice h b x session (frame.SendReceipt id seq position) P acts = discards_twice h b x session P (acts b)
+opens_twice h b x session (frame.SendError id seq code) P acts = discards_twice h b x session P (acts b)
+opens_twice h b x session (frame.Message id position source e) P acts = discards_twice h b x session P (acts b)
+opens_twice h b x session (frame.Ack id kind positions) P acts = discards_twice h b x session P (acts b)
+opens_twice h b x session (frame.Flow id permits) P acts = discards_twice h b x session P (acts b)
+opens_twice h b x session (frame.Unsubscribe id request) P acts = discards_twice h b x session P (acts b)
+opens_twice h b x session (frame.Success request) P acts = discards_twice h b x session P (acts b)
+opens_twice h b x session (frame.Error request code) P acts = discards_twice h b x session P (acts b)
+opens_twice h b x session (frame.CloseProducer id request) P acts = discards_twice h b x session P (acts b)
+opens_twice h b x session (frame.CloseConsumer id request) P acts = discards_twice h b x session P (acts b)
+opens_twice h b x session (frame.ProducerSuccess request name) P acts = discards_twice h b x session P (acts b)
+opens_twice h b x session frame.Ping P acts = discards_twice h b x session P (acts b)
+opens_twice h b x session frame.Pong P acts = discards_twice h b x session P (acts b)
+opens_twice h b x session frame.Unreadable P acts = discards_twice h b x session P (acts b)
 
-frame_twice : (h : Site) (b : Broker) (x session : ℕ) (f : Frame) (P : Broker → Plan)
-    → ((now : Broker) → P now ≡ acted h now x session false (act_of h (receiver_at now x) x session f))
-    → twice h.per_ledger b P ≡ acted h b x session true (act_of h (receiver_at b x) x session f)
-frame_twice h b x session frame.Connect P acts = command_twice h b x session frame.Connect P acts
-frame_twice h b x session frame.Connected P acts = command_twice h b x session frame.Connected P acts
-frame_twice h b x session (frame.Subscribe topic sub kind id request consumer earliest replicated) P acts = command_twice h b x session (frame.Subscribe topic sub kind id request consumer earliest replicated) P acts
-frame_twice h b x session (frame.Producer topic id request name) P acts =
-    opens_twice h b x session id request (frame.Producer topic id request name) P (bytes_eq topic h.topic && (id == session)) acts
-frame_twice h b x session (frame.Send id seq source e) P acts = command_twice h b x session (frame.Send id seq source e) P acts
-frame_twice h b x session (frame.SendReceipt id seq position) P acts = command_twice h b x session (frame.SendReceipt id seq position) P acts
-frame_twice h b x session (frame.SendError id seq code) P acts = command_twice h b x session (frame.SendError id seq code) P acts
-frame_twice h b x session (frame.Message id position source e) P acts = command_twice h b x session (frame.Message id position source e) P acts
-frame_twice h b x session (frame.Ack id kind positions) P acts = command_twice h b x session (frame.Ack id kind positions) P acts
-frame_twice h b x session (frame.Flow id permits) P acts = command_twice h b x session (frame.Flow id permits) P acts
-frame_twice h b x session (frame.Unsubscribe id request) P acts = command_twice h b x session (frame.Unsubscribe id request) P acts
-frame_twice h b x session (frame.Success request) P acts = command_twice h b x session (frame.Success request) P acts
-frame_twice h b x session (frame.Error request code) P acts = command_twice h b x session (frame.Error request code) P acts
-frame_twice h b x session (frame.CloseProducer id request) P acts = command_twice h b x session (frame.CloseProducer id request) P acts
-frame_twice h b x session (frame.CloseConsumer id request) P acts = command_twice h b x session (frame.CloseConsumer id request) P acts
-frame_twice h b x session (frame.ProducerSuccess request name) P acts = command_twice h b x session (frame.ProducerSuccess request name) P acts
-frame_twice h b x session frame.Ping P acts = command_twice h b x session frame.Ping P acts
-frame_twice h b x session frame.Pong P acts = command_twice h b x session frame.Pong P acts
-frame_twice h b x session frame.Unreadable P acts =
+-- what comes in the session that is open, or in another one
+session_taken : (h : Site) (x : ℕ) (f : Frame) (current : Bool) → taken_act h x f (if current then takes.Process else takes.Discard) ≡ (if current then command_act h x f else act.Discards)
+session_taken h x f true = refl
+session_taken h x f false = refl
+
+taken_act_twice : (h : Site) (b : Broker) (x session : ℕ) (f : Frame) (P : Broker → Plan) (opening : Bool)
+    → ((now : Broker) → P now ≡ acted h now x session false (taken_act h x f (taken (receiver_at now x) session opening)))
+    → twice h.per_ledger b P ≡ acted h b x session true (taken_act h x f (taken (receiver_at b x) session opening))
+taken_act_twice h b x session f P true acts = opens_twice h b x session f P acts
+taken_act_twice h b x session f P false acts =
+    acts_twice h b x session P (command_act h x f) (is_command h x f)
+    (λ now. acts now ∙ ap (λ (a : TakeAct). acted h now x session false a) (session_taken h x f (is_open (receiver_at now x) session)))
+    (is_open (receiver_at b x) session) refl
+    ∙ ap (λ (a : TakeAct). acted h b x session true a) (sym (session_taken h x f (is_open (receiver_at b x) session)))
+
+frame_twice : (h : Site) (b : Broker) (x session : ℕ) (f : Frame) (P : Broker → Plan) (unreadable opening : Bool)
+    → ((now : Broker) → P now ≡ acted h now x session false (if unreadable then act.Unreadable else taken_act h x f (taken (receiver_at now x) session opening)))
+    → twice h.per_ledger b P ≡ acted h b x session true (if unreadable then act.Unreadable else taken_act h x f (taken (receiver_at b x) session opening))
+frame_twice h b x session f P true opening acts =
     twice_is h.per_ledger b P (closing_plan x false) (closing_plan x false) (acts b) (acts (done h.per_ledger b (closing_plan x false)))
+frame_twice h b x session f P false opening acts = taken_act_twice h b x session f P opening acts
 
 pub taken_twice : (h : Site) (b : Broker) (x : ℕ) (p : Packet)
     → twice h.per_ledger b (λ now. take_frame h now x p p.frame) ≡ acted h b x p.session true (act_of h (receiver_at b x) x p.session p.frame)
-taken_twice h b x p = frame_twice h b x p.session p.frame (λ now. take_frame h now x p p.frame) (λ now. taken_once h now x p)
+taken_twice h b x p =
+    frame_twice h b x p.session p.frame (λ now. take_frame h now x p p.frame) (is_unreadable p.frame) (is_to_open h p.session p.frame) (λ now. taken_once h now x p)

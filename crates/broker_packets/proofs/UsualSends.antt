@@ -1,6 +1,6 @@
 -- A SEND of the usual form does what the machine's SEND does.
-use Rattle.std.proofs.Common.{◌≡◌, ℕ, [], refl, sym, subst}
-use Rattle.std.specs.Prelude.{Option, Some}
+use Rattle.std.proofs.Common.{◌≡◌, ℕ, Bool, true, false, [], refl, sym, subst}
+use Rattle.std.specs.Prelude.{if◌then◌else◌, Option, Some}
 use Rattle.std.proofs.lemmas.Bool.{le-leb}
 use Rattle.geo_base.specs.declared.event.Fate.TheVariants as fate
 use Rattle.geo_base.specs.declared.frame.Frame.TheVariants as frame
@@ -10,8 +10,11 @@ use Rattle.geo_base.specs.Broker.{Broker, Site}
 use Rattle.geo_base.specs.Forwarding.{take_packet}
 use Rattle.geo_base.specs.Link.{sends}
 use Rattle.geo_base.specs.Plan.{Plan, plan_of}
+use Rattle.geo_base.specs.Receiver.{is_open}
 use Rattle.geo_base.specs.Sizes.{entry_size, most_entry_size}
 use Rattle.geo_base.specs.Storing.{receipt_position, storing}
+use Rattle.replicator.specs.declared.receiver.Taken.TheVariants as takes
+use Rattle.replicator.specs.Taking.{taken}
 use Rattle.broker_state.specs.Plan.{PlanBook}
 use Rattle.broker_plans.specs.declared.usual.Came.{Came}
 use Rattle.broker_plans.specs.Prepared.{AlsoSends, IsPrepared}
@@ -19,6 +22,14 @@ use Rattle.broker_plans.specs.Usual.{send_viewed}
 use Rattle.frame_values.specs.Usual.{entry_viewed}
 use Rattle.broker_plans.proofs.Keeping.{sends_more}
 use Rattle.broker_packets.specs.UsualSends.{Receives}
+
+-- what does not open a session and is acted on is of the one that is open
+pub processed : (now : Option ℕ) (session : ℕ) → taken now session false ≡ takes.Process → is_open now session ≡ true
+processed now session h = by_test (is_open now session) h
+  where
+    by_test : (t : Bool) → (if t then takes.Process else takes.Discard) ≡ takes.Process → t ≡ true
+    by_test true h = refl
+    by_test false h = absurd cc
 
 abbrev stored_first : Site → Broker → ℕ → Came → Option Position → Plan
 stored_first h b x m o = plan_of (storing b (entry_viewed x m.message)) [] (sends (peer.Back x) m.session (frame.SendReceipt m.session m.seq o))

@@ -1,6 +1,5 @@
 -- What a packet of a forward link does at a broker, told by the session that is open, and what it does two times in a row.
-use Rattle.std.specs.Prelude.{ℕ, ◌==◌, nat_le, Bool, false, ◌&&◌, if◌then◌else◌, List, [], ◌∷◌, Option, Some, None, ⊤}
-use Rattle.std.specs.Str.{bytes_eq}
+use Rattle.std.specs.Prelude.{ℕ, nat_le, Bool, false, ◌&&◌, if◌then◌else◌, List, [], ◌∷◌, Option, Some, None, ⊤}
 use Rattle.geo_base.specs.declared.change.Change.TheVariants as change
 use Rattle.geo_base.specs.declared.entry.Entry.{Entry}
 use Rattle.geo_base.specs.declared.frame.Frame.{Frame}
@@ -15,9 +14,13 @@ use Rattle.geo_base.specs.Entry.{with_origin}
 use Rattle.geo_base.specs.Forwarding.{link_producer}
 use Rattle.geo_base.specs.Plan.{Plan, plan_of, quiet_plan}
 use Rattle.geo_base.specs.Position.{nowhere}
-use Rattle.geo_base.specs.Receiver.{is_from, is_open}
+use Rattle.geo_base.specs.Receiver.{is_from}
 use Rattle.geo_base.specs.Sizes.{entry_size, most_entry_size}
 use Rattle.geo_base.specs.Storing.{receipt_position, storing}
+use Rattle.replicator.specs.declared.receiver.Taken.{Taken}
+use Rattle.replicator.specs.declared.receiver.Taken.TheVariants as takes
+use Rattle.replicator.specs.Events.{is_to_open, is_unreadable}
+use Rattle.replicator.specs.Taking.{taken}
 use Rattle.broker_plans.specs.Storable.{IsStorable}
 use Rattle.broker_packets.specs.declared.act.TakeAct.{TakeAct}
 use Rattle.broker_packets.specs.declared.act.TakeAct.TheVariants as act
@@ -30,15 +33,20 @@ abbrev pub command_act : Site → ℕ → Frame → TakeAct
 command_act h x (frame.Send id seq source e) = send_act h x seq source e
 command_act h x f = act.Refuses
 
-abbrev pub session_act : Site → Option ℕ → ℕ → ℕ → Frame → TakeAct
-session_act h now x session f = if is_open now session then command_act h x f else act.Discards
+-- only a PRODUCER opens a session
+abbrev pub opening_act : Frame → TakeAct
+opening_act (frame.Producer topic id request name) = act.Opens id request
+opening_act f = act.Discards
+
+-- by what the receiver makes of its session
+abbrev pub taken_act : Site → ℕ → Frame → Taken → TakeAct
+taken_act h x f takes.Opened = opening_act f
+taken_act h x f takes.Process = command_act h x f
+taken_act h x f takes.Discard = act.Discards
 
 -- now is the session that is open on the link from x
 abbrev pub act_of : Site → Option ℕ → ℕ → ℕ → Frame → TakeAct
-act_of h now x session frame.Unreadable = act.Unreadable
-act_of h now x session (frame.Producer topic id request name) =
-    if bytes_eq topic h.topic && (id == session) then act.Opens id request else session_act h now x session (frame.Producer topic id request name)
-act_of h now x session f = session_act h now x session f
+act_of h now x session f = if is_unreadable f then act.Unreadable else taken_act h x f (taken now session (is_to_open h session f))
 
 -- once, or two times in a row
 abbrev pub times : {X : Type 0} → Bool → X → List X

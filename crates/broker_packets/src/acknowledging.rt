@@ -1,11 +1,12 @@
 //! A broker and its clients' consumers: ACK.
-ghost use Rattle.std.specs.Prelude.{◌≡◌, ◌<◌, ◌++◌, ◌∷◌, [], if◌then◌else◌, length, IfOk, IfSome, OnOk};
+ghost use Rattle.std.specs.Prelude.{◌≡◌, ◌<◌, ◌++◌, ◌∷◌, [], true, length, IfOk, IfSome, OnOk};
 ghost use Rattle.std.specs.List.{All};
 ghost use Rattle.geo_base.specs.declared.change.Change.TheVariants as change;
-ghost use Rattle.geo_base.specs.Acknowledging.{acked_indexes, allows_cumulative, cumulative_indexes, serve_ack, stored_indexes, up_to, with_stored};
+ghost use Rattle.geo_base.specs.Acknowledging.{acked_indexes, cumulative_indexes, serve_ack, stored_indexes, up_to, with_stored};
 ghost use Rattle.geo_base.specs.Plan.{plan_of};
 ghost use Rattle.geo_base.specs.Storing.{cursor_write};
 ghost use Rattle.geo_base.specs.Subscribing.{consumed_by};
+ghost use Rattle.geo_base.specs.Subscription.{has_consumer};
 ghost use Rattle.broker_subs.specs.Steps.{SubWriteFits, machine_sub_write};
 ghost use Rattle.broker_subs.specs.Table.{sub_at};
 ghost use Rattle.broker_state.specs.Plan.{IsEmptyPlan};
@@ -18,7 +19,7 @@ use crate::answering::ignore;
 use broker_plans::{begin_write, place_consumed, sub_at, update_after};
 use broker_state::{BookChange, BrokerState, Plan};
 use broker_subs::{SubChange, SubWrite};
-use geo_base::{AckKind, Memory, Position, Sequence, SubKind};
+use geo_base::{AckKind, Memory, Position, Sequence};
 use std::alloc::Global;
 
 /// What ACK names.
@@ -30,7 +31,7 @@ pub(crate) struct Acked {
 }
 
 /// What ACK will do: the consumer's subscription acknowledges the positions that are stored, or all up to the one position.
-#[tactic(auto, using(crate::proofs::Acks::no_acks, crate::proofs::Acks::some_acks))]
+#[tactic(auto, using(crate::proofs::Acks::consumed, crate::proofs::Acks::no_acks, crate::proofs::Acks::some_acks))]
 pub(crate) fn serve_ack(
     alloc: Global,
     book: &mut BrokerState,
@@ -48,7 +49,7 @@ pub(crate) fn serve_ack(
         ignore(book, plan);
         return Ok(());
     };
-    match acks(alloc, book, place, acked)? {
+    match acks(alloc, book, client, place, acked)? {
         None => {
             ignore(book, plan);
             Ok(())
@@ -81,20 +82,28 @@ fn acknowledge(
     Ok(())
 }
 
-/// The write that an ACK asks of the subscription at a place, where it names what is stored.
+/// The write that an ACK asks of the subscription at a place, where it names what is stored and the kind allows it.
 fn acks(
     alloc: Global,
     book: &BrokerState,
+    client: u32,
     place: usize,
     acked: &Acked,
 ) -> Result<Option<SubWrite>, Memory>
-    requires { place < length book.now.broker.subs }
+    requires place { place < length book.now.broker.subs }
+    requires consumed { has_consumer client acked.now.id (sub_at book.now.broker.subs place) ≡ true }
     ensures { IfOk result (WritesAcks book.now.broker.entries (sub_at book.now.broker.subs place) (acked_indexes book.now.broker.ledgers (sub_at book.now.broker.subs place).kind acked.now.positions acked.now.kind)) }
 {
+    if sub_at(book, place)
+        .on_ack(client, acked.id, acked.kind)
+        .is_err()
+    {
+        return Ok(None);
+    }
     let positions = acked.positions.as_slice();
     match acked.kind {
         AckKind::Individual => acks_each(alloc, book, place, positions),
-        AckKind::Cumulative => acks_allowed(book, place, positions),
+        AckKind::Cumulative => Ok(acks_to(book, place, positions)),
     }
 }
 
@@ -125,22 +134,6 @@ fn some_acks(book: &BrokerState, place: usize, indexes: Sequence<u64>) -> Option
     Some(SubWrite::Acks(indexes))
 }
 
-/// All up to a position, if the subscription's kind allows it.
-#[tactic(auto, using(crate::proofs::Acks::writes_none))]
-fn acks_allowed(
-    book: &BrokerState,
-    place: usize,
-    positions: &[Position],
-) -> Result<Option<SubWrite>, Memory>
-    requires { place < length book.now.broker.subs }
-    ensures { IfOk result (WritesAcks book.now.broker.entries (sub_at book.now.broker.subs place) (if allows_cumulative (sub_at book.now.broker.subs place).kind then cumulative_indexes book.now.broker.ledgers positions.now else [])) }
-{
-    if !allows_cumulative(sub_at(book, place).kind()) {
-        return Ok(None);
-    }
-    Ok(acks_to(book, place, positions))
-}
-
 /// All up to a position, if it is the only one and is stored.
 fn acks_to(book: &BrokerState, place: usize, positions: &[Position]) -> Option<SubWrite>
     ensures { WritesAcks book.now.broker.entries (sub_at book.now.broker.subs place) (cumulative_indexes book.now.broker.ledgers positions.now) result }
@@ -169,13 +162,6 @@ fn only_index(book: &BrokerState, positions: &[Position]) -> Option<u64>
         return None;
     };
     book.index_of(*position)
-}
-
-/// Whether messages are acknowledged all up to one (Pulsar manual: those of a Shared or Key_Shared subscription are one by one).
-fn allows_cumulative(kind: SubKind) -> bool
-    ensures { result ≡ allows_cumulative kind }
-{
-    matches!(kind, SubKind::Exclusive | SubKind::Failover)
 }
 
 /// The indexes of the positions that are stored.

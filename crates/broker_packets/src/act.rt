@@ -1,15 +1,17 @@
 //! What a packet of a forward link does at a broker.
-ghost use Rattle.std.specs.Prelude.{◌≡◌, ◌<◌, ◌==◌, ◌&&◌, length, if◌then◌else◌};
-ghost use Rattle.std.specs.Str.{bytes_eq};
+ghost use Rattle.std.specs.Prelude.{◌≡◌, ◌<◌, length};
 ghost use Rattle.geo_base.specs.Broker.{receiver_at};
-ghost use Rattle.geo_base.specs.Receiver.{is_from, is_open};
+ghost use Rattle.geo_base.specs.Receiver.{is_from};
+ghost use Rattle.replicator.specs.Events.{is_to_open};
+ghost use Rattle.replicator.specs.Taking.{taken};
 ghost use Rattle.broker_plans.specs.Storable.{IsReadEntry, IsReadFrame};
-ghost use Rattle.broker_packets.specs.Acts.{ActStorable, act_of, command_act, send_act};
+ghost use Rattle.broker_packets.specs.Acts.{ActStorable, act_of, command_act, opening_act, send_act, taken_act};
 ghost use Rattle.broker_packets.specs.declared.act.TakeAct.TheVariants as act;
 
 use broker_state::BrokerState;
 use frame_values::is_within_limit;
-use geo_base::{Entry, Frame, Place, Text};
+use geo_base::{Entry, Frame, Place};
+use replicator::Taken;
 
 /// What a packet of a forward link does.
 #[derive(Drop)]
@@ -26,70 +28,65 @@ pub(crate) enum TakeAct {
     Receives { seq: u64, entry: Entry },
 }
 
-/// What a frame of a session does, by the session that is open.
+/// What a frame of a session does.
 pub(crate) fn act_of(book: &BrokerState, source: u32, session: u64, frame: Frame) -> TakeAct
     requires source { source < length book.now.broker.receivers }
     requires read { IsReadFrame frame }
     ensures act { result ≡ act_of book.now.site (receiver_at book.now.broker source) source session frame }
     ensures storable { ActStorable book.now.site result }
 {
-    let is_open = is_open(book, source, session);
     match frame {
         Frame::Unreadable => TakeAct::Unreadable,
+        frame => taken_act(book, source, session, frame),
+    }
+}
+
+/// What a frame that can be read does, by what the receiver makes of its session.
+fn taken_act(book: &BrokerState, source: u32, session: u64, frame: Frame) -> TakeAct
+    requires source { source < length book.now.broker.receivers }
+    requires read { IsReadFrame frame }
+    ensures act { result ≡ taken_act book.now.site source frame (taken (receiver_at book.now.broker source) session (is_to_open book.now.site session frame)) }
+    ensures storable { ActStorable book.now.site result }
+{
+    let opening = is_to_open(book, session, &frame);
+    match book.receiver(source).next_packet(session, opening) {
+        Taken::Opened => opening_act(book, frame),
+        Taken::Process => command_act(book, source, frame),
+        Taken::Discard => {
+            drop(frame);
+            TakeAct::Discards
+        }
+    }
+}
+
+/// Whether a frame is to open its session: a PRODUCER of the topic, whose producer id is the session's number.
+fn is_to_open(book: &BrokerState, session: u64, frame: &Frame) -> bool
+    ensures { result ≡ is_to_open book.now.site session frame.now }
+{
+    match frame {
+        Frame::Producer { topic, id, .. } => {
+            topic.as_bytes() == book.site().topic().as_str().as_bytes() && *id == session
+        }
+        _ => false,
+    }
+}
+
+/// A PRODUCER opens its session, and is answered.
+fn opening_act(book: &BrokerState, frame: Frame) -> TakeAct
+    ensures act { result ≡ opening_act frame }
+    ensures storable { ActStorable book.now.site result }
+{
+    match frame {
         Frame::Producer {
-            topic,
+            topic: _topic,
             id,
             request,
             name: _name,
-        } => producer_act(book, session, is_open, &topic, id, request),
-        frame => session_act(book, source, is_open, frame),
-    }
-}
-
-/// Whether a number is that of the session which is open on the link from a cluster.
-pub(crate) fn is_open(book: &BrokerState, source: u32, session: u64) -> bool
-    requires { source < length book.now.broker.receivers }
-    ensures { result ≡ is_open (receiver_at book.now.broker source) session }
-{
-    match book.receiver(source).session() {
-        None => false,
-        Some(number) => number == session,
-    }
-}
-
-/// A PRODUCER of the topic, whose producer id is the session's number, opens the session; another one has no place there.
-fn producer_act(
-    book: &BrokerState,
-    session: u64,
-    is_open: bool,
-    topic: &Text,
-    id: u64,
-    request: u64,
-) -> TakeAct
-    ensures act { result ≡ (if bytes_eq topic.now book.now.site.topic && (id == session) then act.Opens id request else (if is_open then act.Refuses else act.Discards)) }
-    ensures storable { ActStorable book.now.site result }
-{
-    if topic.as_bytes() == book.site().topic().as_str().as_bytes() && id == session {
-        return TakeAct::Opens { id, request };
-    }
-    if is_open {
-        TakeAct::Refuses
-    } else {
-        TakeAct::Discards
-    }
-}
-
-/// What comes in a session that is not open is discarded.
-fn session_act(book: &BrokerState, source: u32, is_open: bool, frame: Frame) -> TakeAct
-    requires { IsReadFrame frame }
-    ensures act { result ≡ (if is_open then command_act book.now.site source frame else act.Discards) }
-    ensures storable { ActStorable book.now.site result }
-{
-    if is_open {
-        command_act(book, source, frame)
-    } else {
-        drop(frame);
-        TakeAct::Discards
+        } => TakeAct::Opens { id, request },
+        other => {
+            drop(other);
+            TakeAct::Discards
+        }
     }
 }
 

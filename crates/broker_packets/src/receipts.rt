@@ -1,14 +1,15 @@
 //! What comes back over the back link: that a session is open, and receipts.
-ghost use Rattle.std.specs.Prelude.{◌≤◌, ◌<◌, ◌+◌, ◌^◌, length, IfSome, OnOk};
+ghost use Rattle.std.specs.Prelude.{◌≤◌, ◌<◌, length, OnOk};
 ghost use Rattle.std.specs.Option.{option_copied};
-ghost use Rattle.geo_base.specs.Forwarding.{receipt, receipt_fate, receipt_packet, receives};
+ghost use Rattle.geo_base.specs.Forwarding.{receipt, receipt_fate, receipt_packet};
 ghost use Rattle.broker_state.specs.Plan.{IsEmptyPlan};
 ghost use Rattle.broker_state.specs.Room.{HasRoom};
 ghost use Rattle.broker_state.specs.State.{SameState};
 ghost use Rattle.broker_plans.specs.Prepared.{IsPrepared};
 
 use broker_state::{BookChange, BookWrite, BrokerState, Plan};
-use geo_base::{Fate, Frame, Memory, Packet, SenderState};
+use geo_base::{Fate, Memory, Packet};
+use replicator::Heard;
 use std::alloc::Global;
 
 /// What the next packet of the back link from a cluster will do. Only room is made; an `Err` is want of memory.
@@ -61,8 +62,8 @@ fn receive(
     }
 }
 
-/// Only what answers the current session has an effect.
-#[tactic(auto, using(crate::proofs::Plans::quiet, crate::proofs::Plans::quiet_room, crate::proofs::Plans::opened_prepared, crate::proofs::Plans::opened_room))]
+/// What an answer does, by what the sender makes of it.
+#[tactic(auto, using(crate::proofs::Plans::quiet_heard, crate::proofs::Plans::quiet_room, crate::proofs::Plans::opened_heard, crate::proofs::Plans::opened_room, crate::proofs::Plans::received_heard, crate::proofs::Plans::received_room))]
 fn receive_once(
     book: &BrokerState,
     remote: u32,
@@ -76,46 +77,17 @@ fn receive_once(
     ensures room { OnOk result (HasRoom book.now.room plan.new) }
 {
     let sender = book.sender(remote).sender();
-    if packet.session != sender.session() {
-        plan.begin(0);
-        return Ok(());
-    }
-    match &packet.frame {
-        Frame::ProducerSuccess { .. } if sender.state() == SenderState::Opening => {
-            plan.begin(0);
+    plan.begin(0);
+    match sender.next_answer(packet.session, &packet.frame) {
+        Heard::Nothing => Ok(()),
+        Heard::Opened => {
             plan.change(BookChange::Opened { remote })?;
             Ok(())
         }
-        Frame::SendReceipt { seq, .. } => {
-            acknowledge(book, remote, *seq, sender.pending_index(*seq), plan)
-        }
-        _ => {
-            plan.begin(0);
+        Heard::Receipt { number, index } => {
+            plan.write(BookWrite::SenderAck { remote, index })?;
+            plan.change(BookChange::Unpend { remote, number })?;
             Ok(())
         }
     }
-}
-
-/// The index that was sent under a number is acknowledged, if that number awaits its receipt.
-#[tactic(auto, using(crate::proofs::Plans::quiet, crate::proofs::Plans::quiet_room, crate::proofs::Plans::received_prepared, crate::proofs::Plans::received_room))]
-fn acknowledge(
-    book: &BrokerState,
-    remote: u32,
-    number: u64,
-    index: Option<u64>,
-    plan: &mut Plan,
-) -> Result<(), Memory>
-    requires remote { remote < length book.now.broker.senders }
-    requires some { 1 ≤ book.now.room.senders }
-    requires index { IfSome index (λ i. i + 1 < 2 ^ 64) }
-    requires empty { IsEmptyPlan plan.old }
-    ensures prepared { OnOk result (IsPrepared book.now.site book.now.broker (receives remote number index) plan.new) }
-    ensures room { OnOk result (HasRoom book.now.room plan.new) }
-{
-    plan.begin(0);
-    if let Some(index) = index {
-        plan.write(BookWrite::SenderAck { remote, index })?;
-        plan.change(BookChange::Unpend { remote, number })?;
-    }
-    Ok(())
 }

@@ -1,10 +1,12 @@
 //! A broker and its clients' consumers: SUBSCRIBE.
 ghost use Rattle.std.specs.Prelude.{◌≡◌, ◌<◌, ◌∷◌, [], ◌&&◌, true, false, None, Some, not, length, IfOk, OnOk};
+ghost use Rattle.std.specs.List.{list_any};
 ghost use Rattle.std.specs.Str.{bytes_eq};
 ghost use Rattle.geo_base.specs.declared.write.Write.TheVariants as write;
 ghost use Rattle.geo_base.specs.Broker.{sub_named};
 ghost use Rattle.geo_base.specs.Name.{is_name};
 ghost use Rattle.geo_base.specs.Subscribing.{altering, has_room, is_busy, joins, same_kind, serve_subscribe, subscribes};
+ghost use Rattle.geo_base.specs.Subscription.{is_attached};
 ghost use Rattle.broker_subs.specs.Table.{room_at, sub_at};
 ghost use Rattle.broker_state.specs.Plan.{IsEmptyPlan, quiet_book};
 ghost use Rattle.broker_state.specs.Room.{HasRoom};
@@ -58,6 +60,7 @@ pub(crate) fn serve_subscribe(
 fn denial(book: &BrokerState, client: u32, asked: &Joining) -> Option<u64>
     ensures denial { result ≡ denial book.now.site book.now.broker client asked.now.topic asked.now.sub }
     ensures named { result ≡ None → is_name asked.now.sub ≡ true }
+    ensures apart { result ≡ None → list_any (is_attached client) book.now.broker.subs ≡ false }
 {
     if !admits(book, asked) {
         return Some(UNKNOWN_ERROR);
@@ -93,6 +96,7 @@ fn has_room(book: &BrokerState, sub: &Text) -> bool
 }
 
 /// A consumer joins a subscription, which is created where there is none.
+#[tactic(auto, using(crate::proofs::Joins::apart_named))]
 fn subscribe(
     alloc: Global,
     book: &mut BrokerState,
@@ -102,6 +106,7 @@ fn subscribe(
 ) -> Result<(), Memory>
     requires open { IsOpen book.old.broker client }
     requires named { is_name asked.now.sub ≡ true }
+    requires apart { list_any (is_attached client) book.old.broker.subs ≡ false }
     requires empty { IsEmptyPlan plan.old }
     ensures prepared { OnOk result (IsPrepared book.old.site book.old.broker (subscribes client (open_at book.old.broker client) asked.now.sub asked.now.kind asked.now.id asked.now.request asked.now.earliest asked.now.replicated (sub_named book.old.broker.subs asked.now.sub)) plan.new) }
     ensures room { OnOk result (HasRoom book.new.room plan.new) }
@@ -125,24 +130,27 @@ fn join_unless_busy(
     requires open { IsOpen book.old.broker client }
     requires place { place < length book.old.broker.subs }
     requires there { sub_named book.old.broker.subs asked.now.sub ≡ Some (sub_at book.old.broker.subs place) }
+    requires apart { is_attached client (sub_at book.old.broker.subs place) ≡ false }
     requires empty { IsEmptyPlan plan.old }
     ensures prepared { OnOk result (IsPrepared book.old.site book.old.broker (subscribes client (open_at book.old.broker client) asked.now.sub asked.now.kind asked.now.id asked.now.request asked.now.earliest asked.now.replicated (Some (sub_at book.old.broker.subs place))) plan.new) }
     ensures room { OnOk result (HasRoom book.new.room plan.new) }
     ensures kept { SameState book.old book.new }
 {
-    if is_busy(book, place, asked.kind) {
+    if is_busy(book, client, place, asked.kind) {
         refuse(alloc, book, client, asked.request, CONSUMER_BUSY, plan)
     } else {
         join(alloc, book, client, place, asked, plan)
     }
 }
 
-/// Whether consumers are at the subscription at a place that one of a kind can't join.
-fn is_busy(book: &BrokerState, place: usize, kind: SubKind) -> bool
-    requires { place < length book.now.broker.subs }
+/// Whether consumers are at the subscription at a place that one of a kind can't join, of a client that has none there.
+#[tactic(auto, using(crate::proofs::Joins::turned_away))]
+fn is_busy(book: &BrokerState, client: u32, place: usize, kind: SubKind) -> bool
+    requires place { place < length book.now.broker.subs }
+    requires apart { is_attached client (sub_at book.now.broker.subs place) ≡ false }
     ensures { result ≡ is_busy kind (sub_at book.now.broker.subs place) }
 {
-    sub_at(book, place).is_busy(kind)
+    sub_at(book, place).busy(client, kind)
 }
 
 /// A consumer joins a subscription that is created first.

@@ -12,24 +12,23 @@ ghost use Rattle.broker_plans.specs.Usual.{send_viewed};
 ghost use Rattle.frame_values.specs.Values.{place_of};
 ghost use Rattle.broker_packets.specs.UsualSends.{IsBrought, Receives};
 
-use crate::act::is_open;
 use broker_plans::{Answered, Came, also_receipt, is_small, storing_message};
 use broker_state::{BrokerState, Plan};
 use frame_values::number_of;
 use geo_base::{ClusterName, Memory, Peer};
 use pulsar_frames::MessageView;
+use replicator::Taken;
 use std::alloc::Global;
 
 /// Whether a SEND of the usual form is acted on as it stands: it is of the session that is open on the link from a cluster, and
-/// its entry is of that cluster and small. `false` says nothing of it.
+/// its entry is of that cluster and small. `false` says nothing of it. A SEND opens no session.
 pub fn receives(book: &BrokerState, source: u32, came: Came<'_>) -> bool
     requires { source < length book.now.broker.receivers }
     ensures { result ≡ true → Receives book.now.site book.now.broker source came.entry }
 {
-    if is_open(book, source, came.session) {
-        is_brought(book, source, came.message)
-    } else {
-        false
+    match book.receiver(source).next_packet(came.session, false) {
+        Taken::Process => is_brought(book, source, came.message),
+        Taken::Opened | Taken::Discard => false,
     }
 }
 

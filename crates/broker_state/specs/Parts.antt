@@ -30,4 +30,4 @@ book_of h p = record {
 
 -- they are those of a broker of the site, and what is in memory is what the topic tells
 abbrev pub AreParts : Site → Parts → Type 0
-AreParts h p = BookHolds h p.store.per_ledger p.memory.next_marker (length p.tables.senders.senders) (length p.memory.receivers.items) p.memory.dedup.rows p.store.entries
+AreParts h p = BookHolds h p.store.per_ledger p.memory.next_marker p.tables.senders.own (length p.tables.senders.senders) (length p.memory.receivers.items) p.memory.dedup.rows p.store.entries

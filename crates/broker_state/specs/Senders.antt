@@ -1,5 +1,5 @@
 -- Senders as their owner sees them: the machine's senders, and the room beside them.
-use Rattle.std.specs.Prelude.{ℕ, ◌+◌, ◌≤◌, ◌<◌, ◌^◌, List, length, map, slice_index_or, ⊤}
+use Rattle.std.specs.Prelude.{◌≡◌, ℕ, ◌+◌, ◌≤◌, ◌<◌, ◌^◌, List, length, map, slice_index_or, ⊤}
 use Rattle.geo_base.specs.declared.sender.SenderState.TheVariants as sender_state
 use Rattle.geo_base.specs.Cursor.{with_index}
 use Rattle.geo_base.specs.Sender.{Sender, sender_reset, sender_restarted, sender_sent, without_number}
@@ -39,12 +39,28 @@ pub record RowHolds (room spare pending : ℕ) : Type 0 where
   pub in_cursor : room ≤ spare
   pub in_pending : room ≤ pending
 
+-- the cluster that sends, and the one that it sends to
+pub record Ends : Type 0 where
+  pub own : ℕ
+  pub remote : ℕ
+
 pub record RowBook : Type 0 where
   pub sender : Sender
+  pub ends : Ends
   pub room : ℕ
 
 abbrev pub senders_of : List RowBook → List Sender
 senders_of rs = map (λ (r : RowBook). r.sender) rs
+
+abbrev pub ends_of : List RowBook → List Ends
+ends_of rs = map (λ (r : RowBook). r.ends) rs
+
+abbrev pub ends_to : ℕ → ℕ → Ends
+ends_to own remote = record { own = own; remote = remote }
+
+-- each is of the sender of one cluster to the cluster whose number is its place
+pub record AreOf (own : ℕ) (ends : List Ends) : Type 0 where
+  pub each : (k : ℕ) (d : Ends) → k < length ends → slice_index_or ends k d ≡ ends_to own k
 
 abbrev pub row_restarted : RowBook → RowBook
 row_restarted r = record r { sender = sender_restarted r.sender }
@@ -53,11 +69,13 @@ row_restarted r = record r { sender = sender_restarted r.sender }
 pub record AllHaveRoom (room : ℕ) (rs : List RowBook) : Type 0 where
   pub each : (k : ℕ) (d : RowBook) → k < length rs → room ≤ (slice_index_or rs k d).room
 
--- what was asked for is there, and each sender has room for what is spare
-pub record TableHolds (room spare : ℕ) (rs : List RowBook) : Type 0 where
+-- what was asked for is there, each sender has room for what is spare, and is that of its place
+pub record TableHolds (own room spare : ℕ) (rs : List RowBook) : Type 0 where
   pub asked : room ≤ spare
   pub all : AllHaveRoom spare rs
+  pub ends : AreOf own (ends_of rs)
 
 pub record SenderBooks : Type 0 where
+  pub own : ℕ
   pub senders : List Sender
   pub room : ℕ

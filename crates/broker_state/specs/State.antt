@@ -19,17 +19,19 @@ no_room = record { entries = 0; streams = 0; places = 0; subs = []; senders = 0 
 abbrev pub marker_number : ℕ → List Entry → ℕ
 marker_number own es = min (next_marker own es) (2 ^ 64 - 1)
 
--- the state is that of the site's broker: its ledgers take so many entries, and there is a sender and a receiver for each cluster
-pub record IsBrokerOf (h : Site) (per m n : ℕ) : Type 0 where
+-- the state is that of the site's broker: its ledgers take so many entries, and there is a sender of its own and a receiver for
+-- each cluster
+pub record IsBrokerOf (h : Site) (per own m n : ℕ) : Type 0 where
   pub per_ledger : per ≡ h.per_ledger
+  pub sends : own ≡ h.own
   pub senders : m ≡ length h.clusters
   pub receivers : n ≡ length h.clusters
 
 -- and the table of duplicates tells the topic, and the next marker's sequence id is known
-pub record BookHolds (h : Site) (per next m n : ℕ) (rows : List Row) (es : List Entry) : Type 0 where
+pub record BookHolds (h : Site) (per next own m n : ℕ) (rows : List Row) (es : List Entry) : Type 0 where
   pub told : Tells rows es
   pub marker : next ≡ marker_number h.own es
-  pub of_site : IsBrokerOf h per m n
+  pub of_site : IsBrokerOf h per own m n
 
 -- the same state, with other room
 pub record SameState (old new : StateBook) : Type 0 where

@@ -118,6 +118,7 @@ impl Parts {
     fn of_durable(alloc: Global, durable: Durable, memory: InMemory) -> Result<Parts, Memory>
         ensures store { IfOk result (λ p. p.store ≡ durable.store) }
         ensures senders { IfOk result (λ p. p.tables.senders.senders ≡ durable.senders) }
+        ensures own { IfOk result (λ p. p.tables.senders.own ≡ durable.own) }
         ensures subs { IfOk result (λ p. subs_of p.tables.subs.subs ≡ durable.subs) }
         ensures memory { IfOk result (λ p. p.memory ≡ memory) }
     {
@@ -146,7 +147,7 @@ impl Parts {
 fn empty_topic(alloc: Global, site: &Site) -> Result<(TopicLedger, Tables), Memory>
     requires { 0 < site.now.per_ledger }
     ensures store { IfOk result (λ t. t.0 ≡ record { entries = []; ledgers = 0 ∷ []; per_ledger = site.now.per_ledger; spare = 0 }) }
-    ensures senders { IfOk result (λ t. t.1.senders ≡ record { senders = replicate (length site.now.clusters) new_sender; room = 0 }) }
+    ensures senders { IfOk result (λ t. t.1.senders ≡ record { own = site.now.own; senders = replicate (length site.now.clusters) new_sender; room = 0 }) }
     ensures subs { IfOk result (λ t. t.1.subs ≡ record { subs = []; room = 0 }) }
 {
     let clusters = site.clusters().len() as u32;
@@ -172,6 +173,7 @@ impl Tables {
         senders: DurableSenders,
     ) -> Result<Tables, Memory>
         ensures senders { IfOk result (λ t. t.senders.senders ≡ senders) }
+        ensures own { IfOk result (λ t. t.senders.own ≡ own) }
         ensures subs { IfOk result (λ t. subs_of t.subs.subs ≡ subs) }
     {
         let senders = match SenderTable::restored(alloc, own, senders) {

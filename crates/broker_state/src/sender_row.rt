@@ -3,7 +3,7 @@ ghost use Rattle.std.specs.Prelude.{◌≡◌, ◌<◌, ◌≤◌, ◌+◌, ◌^
 ghost use Rattle.geo_base.specs.Cursor.{with_index};
 ghost use Rattle.geo_base.specs.Sender.{new_sender, sender_restarted};
 ghost use Rattle.replicator.specs.Sending.{sending_of};
-ghost use Rattle.broker_state.specs.Senders.{StepFits, room_needed, stepped};
+ghost use Rattle.broker_state.specs.Senders.{StepFits, ends_to, room_needed, stepped};
 
 use cursor_acks::Cursor;
 use geo_base::Memory;
@@ -30,7 +30,7 @@ pub enum SenderStep {
     Unpend(u64),
 }
 
-/// The sender to a cluster, and what that cluster has acknowledged. `room` is how many more steps find memory that take a place:
+/// The sender of a cluster to another one, and what that one has acknowledged. `room` is how many more steps find memory that take a place:
 /// an index that is acknowledged, or one that is sent.
 #[derive(Drop)]
 pub struct SenderRow {
@@ -41,11 +41,11 @@ pub struct SenderRow {
 
 impl Model for SenderRow {
     ghost use Rattle.replicator.specs.Sending.{sender_with};
-    ghost use Rattle.broker_state.specs.Senders.{RowBook, RowHolds};
+    ghost use Rattle.broker_state.specs.Senders.{RowBook, RowHolds, ends_to};
 
     ghost Value = { RowBook };
 
-    ghost view = { λ r. record { sender = sender_with r.cursor.indexes r.sender.sending; room = r.room } };
+    ghost view = { λ r. record { sender = sender_with r.cursor.indexes r.sender.sending; ends = ends_to r.sender.own r.sender.remote; room = r.room } };
 
     ghost invariant = { λ r. RowHolds r.room r.cursor.spare r.sender.room };
 }
@@ -53,7 +53,7 @@ impl Model for SenderRow {
 impl SenderRow {
     /// The sender of cluster `own` to cluster `remote`, before its first session; takes no memory.
     pub fn new(alloc: Global, own: u32, remote: u32) -> SenderRow
-        ensures { result ≡ record { sender = new_sender; room = 0 } }
+        ensures { result ≡ record { sender = new_sender; ends = ends_to own remote; room = 0 } }
     {
         SenderRow {
             cursor: Cursor::none(alloc),
@@ -64,7 +64,7 @@ impl SenderRow {
 
     /// The sender of cluster `own` to cluster `remote` as it is after a restart, from the number of its session and its cursor.
     pub fn restored(alloc: Global, own: u32, remote: u32, session: u64, cursor: Cursor) -> SenderRow
-        ensures { result ≡ record { sender = sender_restarted (record new_sender { session = session; cursor = cursor.indexes }); room = 0 } }
+        ensures { result ≡ record { sender = sender_restarted (record new_sender { session = session; cursor = cursor.indexes }); ends = ends_to own remote; room = 0 } }
     {
         let mut sender = Sender::new(alloc, own, remote);
         sender.set_session(session);
@@ -78,6 +78,7 @@ impl SenderRow {
     /// Makes room for so many more steps; for none where memory is wanting.
     pub fn reserve(&mut self, room: usize) -> Result<(), Memory>
         ensures same { self.new.sender ≡ self.old.sender }
+        ensures ends { self.new.ends ≡ self.old.ends }
         ensures ok { OnOk result (self.new.room ≡ room) }
         ensures err { OnErr result (self.new.room ≡ 0) }
     {
@@ -99,7 +100,9 @@ impl SenderRow {
 
     /// The session, where reading goes on, and what awaits a receipt.
     pub fn sender(&self) -> &Sender
-        ensures { result.now.sending ≡ sending_of self.now.sender }
+        ensures sending { result.now.sending ≡ sending_of self.now.sender }
+        ensures own { result.now.own ≡ self.now.ends.own }
+        ensures remote { result.now.remote ≡ self.now.ends.remote }
     {
         &self.sender
     }
@@ -109,6 +112,7 @@ impl SenderRow {
         requires room { room_needed step ≤ self.old.room }
         requires fits { StepFits step self.old.sender }
         ensures sender { self.new.sender ≡ stepped step self.old.sender }
+        ensures ends { self.new.ends ≡ self.old.ends }
         ensures room { self.new.room + room_needed step ≡ self.old.room }
     {
         match step {

@@ -1,7 +1,7 @@
 //! The senders of a broker, one for each cluster; the own one is unused.
 ghost use Rattle.std.specs.Prelude.{◌≡◌, ◌<◌, ◌≤◌, ◌+◌, ◌^◌, length, map, slice_set, slice_index_or, replicate, IfOk, OnErr, OnOk};
 ghost use Rattle.geo_base.specs.Sender.{new_sender, sender_restarted};
-ghost use Rattle.broker_state.specs.Senders.{AllHaveRoom, StepFits, room_needed, row_restarted, senders_of, stepped};
+ghost use Rattle.broker_state.specs.Senders.{AllHaveRoom, AreOf, StepFits, ends_of, ends_to, room_needed, row_restarted, senders_of, stepped};
 
 use crate::sender_row::{SenderRow, SenderStep};
 use geo_base::Memory;
@@ -12,9 +12,10 @@ use std::marker::Model;
 /// With what an event asks for it stays below what a short cursor takes without a block of its own (own).
 const AHEAD: usize = 16;
 
-/// The senders by cluster. `room` is how many more steps that take a place were asked for, `spare` how many find room at each.
+/// The senders of the cluster `own`, by the cluster that they send to. `room` is how many more steps that take a place were asked for, `spare` how many find room at each.
 #[derive(Drop)]
 pub struct SenderTable {
+    own: u32,
     pub(crate) senders: Vec<SenderRow>,
     room: usize,
     spare: usize,
@@ -25,28 +26,31 @@ impl Model for SenderTable {
 
     ghost Value = { SenderBooks };
 
-    ghost view = { λ t. record { senders = senders_of t.senders.items; room = t.room } };
+    ghost view = { λ t. record { own = t.own; senders = senders_of t.senders.items; room = t.room } };
 
-    ghost invariant = { λ t. TableHolds t.room t.spare t.senders.items };
+    ghost invariant = { λ t. TableHolds t.own t.room t.spare t.senders.items };
 }
 
 impl SenderTable {
     /// New senders of cluster `own`, one of so many.
+    #[tactic(auto, using(crate::proofs::SenderTables::ends_none))]
     pub fn new(alloc: Global, own: u32, clusters: u32) -> Result<SenderTable, Memory>
-        ensures { IfOk result (λ t. t ≡ record { senders = replicate clusters new_sender; room = 0 }) }
+        ensures { IfOk result (λ t. t ≡ record { own = own; senders = replicate clusters new_sender; room = 0 }) }
     {
         let mut senders = Vec::with_capacity(alloc, clusters as usize)?;
         for remote in 0..clusters {
             senders.push_reserved(SenderRow::new(alloc, own, remote));
         }
-        Ok(SenderTable::from_vec(senders))
+        Ok(SenderTable::from_vec(own, senders))
     }
 
-    /// The senders of a vector, in order; takes no memory.
-    pub fn from_vec(senders: Vec<SenderRow>) -> SenderTable
-        ensures { result ≡ record { senders = senders_of senders.items; room = 0 } }
+    /// The senders of cluster `own` that a vector has, in order; takes no memory.
+    pub fn from_vec(own: u32, senders: Vec<SenderRow>) -> SenderTable
+        requires { AreOf own (ends_of senders.items) }
+        ensures { result ≡ record { own = own; senders = senders_of senders.items; room = 0 } }
     {
         SenderTable {
+            own,
             senders,
             room: 0,
             spare: 0,
@@ -54,9 +58,11 @@ impl SenderTable {
     }
 
     /// The sender to a cluster.
+    #[tactic(auto, using(crate::proofs::SenderTables::ends_at))]
     pub fn at(&self, remote: u32) -> &SenderRow
         requires { remote < length self.now.senders }
-        ensures { result.now.sender ≡ slice_index_or self.now.senders remote new_sender }
+        ensures sender { result.now.sender ≡ slice_index_or self.now.senders remote new_sender }
+        ensures ends { result.now.ends ≡ ends_to self.now.own remote }
     {
         &self.senders[remote as usize]
     }
@@ -69,8 +75,10 @@ impl SenderTable {
     }
 
     /// Makes room for so many more steps of each sender; for none where memory is wanting.
+    #[tactic(auto, using(crate::proofs::SenderTables::same_ends))]
     pub fn reserve(&mut self, room: usize) -> Result<(), Memory>
         ensures same { self.new.senders ≡ self.old.senders }
+        ensures own { self.new.own ≡ self.old.own }
         ensures ok { OnOk result (self.new.room ≡ room) }
         ensures err { OnErr result (self.new.room ≡ 0) }
     {
@@ -86,11 +94,13 @@ impl SenderTable {
     }
 
     /// Does one step of the sender to a cluster. It takes no memory.
+    #[tactic(auto, using(crate::proofs::SenderTables::ends_set))]
     pub fn step(&mut self, remote: u32, step: SenderStep)
         requires remote { remote < length self.old.senders }
         requires room { room_needed step ≤ self.old.room }
         requires fits { StepFits step (slice_index_or self.old.senders remote new_sender) }
         ensures senders { self.new.senders ≡ slice_set self.old.senders remote (stepped step (slice_index_or self.old.senders remote new_sender)) }
+        ensures own { self.new.own ≡ self.old.own }
         ensures room { self.new.room + room_needed step ≡ self.old.room }
     {
         self.senders[remote as usize].step(step);
@@ -102,6 +112,7 @@ impl SenderTable {
     /// A restart: what is in memory is lost.
     pub fn restart(&mut self)
         ensures senders { self.new.senders ≡ map sender_restarted self.old.senders }
+        ensures own { self.new.own ≡ self.old.own }
         ensures room { self.new.room ≡ self.old.room }
     {
         restart_each(self.senders.as_mut_slice());
@@ -125,6 +136,7 @@ fn places(step: SenderStep) -> usize
 /// Makes room in each sender.
 fn reserve_each(senders: &mut [SenderRow], room: usize) -> Result<(), Memory>
     ensures same { senders_of senders.new ≡ senders_of senders.old }
+    ensures ends { ends_of senders.new ≡ ends_of senders.old }
     ensures ok { OnOk result (AllHaveRoom room senders.new) }
 {
     for sender in senders {

@@ -4,7 +4,7 @@ ghost use Rattle.geo_base.specs.Sender.{sender_restarted};
 ghost use Rattle.durable_parts.specs.Durable.{broker_of, durable_part};
 ghost use Rattle.durable_parts.specs.Parts as durable;
 ghost use Rattle.broker_state.specs.State.{no_room};
-ghost use Rattle.broker_state.specs.Senders.{senders_of};
+ghost use Rattle.broker_state.specs.Senders.{AreOf, ends_of, senders_of};
 
 use crate::parts::Parts;
 use crate::sender_row::SenderRow;
@@ -64,10 +64,11 @@ impl SenderTable {
 
     /// The senders of cluster `own` as they are after a restart, from what is durable of them.
     pub fn restored(alloc: Global, own: u32, parts: DurableSenders) -> Result<SenderTable, Memory>
-        ensures { IfOk result (λ t. t.senders ≡ parts) }
+        ensures senders { IfOk result (λ t. t.senders ≡ parts) }
+        ensures own { IfOk result (λ t. t.own ≡ own) }
     {
         let rows = restored_senders(alloc, own, parts.into_vec())?;
-        Ok(SenderTable::from_vec(rows))
+        Ok(SenderTable::from_vec(own, rows))
     }
 }
 
@@ -99,7 +100,8 @@ fn restored_senders(
     own: u32,
     parts: Vec<DurableSender>,
 ) -> Result<Vec<SenderRow>, Memory>
-    ensures { IfOk result (λ rows. senders_of rows.items ≡ durable.senders_of parts.items) }
+    ensures senders { IfOk result (λ rows. senders_of rows.items ≡ durable.senders_of parts.items) }
+    ensures ends { IfOk result (λ rows. AreOf own (ends_of rows.items)) }
 {
     let mut rows = Vec::new(alloc);
     match restore_each(alloc, own, parts, &mut rows) {
@@ -112,6 +114,7 @@ fn restored_senders(
 }
 
 /// Makes the senders anew, where there is none yet.
+#[tactic(auto, using(crate::proofs::SenderTables::ends_none, crate::proofs::SenderTables::ends_pushed))]
 fn restore_each(
     alloc: Global,
     own: u32,
@@ -119,7 +122,8 @@ fn restore_each(
     rows: &mut Vec<SenderRow>,
 ) -> Result<(), Memory>
     requires { rows.old.items ≡ [] }
-    ensures { OnOk result (senders_of rows.new.items ≡ durable.senders_of parts.items) }
+    ensures senders { OnOk result (senders_of rows.new.items ≡ durable.senders_of parts.items) }
+    ensures ends { OnOk result (AreOf own (ends_of rows.new.items)) }
 {
     for part in parts {
         let Some(remote) = cluster_number(rows.len()) else {

@@ -5,6 +5,7 @@ ghost use Rattle.geo_base.specs.Broker.{new_broker, receiver_at, sender_at, sess
 ghost use Rattle.geo_base.specs.Topic.{accepts, index_of};
 ghost use Rattle.broker_subs.specs.SubBook.{subs_of};
 ghost use Rattle.broker_subs.specs.Table.{rooms_of};
+ghost use Rattle.broker_state.specs.Senders.{ends_to};
 ghost use Rattle.broker_state.specs.State.{StateBook, marker_number, no_room};
 ghost use Rattle.broker_state.specs.Site.{IsSite};
 
@@ -49,7 +50,7 @@ impl Model for BrokerState {
       room = record { entries = b.store.spare; streams = b.dedup.room; places = b.subs.room; subs = rooms_of b.subs.subs; senders = b.senders.room };
     } };
 
-    ghost invariant = { λ b. BookHolds b.site b.store.per_ledger b.next_marker (length b.senders.senders) (length b.receivers.items) b.dedup.rows b.store.entries };
+    ghost invariant = { λ b. BookHolds b.site b.store.per_ledger b.next_marker b.senders.own (length b.senders.senders) (length b.receivers.items) b.dedup.rows b.store.entries };
 }
 
 impl BrokerState {
@@ -118,7 +119,8 @@ impl BrokerState {
     /// The sender to a cluster.
     pub fn sender(&self, remote: u32) -> &SenderRow
         requires { remote < length self.now.broker.senders }
-        ensures { result.now.sender ≡ sender_at self.now.broker remote }
+        ensures sender { result.now.sender ≡ sender_at self.now.broker remote }
+        ensures ends { result.now.ends ≡ ends_to self.now.site.own remote }
     {
         self.senders.at(remote)
     }

@@ -1,6 +1,6 @@
 pub mod Held
 pub mod Told
-pub mod Picked
+pub mod Asked
 pub mod Mapped
 pub mod Places
 pub mod Anew

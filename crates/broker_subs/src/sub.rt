@@ -1,18 +1,19 @@
 //! A subscription.
-ghost use Rattle.std.specs.Prelude.{◌≡◌, ◌≤◌, ◌<◌, [], length, IfOk, OnErr, OnOk, IfSome};
-ghost use Rattle.geo_base.specs.Cursor.{has, mark};
-ghost use Rattle.geo_base.specs.Dispatcher.{least_due, pick};
-ghost use Rattle.geo_base.specs.Subscribing.{is_busy};
+ghost use Rattle.std.specs.Prelude.{◌≡◌, ◌≤◌, [], length, IfOk, OnErr, OnOk};
+ghost use Rattle.geo_base.specs.Dispatcher.{pick};
 ghost use Rattle.geo_base.specs.Subscription.{has_consumer, is_attached, new_subscription};
 ghost use Rattle.geo_base.specs.declared.frame.SubKind.TheVariants as sub_kind;
+ghost use Rattle.dispatcher.specs.Acks.{ack_answer};
+ghost use Rattle.dispatcher.specs.Dispatch.{dispatch_of, turns_away};
+ghost use Rattle.dispatcher.specs.Offers.{ChoiceFits, choice};
 ghost use Rattle.durable_parts.specs.Parts as durable;
 ghost use Rattle.broker_subs.specs.SubBook.{durable_of};
 
 use crate::fresh::Fresh;
 use cursor_acks::Cursor;
-use dispatcher::Dispatcher;
+use dispatcher::{AckFault, Choice, Dispatcher};
 use durable_parts::DurableSub;
-use geo_base::{Consumer, EntryStore, Memory, SubKind, SubName};
+use geo_base::{AckKind, Consumer, EntryStore, Memory, SubKind, SubName};
 use key_shared::KeyPick;
 use snapshots::SnapshotCache;
 use std::alloc::Global;
@@ -57,14 +58,7 @@ impl Sub {
         ensures room { IfOk result (λ s. s.room ≡ room) }
         ensures acks { IfOk result (λ s. acks ≤ s.acks) }
     {
-        let durable = DurableSub {
-            name,
-            kind,
-            replicated,
-            cursor: Cursor::none(alloc),
-            seeks: 0,
-        };
-        let mut sub = Sub::restored(alloc, durable)?;
+        let mut sub = Sub::restored(alloc, DurableSub::new(alloc, name, kind, replicated))?;
         sub.reserve(room, acks)?;
         Ok(sub)
     }
@@ -162,27 +156,31 @@ impl Sub {
         self.dispatcher.has_consumer(client, id)
     }
 
-    /// Whether consumers are here that one of a kind can't join.
-    pub fn is_busy(&self, kind: SubKind) -> bool
-        ensures { result ≡ is_busy kind self.now.sub }
+    /// Whether a client's consumer of a kind can't join: the client has one here, or consumers of another kind are here, or an
+    /// exclusive one.
+    #[tactic(auto, using(crate::proofs::Asked::same_turning_away))]
+    pub fn busy(&self, client: u32, kind: SubKind) -> bool
+        ensures { result ≡ turns_away client kind self.now.sub }
     {
-        !self.consumers().is_empty() && (kind != self.durable.kind || kind == SubKind::Exclusive)
+        self.dispatcher.busy(client, kind)
     }
 
-    /// The index that the next offer concerns; `None` exactly where nothing is due.
-    pub fn least_due<S: EntryStore>(&self, store: &S) -> Option<u64>
-        ensures index { result ≡ least_due self.now.sub (length (S.entries store.now)) }
-        ensures within { IfSome result (λ i. i < length (S.entries store.now)) }
+    /// What an acknowledgement of a client's consumer of an id is answered: `ConsumerNotFound` exactly where it has none here, else
+    /// `CumulativeNotAllowed` exactly where the kind is Cumulative on Shared or Key_Shared.
+    #[tactic(auto, using(crate::proofs::Asked::same_answer))]
+    pub fn on_ack(&self, client: u32, id: u64, kind: AckKind) -> Result<(), AckFault>
+        ensures { result ≡ ack_answer client id kind self.now.sub }
     {
-        self.dispatcher.least_due(store, &self.durable.cursor)
+        self.dispatcher.on_ack(client, id, kind)
     }
 
-    /// The place of the consumer that a message of a key goes to; `None` exactly where it goes to none.
-    #[tactic(auto, using(crate::proofs::Picked::same_pick))]
-    pub fn picked(&self, key: &[u8]) -> Option<usize>
-        ensures place { result ≡ pick self.now.sub.kind self.now.sub.consumers key.now }
-        ensures within { IfSome result (λ at. at < length self.now.sub.consumers) }
+    /// What an offer does: nothing, it passes over the marker that is due first, or it gives the message that is due first to the
+    /// consumer at a place.
+    #[tactic(auto, using(crate::proofs::Asked::same_choice))]
+    pub fn choice<S: EntryStore>(&self, store: &S) -> Choice
+        ensures choice { result ≡ choice pick (dispatch_of self.now.sub) self.now.sub.cursor (S.entries store.now) }
+        ensures fits { ChoiceFits (length self.now.sub.consumers) (length (S.entries store.now)) result }
     {
-        self.dispatcher.picked(key)
+        self.dispatcher.choice(store, &self.durable.cursor)
     }
 }

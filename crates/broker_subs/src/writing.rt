@@ -109,8 +109,7 @@ impl Sub {
         requires { 0 < length self.old.sub.consumers → kind ≡ self.old.sub.kind }
         ensures { self.new ≡ record self.old { sub = record self.old.sub { kind = kind; replicated = replicated } } }
     {
-        self.durable.kind = kind;
-        self.durable.replicated = replicated;
+        self.durable.alter(kind, replicated);
     }
 }
 

@@ -1,20 +1,24 @@
--- What an offer is, branch by branch.
+-- What an offer is, by what the dispatcher of its subscription chooses.
 use Rattle.std.proofs.Common.{◌≡◌, ℕ, ◌+◌, ◌<◌, ◌^◌, Bool, true, false, List, [], ◌∷◌, ◌++◌, length, refl, sym, ◌∙◌, ap, subst}
-use Rattle.std.specs.Prelude.{nat_lt, if◌then◌else◌, Option, Some, None, IfSome, drop, slice_get}
+use Rattle.std.specs.Prelude.{nat_lt, if◌then◌else◌, Option, Some, None, IfSome, Result, OnOk, drop, slice_get}
 use Rattle.std.specs.List.{All, AllByRecursion}
 use Rattle.std.proofs.lemmas.List.Elements.{All-cons, All-nil}
-use Rattle.geo_base.specs.declared.change.Change.TheVariants as change
 use Rattle.geo_base.specs.declared.consumer.Consumer.{Consumer}
 use Rattle.geo_base.specs.declared.entry.Entry.{Entry}
 use Rattle.geo_base.specs.declared.snapshot.CachedSnapshot.{CachedSnapshot}
 use Rattle.geo_base.specs.Broker.{Broker, Site, sub_named}
 use Rattle.geo_base.specs.Cache.{cached, most_cached}
-use Rattle.geo_base.specs.Dispatcher.{consumer_at, least_due, pick}
-use Rattle.geo_base.specs.Entry.{is_data, key_bytes}
+use Rattle.geo_base.specs.Dispatcher.{consumer_at, pick}
 use Rattle.geo_base.specs.Name.{is_name}
 use Rattle.geo_base.specs.Offering.{message, offer, own_snapshot, passes_by}
-use Rattle.geo_base.specs.Plan.{Plan, idle_plan, plan_of}
+use Rattle.geo_base.specs.Plan.{Plan, idle_plan, unless_found}
 use Rattle.geo_base.specs.Subscription.{Subscription}
+use Rattle.dispatcher.specs.declared.offering.Choice.{Choice}
+use Rattle.dispatcher.specs.declared.offering.Choice.TheVariants as does
+use Rattle.dispatcher.specs.Dispatch.{dispatch_of}
+use Rattle.dispatcher.specs.Events.{plan_of_choice}
+use Rattle.dispatcher.specs.Offers.{choice}
+use Rattle.dispatcher.proofs.Events.{offer_as_chosen}
 use Rattle.broker_subs.specs.Table.{sub_at}
 use Rattle.broker_subs.specs.declared.writing.SubWrite.TheVariants as sub_write
 use Rattle.broker_state.specs.Plan.{PlanBook}
@@ -27,54 +31,37 @@ use Rattle.broker_plans.specs.Updates.{update_after}
 use Rattle.broker_plans.proofs.Packets.{stored_at}
 use Rattle.broker_plans.proofs.Places.{name_there}
 use Rattle.broker_plans.proofs.Updates.{cache_at}
-use Rattle.broker_tasks.specs.Offering.{cached_with, given_book, gives, offer_index, catch_up_changes, writing_book}
+use Rattle.broker_tasks.specs.Offering.{cached_with, given_book, gives, catch_up_changes, writing_book}
 use Rattle.broker_tasks.proofs.Shapes.{gives_index, writes_cursor}
 
-pub no_sub : (h : Site) (b : Broker) (n : List ℕ) → sub_named b.subs n ≡ None → offer h b n ≡ idle_plan
-unfolding offer
-no_sub h b n none = rw none refl
+-- what the dispatcher of the subscription of a name chooses
+pub chosen_prepared : {E : Type 0} (h : Site) (b : Broker) (n : List ℕ) (s : Subscription) (out now : Choice) (p : PlanBook) (r : Result (Unit {0}) E) → sub_named b.subs n ≡ Some s
+    → out ≡ choice pick (dispatch_of s) s.cursor b.entries → out ≡ now → OnOk r (IsPrepared h b (plan_of_choice h b s now) p) → OnOk r (IsPrepared h b (offer h b n) p)
+chosen_prepared {E} h b n s out now p r is chosen same prepared =
+    subst (λ (q : Plan). OnOk r (IsPrepared h b q p)) (sym (offer_as_chosen h b n s is ∙ ap (λ (c : Choice). plan_of_choice h b s c) (sym chosen ∙ same))) prepared
 
-pub nothing_due : (h : Site) (b : Broker) (n : List ℕ) (s : Subscription) → sub_named b.subs n ≡ Some s → least_due s (length b.entries) ≡ None → offer h b n ≡ idle_plan
-unfolding offer
-nothing_due h b n s is none = rw (is, none) refl
-
-pub some_due : (h : Site) (b : Broker) (n : List ℕ) (s : Subscription) (i : ℕ) → sub_named b.subs n ≡ Some s → least_due s (length b.entries) ≡ Some i → offer h b n ≡ offer_index h b s i
-unfolding offer
-some_due h b n s i is due = rw (is, due) refl
-
-pub is_given : (h : Site) (b : Broker) (s : Subscription) (i : ℕ) (e : Entry) → slice_get b.entries i ≡ Some e → is_data e.content ≡ true → offer_index h b s i ≡ gives h b s i e
-is_given h b s i e at is = rw (at, is) refl
-
-pub is_caught_up : (h : Site) (b : Broker) (s : Subscription) (i : ℕ) (e : Entry) → slice_get b.entries i ≡ Some e → is_data e.content ≡ false
-    → offer_index h b s i ≡ passes_by h b s i (own_snapshot h b s e.ident.origin e.content)
-is_caught_up h b s i e at marker = rw (at, marker) refl
-
--- a message, where room was made before
-pub given_from : (h g : Site) (b c : Broker) (k i : ℕ) (e : Entry) (p : PlanBook) → g ≡ h → c ≡ b → slice_get c.entries i ≡ Some e → is_data e.content ≡ true → IsPrepared g c (gives g c (sub_at c.subs k) i e) p
-    → IsPrepared h b (offer_index h b (sub_at b.subs k) i) p
-given_from h g b c k i e p site same at is prepared =
-    subst (λ (f : Site). IsPrepared f b (offer_index f b (sub_at b.subs k) i) p) site
-    (subst (λ (d : Broker). IsPrepared g d (offer_index g d (sub_at d.subs k) i) p) same
-    (subst (λ (q : Plan). IsPrepared g c q p) (sym (is_given g c (sub_at c.subs k) i e at is)) prepared))
+pub nothing_chosen : (h : Site) (b : Broker) (n : List ℕ) (s : Subscription) (out : Choice) → sub_named b.subs n ≡ Some s → out ≡ choice pick (dispatch_of s) s.cursor b.entries → out ≡ does.Idle → offer h b n ≡ idle_plan
+nothing_chosen h b n s out is chosen same = offer_as_chosen h b n s is ∙ ap (λ (c : Choice). plan_of_choice h b s c) (sym chosen ∙ same)
 
 -- ---- a message
 
-pub picks_none : (h : Site) (b : Broker) (s : Subscription) (i : ℕ) (e : Entry) → pick s.kind s.consumers (key_bytes e.meta.key) ≡ None → gives h b s i e ≡ idle_plan
-picks_none h b s i e none = rw none refl
+at_entry : (f : Entry → Plan) (o : Option Entry) (e : Entry) → o ≡ Some e → f e ≡ unless_found idle_plan o f
+at_entry f o e at = sym (ap (λ (o : Option Entry). unless_found idle_plan o f) at)
 
-pub picks_one : (h : Site) (b : Broker) (s : Subscription) (i at : ℕ) (e : Entry) → pick s.kind s.consumers (key_bytes e.meta.key) ≡ Some at
-    → gives h b s i e ≡ plan_of [] (change.Given s.name i at ∷ []) (message h b i e (consumer_at s.consumers at))
-picks_one h b s i at e one = rw one refl
+-- where room was made before
+pub given_from : (h g : Site) (b c : Broker) (k i at : ℕ) (e : Entry) (p : PlanBook) → g ≡ h → c ≡ b → slice_get c.entries i ≡ Some e → IsPrepared g c (gives g c (sub_at c.subs k) i at e) p
+    → IsPrepared h b (plan_of_choice h b (sub_at b.subs k) (does.Give i at)) p
+given_from h g b c k i at e p site same there prepared =
+    subst (λ (f : Site). IsPrepared f b (plan_of_choice f b (sub_at b.subs k) (does.Give i at)) p) site
+    (subst (λ (d : Broker). IsPrepared g d (plan_of_choice g d (sub_at d.subs k) (does.Give i at)) p) same
+    (subst (λ (q : Plan). IsPrepared g c q p) (at_entry (λ (e : Entry). gives g c (sub_at c.subs k) i at e) (slice_get c.entries i) e there) prepared))
 
--- the event that gives the message to the consumer that was picked, of whom a packet tells
-pub gives_from : (h : Site) (b : Broker) (k i at : ℕ) (e : Entry) (s : Subscription) (o : Option ℕ) (x : Consumer) (packet : WireOut) (p : PlanBook) → k < length b.subs → i + 1 < 2 ^ 64 → s ≡ sub_at b.subs k
-    → o ≡ pick s.kind s.consumers (key_bytes e.meta.key) → o ≡ Some at → at < length s.consumers → x ≡ consumer_at s.consumers at → ArePackets h.clusters (message h b i e x) (packet ∷ []) → p ≡ given_book k i at packet
-    → IsPrepared h b (gives h b (sub_at b.subs k) i e) p
-gives_from h b k i at e s o x packet p within next same picked some among consumer told is =
-    let picks = subst (λ (t : Subscription). pick t.kind t.consumers (key_bytes e.meta.key) ≡ Some at) same (sym picked ∙ some) in
-    let sent = subst (λ (y : Consumer). ArePackets h.clusters (message h b i e y) (packet ∷ [])) consumer told in
-    let says = subst (λ (t : Subscription). ArePackets h.clusters (message h b i e (consumer_at t.consumers at)) (packet ∷ [])) same sent in
-    subst (λ (q : Plan). IsPrepared h b q p) (sym (picks_one h b (sub_at b.subs k) i at e picks)) (gives_index h b k i at e packet p within next (subst (λ (t : Subscription). at < length t.consumers) same among) says is)
+-- the event that gives the message to the consumer, of whom a packet tells
+pub gives_from : (h : Site) (b : Broker) (k i at : ℕ) (e : Entry) (s : Subscription) (x : Consumer) (packet : WireOut) (p : PlanBook) → k < length b.subs → i + 1 < 2 ^ 64 → at < length (sub_at b.subs k).consumers → s ≡ sub_at b.subs k
+    → x ≡ consumer_at s.consumers at → ArePackets h.clusters (message h b i e x) (packet ∷ []) → p ≡ given_book k i at packet → IsPrepared h b (gives h b (sub_at b.subs k) i at e) p
+gives_from h b k i at e s x packet p within next among same consumer told is =
+    gives_index h b k i at e packet p within next among
+    (subst (λ (y : Consumer). ArePackets h.clusters (message h b i e y) (packet ∷ [])) (consumer ∙ ap (λ (t : Subscription). consumer_at t.consumers at) same) told) is
 
 -- what is stored can be written
 pub stored_there : (h : Site) (b : Broker) (i : ℕ) (e : Entry) → IsWritable h b → slice_get b.entries i ≡ Some e → IsStorable h e
@@ -85,14 +72,13 @@ stored_from h g b c i e site same all at = subst (λ (f : Site). IsStorable f e)
 
 -- ---- a marker
 
--- it is caught up with, where room was made before
-pub caught_from : (h g : Site) (b c : Broker) (k i : ℕ) (e : Entry) (o : Option CachedSnapshot) (p : PlanBook) → g ≡ h → c ≡ b → slice_get c.entries i ≡ Some e → is_data e.content ≡ false
-    → o ≡ own_snapshot g c (sub_at c.subs k) e.ident.origin e.content → IsPrepared g c (passes_by g c (sub_at c.subs k) i o) p → IsPrepared h b (offer_index h b (sub_at b.subs k) i) p
-caught_from h g b c k i e o p site same at marker brought prepared =
-    subst (λ (f : Site). IsPrepared f b (offer_index f b (sub_at b.subs k) i) p) site
-    (subst (λ (d : Broker). IsPrepared g d (offer_index g d (sub_at d.subs k) i) p) same
-    (subst (λ (q : Plan). IsPrepared g c q p)
-    (ap (λ (x : Option CachedSnapshot). passes_by g c (sub_at c.subs k) i x) brought ∙ sym (is_caught_up g c (sub_at c.subs k) i e at marker)) prepared))
+-- it is caught up with
+pub caught_from : (h : Site) (b : Broker) (k i : ℕ) (e : Entry) (o : Option CachedSnapshot) (p : PlanBook) → slice_get b.entries i ≡ Some e → o ≡ own_snapshot h b (sub_at b.subs k) e.ident.origin e.content
+    → IsPrepared h b (passes_by h b (sub_at b.subs k) i o) p → IsPrepared h b (plan_of_choice h b (sub_at b.subs k) (does.Pass i)) p
+caught_from h b k i e o p at brought prepared =
+    let s = sub_at b.subs k in
+    subst (λ (q : Plan). IsPrepared h b q p)
+    (ap (λ (x : Option CachedSnapshot). passes_by h b s i x) brought ∙ at_entry (λ (e : Entry). passes_by h b s i (own_snapshot h b s e.ident.origin e.content)) (slice_get b.entries i) e at) prepared
 
 -- one more snapshot, and the oldest gone where there are too many
 all_push : (h : Site) (cs : List CachedSnapshot) (c : CachedSnapshot) → AllByRecursion (IsSnapshotOf h) cs → IsSnapshotOf h c → AllByRecursion (IsSnapshotOf h) (cs ++ c ∷ [])

@@ -64,12 +64,12 @@ skipped h b y i p at is =
       stored = record { writes = tt; changes = tt };
     })
 
-pub skipped_room : (room : Room) (y i : ℕ) (p : PlanBook) → ReadRoom room → p ≡ handled_book y i (quiet_book 0) → HasRoom room p
+pub skipped_room : (room : Room) (y i : ℕ) (p : PlanBook) → 1 ≤ room.senders → p ≡ handled_book y i (quiet_book 0) → HasRoom room p
 skipped_room room y i p has is =
     rw is (record {
-      writes = record { entries = omega arith; streams = omega arith; places = omega arith; acks = (tt, tt); senders = omega (arith, has.senders) };
+      writes = record { entries = omega arith; streams = omega arith; places = omega arith; acks = (tt, tt); senders = omega (arith, has) };
       given = omega arith;
-      senders = omega (arith, has.senders);
+      senders = omega (arith, has);
     })
 
 -- behind a marker
@@ -169,12 +169,12 @@ forwarded h b y i e bytes p at written is =
       stored = record { writes = tt; changes = tt };
     })
 
-pub forwarded_room : (room : Room) (b : Broker) (y i : ℕ) (bytes : List ℕ) (p : PlanBook) → ReadRoom room → p ≡ forwarding_book b y i bytes → HasRoom room p
+pub forwarded_room : (room : Room) (b : Broker) (y i : ℕ) (bytes : List ℕ) (p : PlanBook) → 1 ≤ room.senders → p ≡ forwarding_book b y i bytes → HasRoom room p
 forwarded_room room b y i bytes p has is =
     rw is (record {
       writes = record { entries = omega arith; streams = omega arith; places = omega arith; acks = tt; senders = omega arith };
       given = omega arith;
-      senders = omega (arith, has.senders);
+      senders = omega (arith, has);
     })
 
 -- ---- a snapshot begins

@@ -1,14 +1,13 @@
 -- The parts of an offer.
-use Rattle.std.specs.Prelude.{ℕ, List, [], ◌∷◌, ◌++◌, Option, Some, None, slice_get}
+use Rattle.std.specs.Prelude.{ℕ, List, [], ◌∷◌, ◌++◌, Option, Some, None}
 use Rattle.geo_base.specs.declared.change.Change.TheVariants as change
 use Rattle.geo_base.specs.declared.entry.Entry.{Entry}
 use Rattle.geo_base.specs.declared.snapshot.CachedSnapshot.{CachedSnapshot}
 use Rattle.geo_base.specs.Broker.{Broker, Site}
 use Rattle.geo_base.specs.Cache.{cached}
-use Rattle.geo_base.specs.Dispatcher.{consumer_at, pick}
-use Rattle.geo_base.specs.Entry.{key_bytes}
-use Rattle.geo_base.specs.Offering.{message, offer_entry}
-use Rattle.geo_base.specs.Plan.{Plan, idle_plan, plan_of, unless_found}
+use Rattle.geo_base.specs.Dispatcher.{consumer_at}
+use Rattle.geo_base.specs.Offering.{message}
+use Rattle.geo_base.specs.Plan.{Plan, plan_of}
 use Rattle.geo_base.specs.Subscription.{Subscription}
 use Rattle.broker_subs.specs.declared.changing.SubChange.TheVariants as sub_change
 use Rattle.broker_subs.specs.declared.writing.SubWrite.{SubWrite}
@@ -19,15 +18,9 @@ use Rattle.geo_base.specs.declared.packet.WireOut.{WireOut}
 use Rattle.broker_state.specs.declared.change.BookChange.{BookChange}
 use Rattle.broker_state.specs.declared.change.BookChange.TheVariants as book_change
 
--- what becomes of an index that is due
-abbrev pub offer_index : Site → Broker → Subscription → ℕ → Plan
-offer_index h b s i = unless_found idle_plan (slice_get b.entries i) (λ e. offer_entry h b s i e)
-
--- what becomes of a message: it goes to the consumer that it is for, if that has a permit
-abbrev pub gives : Site → Broker → Subscription → ℕ → Entry → Plan
-gives h b s i e =
-    unless_found idle_plan (pick s.kind s.consumers (key_bytes e.meta.key)) (λ at.
-    plan_of [] (change.Given s.name i at ∷ []) (message h b i e (consumer_at s.consumers at)))
+-- a message goes to the consumer at a place in the order
+abbrev pub gives : Site → Broker → Subscription → ℕ → ℕ → Entry → Plan
+gives h b s i at e = plan_of [] (change.Given s.name i at ∷ []) (message h b i e (consumer_at s.consumers at))
 
 -- the event that gives an index to the consumer at a place in the order
 abbrev pub given_book : ℕ → ℕ → ℕ → WireOut → PlanBook

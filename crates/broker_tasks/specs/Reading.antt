@@ -1,20 +1,23 @@
 -- What a sender does with the entry that it reads.
-use Rattle.std.specs.Prelude.{◌≡◌, ◌≢◌, ℕ, ◌+◌, ◌<◌, ◌≤◌, ◌^◌, true, List, [], ◌∷◌, ◌++◌, length, Option}
+use Rattle.std.specs.Prelude.{◌≡◌, ◌≢◌, ℕ, ◌+◌, ◌<◌, ◌≤◌, ◌^◌, true, List, [], ◌∷◌, ◌++◌, length, Option, Some, None, slice_get, ⊤}
 use Rattle.geo_base.specs.declared.change.Change.TheVariants as change
-use Rattle.geo_base.specs.declared.entry.Content.{Content}
 use Rattle.geo_base.specs.declared.entry.Content.TheVariants as content
 use Rattle.geo_base.specs.declared.entry.Entry.{Entry}
+use Rattle.geo_base.specs.declared.marker.Marker.{Marker}
 use Rattle.geo_base.specs.declared.snapshot.Builder.{Builder}
 use Rattle.geo_base.specs.Broker.{Broker, Site, sender_at, sub_named}
 use Rattle.geo_base.specs.Plan.{Plan}
 use Rattle.geo_base.specs.Topic.{accepts}
 use Rattle.geo_base.specs.Updating.{handled, passed_over, passing}
+use Rattle.replicator.specs.declared.reading.ReadOut.{ReadOut}
+use Rattle.replicator.specs.declared.reading.ReadOut.TheVariants as reads
+use Rattle.replicator.specs.Reading.{IsMarkerOf}
 use Rattle.broker_state.specs.Plan.{IsEmptyPlan, PlanBook, quiet_book}
 use Rattle.broker_state.specs.Room.{HasRoom, Room}
 use Rattle.broker_state.specs.declared.change.BookChange.TheVariants as book_change
 use Rattle.broker_state.specs.declared.write.BookWrite.TheVariants as book_write
 use Rattle.broker_plans.specs.Prepared.{IsPrepared}
-use Rattle.broker_plans.specs.Storable.{IsStorable, first_text}
+use Rattle.broker_plans.specs.Storable.{IsStorable}
 use Rattle.broker_plans.specs.Updates.{appending}
 use Rattle.broker_tasks.specs.declared.act.ReadAct.{ReadAct}
 use Rattle.broker_tasks.specs.declared.act.ReadAct.TheVariants as act
@@ -26,6 +29,18 @@ pub record IsReading (h : Site) (b : Broker) (y i : ℕ) : Type 0 where
   pub sender : y < length b.senders
   pub next : (sender_at b y).next ≤ i
   pub fits : i + 1 < 2 ^ 64
+
+-- what the sender to y reads: it may, and the entry is what it says
+abbrev pub IsReadOut : Site → Broker → ℕ → ReadOut → Type 0
+IsReadOut h b y reads.Idle = ⊤
+IsReadOut h b y (reads.Skip i) = IsReading h b y i
+IsReadOut h b y (reads.Mark i) = IsReading h b y i × IsMarkerOf y (slice_get b.entries i)
+IsReadOut h b y (reads.Send i number) = IsReading h b y i × (i < length b.entries) × (number ≡ (sender_at b y).next)
+
+-- an entry is a marker
+abbrev pub HasMarker : Option Entry → Marker → Type 0
+HasMarker None m = ⊥
+HasMarker (Some e) m = e.content ≡ content.Marked m
 
 -- room for a marker, and for an index that a sender is acknowledged or sends
 pub record ReadRoom (room : Room) : Type 0 where
@@ -59,9 +74,3 @@ pub record IsAcknowledging (h : Site) (b : Broker) (y i : ℕ) (p : Plan) (n : L
 abbrev pub IsRead : Site → Broker → Room → ℕ → ℕ → Plan → ReadAct → PlanBook → Type 0
 IsRead h b room y i p act.Ready q = IsPrepared h b p q × HasRoom room q
 IsRead h b room y i p (act.Acknowledges n j) q = IsAcknowledging h b y i p n j × IsEmptyPlan q
-
--- the text that a marker begins with, where the entry is one
-abbrev pub told_text : Content → List ℕ
-told_text content.Data = []
-told_text (content.Marked m) = first_text m
-told_text (content.Unread kind) = []

@@ -1,14 +1,14 @@
 //! What a sender does with what it reads.
-ghost use Rattle.std.specs.Prelude.{◌≡◌, ◌<◌, ◌+◌, ◌^◌, [], OnOk};
+ghost use Rattle.std.specs.Prelude.{◌≡◌, ◌≤◌, ◌<◌, ◌+◌, ◌^◌, [], Some, length, slice_get, OnOk};
 ghost use Rattle.geo_base.specs.Updating.{handled};
 ghost use Rattle.broker_state.specs.Plan.{IsEmptyPlan};
 ghost use Rattle.broker_state.specs.Room.{HasRoom};
 ghost use Rattle.broker_plans.specs.Prepared.{IsPrepared};
-ghost use Rattle.broker_tasks.specs.Reading.{IsReading, ReadRoom, handled_book, marker_book};
+ghost use Rattle.broker_tasks.specs.Reading.{IsReading, handled_book, marker_book};
 
 use broker_plans::appending;
 use broker_state::{BookChange, BookWrite, BrokerState, Plan};
-use geo_base::{Entry, Memory, SubName};
+use geo_base::{Entry, EntryStore, Memory, SubName};
 use std::alloc::Global;
 
 /// The sender to a cluster reads the entry at an index.
@@ -25,6 +25,17 @@ pub(crate) enum ReadAct {
     Ready,
     /// The subscription of a name acknowledges what the other cluster could have had up to an index.
     Acknowledges { sub: SubName, to: u64 },
+}
+
+/// The entry at an index.
+pub(crate) fn entry_at(book: &BrokerState, index: u64) -> &Entry
+    requires { index < length book.now.broker.entries }
+    ensures { slice_get book.now.broker.entries index ≡ Some result.now }
+{
+    match book.store().get(index as usize) {
+        Some(entry) => entry,
+        None => unreachable!(),
+    }
 }
 
 /// An event behind which what was read is acknowledged on the sender's cursor.
@@ -54,7 +65,7 @@ pub(crate) fn begin_marker(alloc: Global, marker: Entry, plan: &mut Plan) -> Res
 #[tactic(auto, using(crate::proofs::Plans::skipped, crate::proofs::Plans::skipped_room))]
 pub(crate) fn skip(book: &BrokerState, at: ReadAt, plan: &mut Plan) -> Result<(), Memory>
     requires reading { IsReading book.now.site book.now.broker at.remote at.index }
-    requires room { ReadRoom book.now.room }
+    requires room { 1 ≤ book.now.room.senders }
     requires empty { IsEmptyPlan plan.old }
     ensures prepared { OnOk result (IsPrepared book.now.site book.now.broker (handled at.remote at.index [] []) plan.new) }
     ensures room { OnOk result (HasRoom book.now.room plan.new) }

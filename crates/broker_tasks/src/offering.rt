@@ -1,27 +1,40 @@
-//! offer: the dispatcher of a subscription takes the least due index. A message goes to a consumer that has a permit; a marker needs
-//! none, and the subscription catches up with it.
-ghost use Rattle.std.specs.Prelude.{◌≡◌, ◌+◌, ◌<◌, ◌≤◌, ◌^◌, [], ◌∷◌, Some, length, slice_get, IfOk, IfSome, OnOk};
-ghost use Rattle.geo_base.specs.Dispatcher.{least_due, pick};
-ghost use Rattle.geo_base.specs.Entry.{is_data, key_bytes};
-ghost use Rattle.geo_base.specs.Offering.{message, number_of, offer};
+//! offer: the dispatcher of a subscription chooses. A message goes to a consumer that has a permit; a marker needs none, and the
+//! subscription catches up with it.
+ghost use Rattle.std.specs.Prelude.{◌≡◌, ◌+◌, ◌<◌, ◌≤◌, ◌^◌, [], ◌∷◌, length, IfOk, OnOk};
 ghost use Rattle.geo_base.specs.Broker.{session_at};
+ghost use Rattle.geo_base.specs.Dispatcher.{pick};
+ghost use Rattle.geo_base.specs.Offering.{message, number_of, offer};
 ghost use Rattle.geo_base.specs.Topic.{position_at};
+ghost use Rattle.dispatcher.specs.declared.offering.Choice.TheVariants as does;
+ghost use Rattle.dispatcher.specs.Dispatch.{dispatch_of};
+ghost use Rattle.dispatcher.specs.Events.{plan_of_choice};
+ghost use Rattle.dispatcher.specs.Offers.{ChoiceFits, choice};
 ghost use Rattle.broker_subs.specs.Table.{room_at, sub_at};
 ghost use Rattle.broker_state.specs.Plan.{IsEmptyPlan};
 ghost use Rattle.broker_state.specs.Room.{HasRoom};
 ghost use Rattle.broker_state.specs.State.{SameState};
 ghost use Rattle.broker_plans.specs.Prepared.{ArePackets, CanWrite, IsPrepared};
 ghost use Rattle.broker_plans.specs.Storable.{IsStorable};
-ghost use Rattle.broker_tasks.specs.Offering.{given_book, gives, offer_index};
+ghost use Rattle.broker_tasks.specs.Offering.{gives};
 
+use crate::act::entry_at;
 use crate::caching::own_snapshot;
 use crate::catching_up::catch_up;
 use broker_plans::{message_text, place_named, sub_at};
 use broker_state::{BookChange, BrokerState, Plan};
-use broker_subs::{Sub, SubChange};
-use geo_base::{Consumer, Content, Entry, EntryStore, Memory, Peer, Position, WireOut};
+use broker_subs::SubChange;
+use dispatcher::Choice;
+use geo_base::{Consumer, Entry, EntryStore, Memory, Peer, Position, WireOut};
 use std::alloc::Global;
 use topic_store::or_first;
+
+/// The message at an index goes to the consumer at a place in the order, `to`, of the subscription at a place.
+#[derive(Clone, Copy, Drop)]
+struct Giving {
+    place: usize,
+    index: u64,
+    to: usize,
+}
 
 /// What an offer of the subscription of a name will do; idle where there is none, where nothing is due, and where a message is due
 /// and no consumer for it has a permit. Only room is made; an `Err` is want of memory.
@@ -40,25 +53,26 @@ pub fn prepare_offer(
     let Some(place) = place_named(book, name) else {
         return Ok(());
     };
-    let Some(index) = least_due(book, place) else {
-        return Ok(());
-    };
-    offer_index(alloc, book, place, index, plan)
+    match choice(book, place) {
+        Choice::Idle => Ok(()),
+        Choice::Pass(index) => pass_by(alloc, book, place, index, plan),
+        Choice::Give { index, place: to } => {
+            give_message(alloc, book, Giving { place, index, to }, plan)
+        }
+    }
 }
 
-/// The least index that is due at the subscription at a place.
-fn least_due(book: &BrokerState, place: usize) -> Option<u64>
+/// What the dispatcher of the subscription at a place chooses.
+fn choice(book: &BrokerState, place: usize) -> Choice
     requires { place < length book.now.broker.subs }
-    ensures index { result ≡ least_due (sub_at book.now.broker.subs place) (length book.now.broker.entries) }
-    ensures within { IfSome result (λ i. i < length book.now.broker.entries) }
-    ensures next { IfSome result (λ i. i + 1 < 2 ^ 64) }
+    ensures choice { result ≡ choice pick (dispatch_of (sub_at book.now.broker.subs place)) (sub_at book.now.broker.subs place).cursor book.now.broker.entries }
+    ensures fits { ChoiceFits (length (sub_at book.now.broker.subs place).consumers) (length book.now.broker.entries) result }
 {
-    let _len = book.store().len();
-    sub_at(book, place).least_due(book.store())
+    sub_at(book, place).choice(book.store())
 }
 
-/// What becomes of an index that is due at the subscription at a place.
-fn offer_index(
+/// The subscription at a place catches up with the marker at an index.
+fn pass_by(
     alloc: Global,
     book: &mut BrokerState,
     place: usize,
@@ -70,92 +84,60 @@ fn offer_index(
     requires index { index < length book.old.broker.entries }
     requires next { index + 1 < 2 ^ 64 }
     requires empty { IsEmptyPlan plan.old }
-    ensures prepared { OnOk result (IsPrepared book.old.site book.old.broker (offer_index book.old.site book.old.broker (sub_at book.old.broker.subs place) index) plan.new) }
+    ensures prepared { OnOk result (IsPrepared book.old.site book.old.broker (plan_of_choice book.old.site book.old.broker (sub_at book.old.broker.subs place) (does.Pass index)) plan.new) }
     ensures room { OnOk result (HasRoom book.new.room plan.new) }
     ensures kept { SameState book.old book.new }
 {
-    book.reserve_sub(place, 1, 0)?;
-    let entry = entry_at(book, index);
-    if is_message(entry) {
-        return give_message(alloc, book, place, index, entry, plan);
-    }
-    let snapshot = own_snapshot(alloc, book, place, entry)?;
+    let snapshot = own_snapshot(alloc, book, place, entry_at(book, index))?;
     catch_up(alloc, book, place, index, snapshot, plan)
 }
 
-/// The entry at an index.
-fn entry_at(book: &BrokerState, index: u64) -> &Entry
-    requires { index < length book.now.broker.entries }
-    ensures { slice_get book.now.broker.entries index ≡ Some result.now }
-{
-    match book.store().get(index as usize) {
-        Some(entry) => entry,
-        None => unreachable!(),
-    }
-}
-
-/// Whether an entry is a message.
-fn is_message(entry: &Entry) -> bool
-    ensures { result ≡ is_data entry.now.content }
-{
-    matches!(entry.content, Content::Data)
-}
-
-/// A message is given to the consumer that it is for, if that has a permit.
-#[tactic(auto, using(crate::proofs::Offers::picks_none, crate::proofs::Offers::picks_one, crate::proofs::Shapes::idle, crate::proofs::Shapes::idle_room, crate::proofs::Shapes::gives_index, crate::proofs::Shapes::given_room))]
+/// A message is given to its consumer.
 fn give_message(
     alloc: Global,
+    book: &mut BrokerState,
+    giving: Giving,
+    plan: &mut Plan,
+) -> Result<(), Memory>
+    requires can { CanWrite book.old.site book.old.broker }
+    requires place { giving.place < length book.old.broker.subs }
+    requires index { giving.index < length book.old.broker.entries }
+    requires next { giving.index + 1 < 2 ^ 64 }
+    requires to { giving.to < length (sub_at book.old.broker.subs giving.place).consumers }
+    requires empty { IsEmptyPlan plan.old }
+    ensures prepared { OnOk result (IsPrepared book.old.site book.old.broker (plan_of_choice book.old.site book.old.broker (sub_at book.old.broker.subs giving.place) (does.Give giving.index giving.to)) plan.new) }
+    ensures room { OnOk result (HasRoom book.new.room plan.new) }
+    ensures kept { SameState book.old book.new }
+{
+    book.reserve_sub(giving.place, 1, 0)?;
+    give_entry(alloc, book, giving, entry_at(book, giving.index), plan)
+}
+
+/// An entry is given to its consumer in a packet.
+#[tactic(auto, using(crate::proofs::Shapes::given_room))]
+fn give_entry(
+    alloc: Global,
     book: &BrokerState,
-    place: usize,
-    index: u64,
+    giving: Giving,
     entry: &Entry,
     plan: &mut Plan,
 ) -> Result<(), Memory>
     requires storable { IsStorable book.now.site entry.now }
-    requires place { place < length book.now.broker.subs }
-    requires next { index + 1 < 2 ^ 64 }
-    requires some { 1 ≤ (room_at book.now.room.subs place).room }
+    requires place { giving.place < length book.now.broker.subs }
+    requires next { giving.index + 1 < 2 ^ 64 }
+    requires to { giving.to < length (sub_at book.now.broker.subs giving.place).consumers }
+    requires some { 1 ≤ (room_at book.now.room.subs giving.place).room }
     requires empty { IsEmptyPlan plan.old }
-    ensures prepared { OnOk result (IsPrepared book.now.site book.now.broker (gives book.now.site book.now.broker (sub_at book.now.broker.subs place) index entry.now) plan.new) }
+    ensures prepared { OnOk result (IsPrepared book.now.site book.now.broker (gives book.now.site book.now.broker (sub_at book.now.broker.subs giving.place) giving.index giving.to entry.now) plan.new) }
     ensures room { OnOk result (HasRoom book.now.room plan.new) }
 {
-    let sub = sub_at(book, place);
-    let Some(at) = pick(sub, entry) else {
-        return Ok(());
-    };
-    let consumer = &sub.consumers()[at];
+    let Giving { place, index, to } = giving;
+    let consumer = &sub_at(book, place).consumers()[to];
     let packet = message(alloc, book, index, entry, consumer)?;
-    give(place, index, at, packet, plan)?;
-    Ok(())
-}
-
-/// An event that gives an index to the consumer at a place in the order, in a packet.
-fn give(place: usize, index: u64, at: usize, packet: WireOut, plan: &mut Plan) -> Result<(), Memory>
-    requires empty { IsEmptyPlan plan.old }
-    ensures { OnOk result (plan.new ≡ given_book place index at packet) }
-{
     plan.begin(place);
-    plan.change(BookChange::Sub(SubChange::Given { index, place: at }))?;
+    plan.change(BookChange::Sub(SubChange::Given { index, place: to }))?;
     plan.send(packet)?;
     Ok(())
-}
-
-/// The place in the order of the consumer that a message is for; `None` exactly where that has no permit, and where there is none.
-fn pick(sub: &Sub, entry: &Entry) -> Option<usize>
-    ensures place { result ≡ pick sub.now.sub.kind sub.now.sub.consumers (key_bytes entry.now.meta.key) }
-    ensures within { IfSome result (λ at. at < length sub.now.sub.consumers) }
-{
-    sub.picked(key_bytes(entry))
-}
-
-/// The bytes of an entry's key: none where it has no key.
-fn key_bytes(entry: &Entry) -> &[u8]
-    ensures { result.now ≡ key_bytes entry.now.meta.key }
-{
-    match entry.meta.key() {
-        Some(key) => key.as_bytes(),
-        None => &[],
-    }
 }
 
 /// The packet that gives the entry at an index to a consumer.

@@ -1,7 +1,9 @@
 //! The dispatcher of a subscription: which entry is offered next, and to which consumer (Pulsar manual, subscription types).
 //!
-//! Beside the calls of a library, which test and then act (`attach`, `permits`, `offer`), stand the looks and the bare steps
-//! that they are made of (`busy`, `join`, `picked`, `give`): a broker looks before it writes anything, and steps after.
+//! The program's broker looks before it writes anything, by `busy`, `choice`, `on_ack`, `has_consumer` and `is_attached`, and does the
+//! bare steps after (`join`, `permit`, `pass`, `give`, `leave`, `seek`, `forget`, `forget_each`, `forget_to`). For other teams are
+//! `attach`, `permits`, `offer` and `detach`, each such a look and its step in one call; `next_offer`, which is `choice` told by the consumer's
+//! id; `redeliver`, which is `leave` of consumers that stay; and `PlainPick`.
 //!
 //! What is out and what is due again ascend by index. So an offer, and each index of an acknowledgement (`forget_each`), costs
 //! a binary search in both and in the cursor's ranges. An index that is out no more leaves an empty slot, so that acknowledgements move

@@ -1,6 +1,6 @@
 -- A write does what the machine's write does that it stands for.
 use Rattle.std.proofs.Common.{◌≡◌, ◌∙◌, ℕ, suc, ◌+◌, Bool, true, false, List, [], ◌∷◌, get_or, map, refl, sym, ap, arith}
-use Rattle.std.specs.Prelude.{if◌then◌else◌, slice_set}
+use Rattle.std.specs.Prelude.{if◌then◌else◌, slice_set, Result, Ok, Err, OnOk}
 use Rattle.std.specs.List.{All}
 use Rattle.std.specs.Str.{bytes_eq}
 use Rattle.geo_base.specs.declared.write.Write as machine
@@ -46,3 +46,8 @@ stands per b (whole.Seek n c seeks) m h =
 stands per b (whole.SenderAcks y c) m h =
     ap (λ (x : List ℕ). record b { senders = slice_set b.senders y (record (sender_at b y) { cursor = x }) }) h.2
     ∙ ap (λ (x : machine.Write). written per b x) (sym h.1)
+
+-- so does one that was done
+pub stands_done : {E : Type 0} (per : ℕ) (b c : Broker) (w : Write) (m : machine.Write) (r : Result (Unit {0}) E) → StandsFor b w m → OnOk r (c ≡ applied per b w) → OnOk r (c ≡ written per b m)
+stands_done {E} per b c w m (Ok u) h done = done ∙ stands per b w m h
+stands_done {E} per b c w m (Err e) h done = tt

@@ -1,10 +1,9 @@
 //! What a durable write does.
-ghost use Rattle.std.specs.Prelude.{◌≡◌, ℕ, [], if◌then◌else◌, IfOk, OnOk, OnErr};
-ghost use Rattle.geo_base.specs.Broker.{Broker, at_sub, written};
+ghost use Rattle.std.specs.Prelude.{◌≡◌, [], if◌then◌else◌, IfOk, OnOk, OnErr};
+ghost use Rattle.geo_base.specs.Broker.{at_sub, written};
 ghost use Rattle.geo_base.specs.Cursor.{below};
 ghost use Rattle.geo_base.specs.declared.write.Write.{Write as MachineWrite};
 ghost use Rattle.geo_base.specs.declared.write.Write.TheVariants as write;
-ghost use Rattle.durable_parts.specs.declared.write.Write.{Write as WholeWrite};
 ghost use Rattle.durable_parts.specs.Applied.{StandsFor, applied};
 ghost use Rattle.durable_parts.specs.Changed.{with_part};
 ghost use Rattle.durable_parts.specs.Durable.{broker_of};
@@ -16,9 +15,12 @@ use geo_base::{Entry, EntryStore, Memory, SubKind, SubName};
 use std::alloc::Global;
 
 /// Does one durable write. One that names a subscription or a cluster that is not here changes nothing, and neither does the
-/// creation of a subscription that is here; unchanged where memory is wanting.
+/// creation of a subscription that is here; unchanged where memory is wanting. It does what the machine's write does that it stands for:
+/// one that carries a whole cursor stands for the write of what that cursor gains over the one before it.
+#[tactic(auto, using(crate::proofs::Standing::stands_done))]
 pub fn apply_write(alloc: Global, durable: &mut Durable, write: Write) -> Result<(), Memory>
     ensures ok { OnOk result (broker_of durable.new ≡ applied durable.old.store.per_ledger (broker_of durable.old) write) }
+    ensures machine { (m : MachineWrite) → StandsFor (broker_of durable.old) write m → OnOk result (broker_of durable.new ≡ written durable.old.store.per_ledger (broker_of durable.old) m) }
     ensures err { OnErr result (broker_of durable.new ≡ broker_of durable.old) }
     ensures own { durable.new.own ≡ durable.old.own }
     ensures per_ledger { durable.new.store.per_ledger ≡ durable.old.store.per_ledger }
@@ -62,12 +64,6 @@ pub fn apply_write(alloc: Global, durable: &mut Durable, write: Write) -> Result
         Write::Ledger => open_ledger(durable),
     }
 }
-
-/// A law: a write does what the machine's write does that it stands for. One that carries a whole cursor stands for the
-/// machine's write of what that cursor gains over the one before it.
-pub fn law_writes()
-    ensures { (per : ℕ) (b : Broker) (w : WholeWrite) (m : MachineWrite) → StandsFor b w m → applied per b w ≡ written per b m }
-{}
 
 /// An entry is stored.
 fn append(durable: &mut Durable, entry: Entry) -> Result<(), Memory>

@@ -58,15 +58,20 @@ impl DurableSub {
         }
     }
 
+    /// It has a kind, and is replicated or not.
+    pub fn alter(&mut self, kind: SubKind, replicated: bool)
+        ensures { self.new ≡ record self.old { kind = kind; replicated = replicated } }
+    {
+        self.kind = kind;
+        self.replicated = replicated;
+    }
+
     /// A part is another one.
     pub(crate) fn set(&mut self, part: SubPart)
         ensures { sub_of self.new ≡ with_part part (sub_of self.old) }
     {
         match part {
-            SubPart::Kind { kind, replicated } => {
-                self.kind = kind;
-                self.replicated = replicated;
-            }
+            SubPart::Kind { kind, replicated } => self.alter(kind, replicated),
             SubPart::Acks(cursor) => self.cursor = cursor,
             SubPart::Seek { cursor, seeks } => {
                 self.cursor = cursor;
@@ -111,16 +116,6 @@ impl DurableSender {
             session: 0,
             cursor: Cursor::none(alloc),
         }
-    }
-
-    /// A copy.
-    pub fn copy(&self, alloc: Global) -> Result<DurableSender, Memory>
-        ensures { IfOk result (λ d. sender_of d ≡ sender_of self.now) }
-    {
-        Ok(DurableSender {
-            session: self.session,
-            cursor: self.cursor.copy(alloc)?,
-        })
     }
 }
 

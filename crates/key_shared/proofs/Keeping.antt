@@ -10,13 +10,13 @@ use Rattle.geo_base.specs.declared.frame.SubKind.{SubKind}
 use Rattle.geo_base.specs.declared.frame.SubKind.TheVariants as sub_kind
 use Rattle.geo_base.specs.Cursor.{has}
 use Rattle.geo_base.specs.Dispatcher.{consumer_at, given, key_number, least_due, passed_index, pick, served}
-use Rattle.geo_base.specs.Entry.{is_data}
+use Rattle.geo_base.specs.Entry.{is_data, key_bytes}
 use Rattle.geo_base.specs.Subscription.{has_consumer, is_of, most_permits, permitted}
 use Rattle.dispatcher.specs.declared.offering.Choice.{Choice}
 use Rattle.dispatcher.specs.declared.offering.Choice.TheVariants as does
 use Rattle.dispatcher.specs.Dispatch.{Dispatch, dispatch_of, sub_with}
 use Rattle.dispatcher.specs.Offers.{after_choice, choice_at, choice_data, choice_entry}
-use Rattle.key_shared.specs.Keys.{Call, CursorsGrow, ForgetEach, ForgetTo, Forget, GivenTo, LawKeys, Offer, OnAck, Permits, Turn, after_call, all_given, given_by, given_in, key_at, keyed_choice}
+use Rattle.key_shared.specs.Keys.{Call, CursorsGrow, ForgetEach, ForgetTo, Forget, GivenTo, LawKeys, Offer, OnAck, Permits, Turn, after_call, all_given, given_by, given_in, key_at, key_of, keyed_choice}
 use Rattle.key_shared.proofs.Consumers.{SameConsumers, key_place, permitted_same, same_consumers, served_same}
 use Rattle.key_shared.proofs.Dues.{IsLeastFrom, PastBelow, due_reached, filter_fewer, least_is, past_offered, still_past}
 
@@ -71,21 +71,21 @@ pub data Shape (d : Dispatch) (cursor : List ℕ) (es : List Entry) (c : Choice)
   Passes : (i : ℕ) → least_due (sub_with cursor d) (length es) ≡ Some i → c ≡ does.Pass i → Shape d cursor es c
   Gives : (i at : ℕ) → least_due (sub_with cursor d) (length es) ≡ Some i → pick d.kind d.consumers (key_at es (Some i)) ≡ Some at → c ≡ does.Give i at → Shape d cursor es c
 
-shape_data : (d : Dispatch) (cursor : List ℕ) (es : List Entry) (i : ℕ) (o : Option ℕ) → least_due (sub_with cursor d) (length es) ≡ Some i → pick d.kind d.consumers (key_at es (Some i)) ≡ o → Shape d cursor es (choice_data i o)
-shape_data d cursor es i None e p = Nothing refl
-shape_data d cursor es i (Some at) e p = Gives i at e p refl
+shape_data : (d : Dispatch) (cursor : List ℕ) (es : List Entry) (i : ℕ) (key : List ℕ) (o : Option ℕ) → least_due (sub_with cursor d) (length es) ≡ Some i → key_at es (Some i) ≡ key → pick d.kind d.consumers key ≡ o → Shape d cursor es (choice_data i o)
+shape_data d cursor es i key None e same p = Nothing refl
+shape_data d cursor es i key (Some at) e same p = Gives i at e (ap (λ (k : List ℕ). pick d.kind d.consumers k) same ∙ p) refl
 
-shape_content : (d : Dispatch) (cursor : List ℕ) (es : List Entry) (i : ℕ) (b : Bool) → least_due (sub_with cursor d) (length es) ≡ Some i → Shape d cursor es (if b then choice_data i (pick d.kind d.consumers (key_at es (Some i))) else does.Pass i)
-shape_content d cursor es i true e = shape_data d cursor es i (pick d.kind d.consumers (key_at es (Some i))) e refl
-shape_content d cursor es i false e = Passes i e refl
+shape_content : (d : Dispatch) (cursor : List ℕ) (es : List Entry) (i : ℕ) (key : List ℕ) (b : Bool) → least_due (sub_with cursor d) (length es) ≡ Some i → key_at es (Some i) ≡ key → Shape d cursor es (if b then choice_data i (pick d.kind d.consumers key) else does.Pass i)
+shape_content d cursor es i key true e same = shape_data d cursor es i key (pick d.kind d.consumers key) e same refl
+shape_content d cursor es i key false e same = Passes i e refl
 
-shape_entry : (d : Dispatch) (cursor : List ℕ) (es : List Entry) (i : ℕ) (o : Option Entry) → least_due (sub_with cursor d) (length es) ≡ Some i → Shape d cursor es (choice_entry pick d (key_at es (Some i)) i o)
-shape_entry d cursor es i None e = Nothing refl
-shape_entry d cursor es i (Some x) e = shape_content d cursor es i (is_data x.content) e
+shape_entry : (d : Dispatch) (cursor : List ℕ) (es : List Entry) (i : ℕ) (o : Option Entry) → least_due (sub_with cursor d) (length es) ≡ Some i → slice_get es i ≡ o → Shape d cursor es (choice_entry pick d i o)
+shape_entry d cursor es i None e is = Nothing refl
+shape_entry d cursor es i (Some x) e is = shape_content d cursor es i (key_bytes x.meta.key) (is_data x.content) e (ap key_of is)
 
-shape_at : (d : Dispatch) (cursor : List ℕ) (es : List Entry) (o : Option ℕ) → least_due (sub_with cursor d) (length es) ≡ o → Shape d cursor es (choice_at pick d es (key_at es o) o)
+shape_at : (d : Dispatch) (cursor : List ℕ) (es : List Entry) (o : Option ℕ) → least_due (sub_with cursor d) (length es) ≡ o → Shape d cursor es (choice_at pick d es o)
 shape_at d cursor es None e = Nothing refl
-shape_at d cursor es (Some i) e = shape_entry d cursor es i (slice_get es i) e
+shape_at d cursor es (Some i) e = shape_entry d cursor es i (slice_get es i) e refl
 
 offer_shape : (d : Dispatch) (cursor : List ℕ) (es : List Entry) → Shape d cursor es (keyed_choice d cursor es)
 offer_shape d cursor es = shape_at d cursor es (least_due (sub_with cursor d) (length es)) refl

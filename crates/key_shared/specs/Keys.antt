@@ -1,11 +1,11 @@
 -- What the dispatcher of a Key_Shared subscription gives its consumers, call after call, while they stay (Pulsar manual,
 -- Key_Shared: messages with the same key are delivered to the same consumer).
-use Rattle.std.specs.Prelude.{◌≡◌, ℕ, ◌<◌, if◌then◌else◌, true, List, [], ◌∷◌, ◌++◌, length, Option, Some, None, slice_get, ⊤}
+use Rattle.std.specs.Prelude.{◌≡◌, ℕ, ◌<◌, if◌then◌else◌, true, List, [], ◌∷◌, ◌++◌, Option, Some, None, slice_get, ⊤}
 use Rattle.std.specs.List.{AllPairs}
 use Rattle.geo_base.specs.declared.entry.Entry.{Entry}
 use Rattle.geo_base.specs.declared.frame.SubKind.TheVariants as sub_kind
 use Rattle.geo_base.specs.Cursor.{has}
-use Rattle.geo_base.specs.Dispatcher.{consumer_at, least_due, pick}
+use Rattle.geo_base.specs.Dispatcher.{consumer_at, pick}
 use Rattle.geo_base.specs.Entry.{key_bytes}
 use Rattle.geo_base.specs.Subscription.{forgotten, has_consumer, permitted}
 use Rattle.dispatcher.specs.declared.offering.Choice.{Choice}
@@ -39,13 +39,9 @@ abbrev pub key_at : List Entry → Option ℕ → List ℕ
 key_at es None = []
 key_at es (Some i) = key_of (slice_get es i)
 
--- the key that an offer is called with: that of the entry that is due first
-abbrev pub due_key : Dispatch → List ℕ → List Entry → List ℕ
-due_key d cursor es = key_at es (least_due (sub_with cursor d) (length es))
-
 -- what an offer does where the rule by keys picks the consumer
 abbrev pub keyed_choice : Dispatch → List ℕ → List Entry → Choice
-keyed_choice d cursor es = choice pick d cursor es (due_key d cursor es)
+keyed_choice d cursor es = choice pick d cursor es
 
 -- the dispatcher after a call; one that is refused changes nothing, and neither does a test of an acknowledgement
 abbrev pub after_call : Dispatch → Call → List ℕ → List Entry → Dispatch

@@ -189,8 +189,8 @@ fn add_offer(
     store: &ListStore,
 ) -> Result<(), Memory> {
     dispatcher.reserve(1)?;
-    let looked = dispatcher.next_offer(store, cursor, b"");
-    let offer = dispatcher.offer(store, cursor, b"");
+    let looked = dispatcher.next_offer(store, cursor);
+    let offer = dispatcher.offer(store, cursor);
     if looked != offer {
         return add_word(text, "differs");
     }

@@ -91,7 +91,7 @@ fn message(alloc: Global, key: &Option<&'static str>, seq: u64) -> Result<Entry,
     })
 }
 
-/// The bytes of the key at an index: none past the end, where nothing is due.
+/// The bytes of the key at an index: none past the end, where there is no message.
 fn key_at(keys: &[Option<&'static str>], index: usize) -> &'static [u8] {
     if index >= keys.len() {
         return b"";
@@ -132,11 +132,12 @@ fn join(
     Ok(())
 }
 
-/// Adds what an offer of the message of a key answers: who is given it, with the number of the key.
-fn add_offer(text: &mut String, offer: Offer, key: &[u8]) -> Result<(), Memory> {
+/// Adds what an offer answers: who is given the message, with the number of its key.
+fn add_offer(text: &mut String, offer: Offer, keys: &[Option<&'static str>]) -> Result<(), Memory> {
     match offer {
-        Offer::Data(_index, client, _id) => {
+        Offer::Data(index, client, _id) => {
             add_number(text, "", client as u64, ":")?;
+            let key = key_at(keys, index as usize);
             add_number(text, "", key_number(key) as u64, " ")
         }
         Offer::Marker(index) => add_number(text, "marker ", index, " "),
@@ -152,11 +153,9 @@ fn add_given(
     cursor: &Cursor,
     keys: &[Option<&'static str>],
 ) -> Result<(), Memory> {
-    let due = dispatcher.least_due(store, cursor).unwrap_or(u64::MAX);
-    let key = key_at(keys, due as usize);
     dispatcher.reserve(1)?;
-    let offer = dispatcher.offer(store, cursor, key);
-    add_offer(text, offer, key)
+    let offer = dispatcher.offer(store, cursor);
+    add_offer(text, offer, keys)
 }
 
 /// Adds who is given what, with one offer more than there are messages.

@@ -4,7 +4,8 @@ ghost use Rattle.broker_subs.specs.Table.{is_new};
 
 use crate::entries::{entry, ident, sub_name};
 use broker_subs::*;
-use geo_base::{Consumer, Content, Entry, EntryStore, Memory, SubKind, Targets};
+use dispatcher::{AckFault, Choice};
+use geo_base::{AckKind, Consumer, Content, Entry, EntryStore, Memory, SubKind, Targets};
 use std::alloc::Global;
 use topic_store::ListStore;
 
@@ -32,77 +33,82 @@ const CONSUMER: Consumer = Consumer {
     permits: 9,
 };
 
-/// What is least due to a new subscription of that topic: before anything, once index 0 is given, once all up to 1 is acknowledged,
-/// once its consumer has left, and once reading begins at 1 again.
-fn least_dues(sub: &mut Sub, store: &ListStore) -> [Option<u64>; 5]
+/// What an offer to a new subscription of that topic would do: before anything, once index 0 is given, once all up to 1 is acknowledged,
+/// once its consumer has left, and once reading begins at 1 again with another one.
+fn choices(sub: &mut Sub, store: &ListStore) -> [Choice; 5]
     requires new { is_new sub.old }
-    requires room { 2 ≤ sub.old.room }
+    requires room { 3 ≤ sub.old.room }
     requires acks { 2 ≤ sub.old.acks }
     requires topic { length store.now.entries ≡ 3 }
 {
     sub.change(SubChange::Attach(CONSUMER));
-    let first = sub.least_due(store);
+    let first = sub.choice(store);
     sub.change(SubChange::Given { index: 0, place: 0 });
-    let given = sub.least_due(store);
+    let given = sub.choice(store);
     sub.write(SubWrite::AckTo(1), store);
     sub.change(SubChange::Acked);
-    let acked = sub.least_due(store);
+    let acked = sub.choice(store);
     sub.leave(4);
-    let left = sub.least_due(store);
+    let left = sub.choice(store);
     sub.write(SubWrite::Seek(1), store);
     sub.change(SubChange::Cleared);
-    [first, given, acked, left, sub.least_due(store)]
+    sub.change(SubChange::Attach(CONSUMER));
+    [first, given, acked, left, sub.choice(store)]
 }
 
-/// What is least due to a subscription then.
-fn least_due(alloc: Global) -> Result<[Option<u64>; 5], Memory> {
+/// What an offer to a subscription would do then.
+fn chosen(alloc: Global) -> Result<[Choice; 5], Memory> {
     let name = sub_name(alloc, "s")?;
     let store = topic(alloc)?;
-    let mut sub = Sub::new(alloc, name, SubKind::Shared, false, 2, 2)?;
-    let due = least_dues(&mut sub, &store);
+    let mut sub = Sub::new(alloc, name, SubKind::Shared, false, 3, 2)?;
+    let chosen = choices(&mut sub, &store);
     drop(sub);
     drop(store);
-    Ok(due)
+    Ok(chosen)
 }
 
 #[test]
 fn acknowledged_indexes_are_not_offered_again(rt: HostRuntime) -> Result<(), Memory> {
-    let due = [Some(0), Some(1), Some(2), Some(2), Some(1)];
-    assert!(rt; least_due(rt.alloc())? == due);
+    let gives = |index| Choice::Give { index, place: 0 };
+    let chosen = chosen(rt.alloc())?;
+    assert!(rt; chosen == [gives(0), gives(1), gives(2), Choice::Idle, gives(1)]);
     Ok(())
 }
 
-/// Which consumer of a new subscription is picked, how many are left once it has left, and how many seeks are durable once there
-/// was one.
-fn picked_left_and_seeks(sub: &mut Sub, store: &ListStore) -> (Option<usize>, usize, u64)
+/// Whether another consumer can join beside the one of a new subscription, what its acknowledgements are answered, how many are left once
+/// it has left, and how many seeks are durable once there was one.
+fn asked_left_and_seeks(sub: &mut Sub, store: &ListStore) -> (bool, bool, usize, u64)
     requires new { is_new sub.old }
     requires room { 2 ≤ sub.old.room }
     requires acks { 2 ≤ sub.old.acks }
     requires topic { length store.now.entries ≡ 3 }
 {
     sub.change(SubChange::Attach(CONSUMER));
-    let picked = sub.picked(b"");
+    let joins = !sub.busy(5, SubKind::Shared) && sub.busy(4, SubKind::Shared);
+    let acks = sub.on_ack(4, 7, AckKind::Individual) == Ok(())
+        && sub.on_ack(4, 7, AckKind::Cumulative) == Err(AckFault::CumulativeNotAllowed)
+        && sub.on_ack(4, 8, AckKind::Individual) == Err(AckFault::ConsumerNotFound);
     sub.leave(4);
     let left = sub.consumers().len();
     sub.write(SubWrite::Seek(1), store);
-    (picked, left, sub.durable().seeks)
+    (joins, acks, left, sub.durable().seeks)
 }
 
 /// The same of a subscription of that topic.
-fn counted(alloc: Global) -> Result<(Option<usize>, usize, u64), Memory> {
+fn asked(alloc: Global) -> Result<(bool, bool, usize, u64), Memory> {
     let name = sub_name(alloc, "s")?;
     let store = topic(alloc)?;
     let mut sub = Sub::new(alloc, name, SubKind::Shared, false, 2, 2)?;
-    let counted = picked_left_and_seeks(&mut sub, &store);
+    let asked = asked_left_and_seeks(&mut sub, &store);
     drop(sub);
     drop(store);
-    Ok(counted)
+    Ok(asked)
 }
 
 #[test]
 fn consumers_leave_and_seeks_are_counted(rt: HostRuntime) -> Result<(), Memory> {
-    let (picked, left, seeks) = counted(rt.alloc())?;
-    assert!(rt; picked == Some(0) && left == 0 && seeks == 1);
+    let (joins, acks, left, seeks) = asked(rt.alloc())?;
+    assert!(rt; joins && acks && left == 0 && seeks == 1);
     Ok(())
 }
 

@@ -1,4 +1,7 @@
 //! Frames of the Pulsar binary protocol: one command, with metadata and a payload where it has a message.
+//!
+//! The program reads a packet at a time, by `usual_frame` or `read_frame`. `FrameReader`, which takes a stream in any pieces, is for other
+//! teams, and `geo_examples` asks it; it parses by what `read_frame` parses by.
 #![tactic(auto)]
 
 mod fault;

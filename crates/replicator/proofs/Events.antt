@@ -1,6 +1,7 @@
--- The machine's events are what a sender and a receiver answer, branch by branch.
+-- The machine's events are what a sender and a receiver answer, branch by branch: a broker that reads does what its sender to the
+-- other cluster answers, one that takes a packet what its receiver does, and one that hears an answer what its sender makes of it.
 use Rattle.std.proofs.Common.{◌≡◌, ℕ, ◌==◌, Bool, true, false, List, [], length, refl, ap, sym, ◌∙◌}
-use Rattle.std.specs.Prelude.{◌≢◌, ◌&&◌, if◌then◌else◌, Option, Some, None, slice_get}
+use Rattle.std.specs.Prelude.{◌&&◌, if◌then◌else◌, Option, Some, None, slice_get}
 use Rattle.std.specs.Str.{bytes_eq}
 use Rattle.geo_base.specs.declared.entry.Content.{Content}
 use Rattle.geo_base.specs.declared.entry.Content.TheVariants as content
@@ -8,21 +9,22 @@ use Rattle.geo_base.specs.declared.entry.Entry.{Entry}
 use Rattle.geo_base.specs.declared.frame.Frame.{Frame}
 use Rattle.geo_base.specs.declared.frame.Frame.TheVariants as frame
 use Rattle.geo_base.specs.declared.packet.Packet.{Packet}
-use Rattle.geo_base.specs.declared.position.Position.{Position}
 use Rattle.geo_base.specs.declared.sender.SenderState.{SenderState}
 use Rattle.geo_base.specs.declared.sender.SenderState.TheVariants as sender_state
 use Rattle.geo_base.specs.Broker.{Broker, Site, receiver_at, sender_at}
 use Rattle.geo_base.specs.Entry.{goes_to}
-use Rattle.geo_base.specs.Forwarding.{is_remote, opens, receipt_command, receipt_packet, receives, take_command, take_frame, take_in}
+use Rattle.geo_base.specs.Forwarding.{closes, is_remote, opens, receipt_command, receipt_packet, receives, take_command, take_frame, take_in}
 use Rattle.geo_base.specs.Markers.{read_content}
 use Rattle.geo_base.specs.Plan.{Plan, idle_plan, quiet_plan, unless_found}
 use Rattle.geo_base.specs.Reading.{forwards, read, read_at, read_entry}
 use Rattle.geo_base.specs.Receiver.{is_open}
-use Rattle.geo_base.specs.Sender.{index_to_read, pending_index}
+use Rattle.geo_base.specs.Sender.{Sender, index_to_read, pending_index}
 use Rattle.replicator.specs.declared.reading.ReadOut.TheVariants as reads
 use Rattle.replicator.specs.declared.receiver.Taken.TheVariants as takes
-use Rattle.replicator.specs.Answering.{awaited, is_opening}
-use Rattle.replicator.specs.Events.{is_to_open, plan_of_read, plan_of_success, plan_of_take}
+use Rattle.replicator.specs.declared.answering.Heard.TheVariants as hears
+use Rattle.replicator.specs.Answering.{heard, heard_receipt, is_opening}
+use Rattle.replicator.specs.Events.{is_to_open, is_unreadable, plan_of_answer, plan_of_read, plan_of_take}
+use Rattle.replicator.specs.Sending.{sending_of}
 use Rattle.replicator.specs.Reading.{read_out, read_out_at, read_out_entry, read_out_other}
 use Rattle.replicator.specs.Taking.{taken}
 
@@ -61,44 +63,79 @@ in_session : (h : Site) (b : Broker) (x : ℕ) (p : Packet) (f : Frame) → p.fr
 in_session h b x p f is =
     by_test (plan_of_take h b x p.session f) (is_open (receiver_at b x) p.session) _ _ takes.Process takes.Discard (ap (λ (f : Frame). take_command h b x p.session f) is) refl
 
-take_as_frame : (h : Site) (b : Broker) (x : ℕ) (p : Packet) (f : Frame) → p.frame ≡ f → f ≢ frame.Unreadable → take_frame h b x p f ≡ plan_of_take h b x p.session f (taken (receiver_at b x) p.session (is_to_open h p.session f))
-take_as_frame h b x p frame.Unreadable is other = absurd (other refl)
-take_as_frame h b x p (frame.Producer topic id request name) is other =
+-- a frame that can't be read closes the session
+abbrev framed : Site → Broker → ℕ → ℕ → Frame → Plan
+framed h b x session f =
+    if is_unreadable f then closes x else plan_of_take h b x session f (taken (receiver_at b x) session (is_to_open h session f))
+
+take_as_frame : (h : Site) (b : Broker) (x : ℕ) (p : Packet) (f : Frame) → p.frame ≡ f → take_frame h b x p f ≡ framed h b x p.session f
+take_as_frame h b x p frame.Unreadable is = refl
+take_as_frame h b x p (frame.Producer topic id request name) is =
     by_test (plan_of_take h b x p.session (frame.Producer topic id request name)) (bytes_eq topic h.topic && (id == p.session)) _ _ takes.Opened (if is_open (receiver_at b x) p.session then takes.Process else takes.Discard)
     refl (in_session h b x p (frame.Producer topic id request name) is)
-take_as_frame h b x p frame.Connect is other = in_session h b x p frame.Connect is
-take_as_frame h b x p frame.Connected is other = in_session h b x p frame.Connected is
-take_as_frame h b x p (frame.Subscribe topic sub kind id request consumer earliest replicated) is other = in_session h b x p (frame.Subscribe topic sub kind id request consumer earliest replicated) is
-take_as_frame h b x p (frame.Send id seq source entry) is other = in_session h b x p (frame.Send id seq source entry) is
-take_as_frame h b x p (frame.SendReceipt id seq position) is other = in_session h b x p (frame.SendReceipt id seq position) is
-take_as_frame h b x p (frame.SendError id seq code) is other = in_session h b x p (frame.SendError id seq code) is
-take_as_frame h b x p (frame.Message id position source entry) is other = in_session h b x p (frame.Message id position source entry) is
-take_as_frame h b x p (frame.Ack id kind positions) is other = in_session h b x p (frame.Ack id kind positions) is
-take_as_frame h b x p (frame.Flow id permits) is other = in_session h b x p (frame.Flow id permits) is
-take_as_frame h b x p (frame.Unsubscribe id request) is other = in_session h b x p (frame.Unsubscribe id request) is
-take_as_frame h b x p (frame.Success request) is other = in_session h b x p (frame.Success request) is
-take_as_frame h b x p (frame.Error request code) is other = in_session h b x p (frame.Error request code) is
-take_as_frame h b x p (frame.CloseProducer id request) is other = in_session h b x p (frame.CloseProducer id request) is
-take_as_frame h b x p (frame.CloseConsumer id request) is other = in_session h b x p (frame.CloseConsumer id request) is
-take_as_frame h b x p (frame.ProducerSuccess request name) is other = in_session h b x p (frame.ProducerSuccess request name) is
-take_as_frame h b x p frame.Ping is other = in_session h b x p frame.Ping is
-take_as_frame h b x p frame.Pong is other = in_session h b x p frame.Pong is
+take_as_frame h b x p frame.Connect is = in_session h b x p frame.Connect is
+take_as_frame h b x p frame.Connected is = in_session h b x p frame.Connected is
+take_as_frame h b x p (frame.Subscribe topic sub kind id request consumer earliest replicated) is = in_session h b x p (frame.Subscribe topic sub kind id request consumer earliest replicated) is
+take_as_frame h b x p (frame.Send id seq source entry) is = in_session h b x p (frame.Send id seq source entry) is
+take_as_frame h b x p (frame.SendReceipt id seq position) is = in_session h b x p (frame.SendReceipt id seq position) is
+take_as_frame h b x p (frame.SendError id seq code) is = in_session h b x p (frame.SendError id seq code) is
+take_as_frame h b x p (frame.Message id position source entry) is = in_session h b x p (frame.Message id position source entry) is
+take_as_frame h b x p (frame.Ack id kind positions) is = in_session h b x p (frame.Ack id kind positions) is
+take_as_frame h b x p (frame.Flow id permits) is = in_session h b x p (frame.Flow id permits) is
+take_as_frame h b x p (frame.Unsubscribe id request) is = in_session h b x p (frame.Unsubscribe id request) is
+take_as_frame h b x p (frame.Success request) is = in_session h b x p (frame.Success request) is
+take_as_frame h b x p (frame.Error request code) is = in_session h b x p (frame.Error request code) is
+take_as_frame h b x p (frame.CloseProducer id request) is = in_session h b x p (frame.CloseProducer id request) is
+take_as_frame h b x p (frame.CloseConsumer id request) is = in_session h b x p (frame.CloseConsumer id request) is
+take_as_frame h b x p (frame.ProducerSuccess request name) is = in_session h b x p (frame.ProducerSuccess request name) is
+take_as_frame h b x p frame.Ping is = in_session h b x p frame.Ping is
+take_as_frame h b x p frame.Pong is = in_session h b x p frame.Pong is
 
-pub take_as_answered : (h : Site) (b : Broker) (x : ℕ) (p : Packet) → p.frame ≢ frame.Unreadable → take_frame h b x p p.frame ≡ plan_of_take h b x p.session p.frame (taken (receiver_at b x) p.session (is_to_open h p.session p.frame))
-take_as_answered h b x p other = take_as_frame h b x p p.frame refl other
+-- a packet of the forward link does what its receiver makes of its session, where it can be read
+pub take_as_answered : (h : Site) (b : Broker) (x : ℕ) (p : Packet)
+    → take_frame h b x p p.frame ≡ (if is_unreadable p.frame then closes x else plan_of_take h b x p.session p.frame (taken (receiver_at b x) p.session (is_to_open h p.session p.frame)))
+take_as_answered h b x p = take_as_frame h b x p p.frame refl
 
-opens_as_state : (y : ℕ) (s : SenderState) → opens y s ≡ plan_of_success y (is_opening s)
-opens_as_state y sender_state.Opening = refl
-opens_as_state y sender_state.Open = refl
-opens_as_state y sender_state.Closed = refl
+-- what a frame of the back link means, by its session
+quiet_both : (t : Bool) → (if t then quiet_plan [] else quiet_plan []) ≡ quiet_plan []
+quiet_both true = refl
+quiet_both false = refl
 
-success_of : (y : ℕ) (current : Bool) (s : SenderState) → (if current then opens y s else quiet_plan []) ≡ plan_of_success y (current && is_opening s)
-success_of y true s = opens_as_state y s
-success_of y false s = refl
+success_as_heard : (y : ℕ) (current : Bool) (state : SenderState) → (if current then opens y state else quiet_plan []) ≡ plan_of_answer y (if current && is_opening state then hears.Opened else hears.Nothing)
+success_as_heard y true sender_state.Opening = refl
+success_as_heard y true sender_state.Open = refl
+success_as_heard y true sender_state.Closed = refl
+success_as_heard y false state = refl
 
-pub success_as_answered : (b : Broker) (y request : ℕ) (name : List ℕ) (p : Packet) → p.frame ≡ frame.ProducerSuccess request name → receipt_packet b y p ≡ plan_of_success y ((p.session == (sender_at b y).session) && is_opening (sender_at b y).state)
-success_as_answered b y request name p is = rw is (success_of y (p.session == (sender_at b y).session) (sender_at b y).state)
+index_as_heard : (y number : ℕ) (o : Option ℕ) → receives y number o ≡ plan_of_answer y (heard_receipt number o)
+index_as_heard y number None = refl
+index_as_heard y number (Some i) = refl
 
-pub receipt_as_answered : (b : Broker) (y id number : ℕ) (position : Option Position) (p : Packet) → p.frame ≡ frame.SendReceipt id number position → receipt_packet b y p ≡ receives y number (awaited p.session number (sender_at b y))
-receipt_as_answered b y id number position p is =
-    by_test (receives y number) (p.session == (sender_at b y).session) _ _ (pending_index (sender_at b y).pending number) None (ap (λ (f : Frame). receipt_command y (sender_at b y) f) is) refl
+receipt_as_heard : (y number : ℕ) (current : Bool) (o : Option ℕ) → (if current then receives y number o else quiet_plan []) ≡ plan_of_answer y (heard_receipt number (if current then o else None))
+receipt_as_heard y number true o = index_as_heard y number o
+receipt_as_heard y number false o = refl
+
+frame_as_heard : (y session : ℕ) (f : Frame) (s : Sender) → (if session == s.session then receipt_command y s f else quiet_plan []) ≡ plan_of_answer y (heard session f (sending_of s))
+frame_as_heard y session (frame.ProducerSuccess request name) s = success_as_heard y (session == s.session) s.state
+frame_as_heard y session (frame.SendReceipt id number position) s = receipt_as_heard y number (session == s.session) (pending_index s.pending number)
+frame_as_heard y session frame.Connect s = quiet_both (session == s.session)
+frame_as_heard y session frame.Connected s = quiet_both (session == s.session)
+frame_as_heard y session (frame.Subscribe topic sub kind id request consumer earliest replicated) s = quiet_both (session == s.session)
+frame_as_heard y session (frame.Producer topic id request name) s = quiet_both (session == s.session)
+frame_as_heard y session (frame.Send id seq source entry) s = quiet_both (session == s.session)
+frame_as_heard y session (frame.SendError id seq code) s = quiet_both (session == s.session)
+frame_as_heard y session (frame.Message id position source entry) s = quiet_both (session == s.session)
+frame_as_heard y session (frame.Ack id kind positions) s = quiet_both (session == s.session)
+frame_as_heard y session (frame.Flow id permits) s = quiet_both (session == s.session)
+frame_as_heard y session (frame.Unsubscribe id request) s = quiet_both (session == s.session)
+frame_as_heard y session (frame.Success request) s = quiet_both (session == s.session)
+frame_as_heard y session (frame.Error request code) s = quiet_both (session == s.session)
+frame_as_heard y session (frame.CloseProducer id request) s = quiet_both (session == s.session)
+frame_as_heard y session (frame.CloseConsumer id request) s = quiet_both (session == s.session)
+frame_as_heard y session frame.Ping s = quiet_both (session == s.session)
+frame_as_heard y session frame.Pong s = quiet_both (session == s.session)
+frame_as_heard y session frame.Unreadable s = quiet_both (session == s.session)
+
+-- a packet of the back link does what its sender hears
+pub answer_as_heard : (b : Broker) (y : ℕ) (p : Packet) → receipt_packet b y p ≡ plan_of_answer y (heard p.session p.frame (sending_of (sender_at b y)))
+answer_as_heard b y p = frame_as_heard y p.session p.frame (sender_at b y)

@@ -49,6 +49,16 @@ pending_once [] n asc = refl
 pending_once (p ∷ ps) n asc =
     left_without p ps n asc (pending_once ps n (λ i j d l k. asc (suc i) (suc j) d (omega arith) (omega arith))) (p.number == n) refl
 
+-- a number that awaits no receipt leaves all when it is taken out
+pub none_taken : (ps : List Pending) (n : ℕ) → pending_index ps n ≡ None → without_number ps n ≡ ps
+none_taken [] n h = refl
+none_taken (p ∷ ps) n h = by_number (p.number == n) p ps n h (none_taken ps n)
+  where
+    by_number : (same : Bool) (p : Pending) (ps : List Pending) (n : ℕ) → (if same then Some p.index else pending_index ps n) ≡ None → (pending_index ps n ≡ None → without_number ps n ≡ ps)
+        → (if same then ps else p ∷ without_number ps n) ≡ p ∷ ps
+    by_number true p ps n h rest = absurd cc
+    by_number false p ps n h rest = ap (λ qs. p ∷ qs) (rest h)
+
 on_if : {X : Type 0} (P : X → Type 0) (b : Bool) (x y : X) → P x → P y → P (if b then x else y)
 on_if P true x y h k = h
 on_if P false x y h k = k

@@ -1,11 +1,12 @@
 -- The machine's events, told by what a sender and a receiver answer.
-use Rattle.std.specs.Prelude.{ℕ, Bool, false, ◌==◌, ◌&&◌, if◌then◌else◌, [], ◌∷◌, Some, slice_get}
+use Rattle.std.specs.Prelude.{ℕ, Bool, true, false, ◌==◌, ◌&&◌, [], ◌∷◌, Some, slice_get}
 use Rattle.std.specs.Str.{bytes_eq}
 use Rattle.geo_base.specs.declared.change.Change.TheVariants as change
 use Rattle.geo_base.specs.declared.entry.Entry.{Entry}
 use Rattle.geo_base.specs.declared.frame.Frame.{Frame}
 use Rattle.geo_base.specs.declared.frame.Frame.TheVariants as frame
 use Rattle.geo_base.specs.declared.packet.Peer.TheVariants as peer
+use Rattle.geo_base.specs.declared.write.Write.TheVariants as write
 use Rattle.geo_base.specs.Broker.{Broker, Site, sender_at}
 use Rattle.geo_base.specs.Forwarding.{link_producer, take_command}
 use Rattle.geo_base.specs.Link.{sends}
@@ -13,6 +14,8 @@ use Rattle.geo_base.specs.Markers.{read_content}
 use Rattle.geo_base.specs.Plan.{Plan, idle_plan, plan_of, quiet_plan, unless_found}
 use Rattle.geo_base.specs.Reading.{forwards}
 use Rattle.geo_base.specs.Updating.{handled}
+use Rattle.replicator.specs.declared.answering.Heard.{Heard}
+use Rattle.replicator.specs.declared.answering.Heard.TheVariants as hears
 use Rattle.replicator.specs.declared.reading.ReadOut.{ReadOut}
 use Rattle.replicator.specs.declared.reading.ReadOut.TheVariants as reads
 use Rattle.replicator.specs.declared.receiver.Taken.{Taken}
@@ -35,6 +38,10 @@ opened_by h x (frame.Producer topic id request name) =
     plan_of [] (change.Receiver x (Some id) ∷ []) (sends (peer.Back x) id (frame.ProducerSuccess request (link_producer h x)))
 opened_by h x command = quiet_plan []
 
+abbrev pub is_unreadable : Frame → Bool
+is_unreadable frame.Unreadable = true
+is_unreadable command = false
+
 -- a take of a frame of a session that can be read: it opens its session, which is answered, or is acted on in the session, or
 -- has no effect
 abbrev pub plan_of_take : Site → Broker → ℕ → ℕ → Frame → Taken → Plan
@@ -42,6 +49,8 @@ plan_of_take h b x session f takes.Opened = opened_by h x f
 plan_of_take h b x session f takes.Process = take_command h b x session f
 plan_of_take h b x session f takes.Discard = quiet_plan []
 
--- the success of a session, which opens it or not
-abbrev pub plan_of_success : ℕ → Bool → Plan
-plan_of_success y opening = quiet_plan (if opening then change.Opened y ∷ [] else [])
+-- what answers the session that is begun opens it, what answers a number acknowledges its index, and all else has no effect
+abbrev pub plan_of_answer : ℕ → Heard → Plan
+plan_of_answer y hears.Nothing = quiet_plan []
+plan_of_answer y hears.Opened = quiet_plan (change.Opened y ∷ [])
+plan_of_answer y (hears.Receipt number i) = plan_of (write.SenderAck y i ∷ []) (change.Unpend y number ∷ []) []

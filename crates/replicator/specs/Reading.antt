@@ -1,5 +1,5 @@
 -- What the sender of a cluster to another does with the entry that it reads next.
-use Rattle.std.specs.Prelude.{ℕ, ◌+◌, ◌-◌, ◌≤◌, ◌<◌, ◌^◌, ◌==◌, ◌&&◌, if◌then◌else◌, List, length, Option, Some, None, slice_get, ⊤}
+use Rattle.std.specs.Prelude.{◌≡◌, ℕ, ◌+◌, ◌-◌, ◌≤◌, ◌<◌, ◌^◌, ◌==◌, ◌&&◌, if◌then◌else◌, List, length, Option, Some, None, slice_get, ⊤}
 use Rattle.geo_base.specs.declared.entry.Content.{Content}
 use Rattle.geo_base.specs.declared.entry.Content.TheVariants as content
 use Rattle.geo_base.specs.declared.entry.Entry.{Entry}
@@ -51,8 +51,19 @@ pub record IndexFits (next len i : ℕ) : Type 0 where
   pub sent : next ≤ i
   pub fits : i + 1 < 2 ^ 64
 
-abbrev pub ReadFits : ℕ → ℕ → ReadOut → Type 0
-ReadFits next len reads.Idle = ⊤
-ReadFits next len (reads.Skip i) = IndexFits next len i
-ReadFits next len (reads.Mark i) = IndexFits next len i
-ReadFits next len (reads.Send i number) = IndexFits next len i
+-- a marker that y stored first
+abbrev pub IsMarked : Content → Type 0
+IsMarked content.Data = ⊥
+IsMarked (content.Marked m) = ⊤
+IsMarked (content.Unread k) = ⊥
+
+abbrev pub IsMarkerOf : ℕ → Option Entry → Type 0
+IsMarkerOf y None = ⊥
+IsMarkerOf y (Some e) = (e.ident.origin ≡ y) × IsMarked e.content
+
+-- what is read fits, and what is acted on is a marker of y, what is sent goes under the next number
+abbrev pub ReadFits : ℕ → ℕ → List Entry → ReadOut → Type 0
+ReadFits y next es reads.Idle = ⊤
+ReadFits y next es (reads.Skip i) = IndexFits next (length es) i
+ReadFits y next es (reads.Mark i) = IndexFits next (length es) i × IsMarkerOf y (slice_get es i)
+ReadFits y next es (reads.Send i number) = IndexFits next (length es) i × (number ≡ next)

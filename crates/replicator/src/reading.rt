@@ -46,7 +46,7 @@ impl Sender {
     /// What `read` would answer.
     pub fn next_read<S: EntryStore>(&self, store: &S, cursor: &Cursor) -> ReadOut
         ensures read { result ≡ read_out self.now.own self.now.remote (sender_with cursor.now.indexes self.now.sending) (S.entries store.now) }
-        ensures fits { ReadFits self.now.sending.next (length (S.entries store.now)) result }
+        ensures fits { ReadFits self.now.remote self.now.sending.next (S.entries store.now) result }
     {
         let Some(index) = self.index_to_read(store, cursor) else {
             return ReadOut::Idle;

@@ -64,13 +64,6 @@ impl Receiver {
         }
     }
 
-    /// The number of the session that is open.
-    pub fn session(&self) -> Option<u64>
-        ensures { result ≡ self.now }
-    {
-        self.session
-    }
-
     /// A session begins.
     pub fn open(&mut self, session: u64)
         ensures { self.new ≡ Some session }

@@ -68,14 +68,14 @@ impl Sender {
     }
 
     /// The number of the own cluster.
-    pub fn own(&self) -> u32
+    pub(crate) fn own(&self) -> u32
         ensures { result ≡ self.now.own }
     {
         self.own
     }
 
     /// The number of the cluster to which entries are sent.
-    pub fn remote(&self) -> u32
+    pub(crate) fn remote(&self) -> u32
         ensures { result ≡ self.now.remote }
     {
         self.remote
@@ -96,7 +96,7 @@ impl Sender {
     }
 
     /// The index from which reading goes on.
-    pub fn read_index(&self) -> u64
+    pub(crate) fn read_index(&self) -> u64
         ensures index { result ≡ self.now.sending.read_index }
         ensures next { self.now.sending.next ≤ result }
     {
@@ -104,7 +104,7 @@ impl Sender {
     }
 
     /// The number that the session's next entry gets, from 0.
-    pub fn next(&self) -> u64
+    pub(crate) fn next(&self) -> u64
         ensures { result ≡ self.now.sending.next }
     {
         self.next
@@ -119,7 +119,7 @@ impl Sender {
     }
 
     /// The index that was sent under a number of this session and awaits its receipt.
-    pub fn pending_index(&self, number: u64) -> Option<u64>
+    pub(crate) fn pending_index(&self, number: u64) -> Option<u64>
         ensures index { result ≡ pending_index self.now.sending.pending number }
         ensures fits { IfSome result (λ i. i + 1 < 2 ^ 64) }
     {

@@ -1,5 +1,11 @@
-use Rattle.std.proofs.Common.{sym, ◌∙◌}
+use Rattle.std.proofs.Common.{◌≡◌, ap, sym, ◌∙◌}
+use Rattle.std.specs.Prelude.{Option, ℕ, false}
+use Rattle.replicator.specs.declared.receiver.Taken.TheVariants as takes
+use Rattle.replicator.specs.Taking.{taken}
+use Rattle.broker_packets.proofs.UsualSends.{processed}
 use Rattle.broker_packets.proofs.usual_sends.receives.Goals as goal
 
-pub returns-then-is_open : goal.returns-then-is_open
-returns-then-is_open c = λ is. record { open_now = sym c.is_open.ensures ∙ c.if-is_open.true; brings = c.is_brought.ensures is }
+pub returns-in-Process : goal.returns-in-Process
+returns-in-Process c =
+    let told : taken c.receiver.result.now c.args.came.session false ≡ takes.Process = sym c.next_packet.ensures ∙ c.in-Process.is in
+    λ is. record { open_now = processed _ _ (ap (λ (r : Option ℕ). taken r c.args.came.session false) (sym c.receiver.ensures) ∙ told); brings = c.is_brought.ensures is }

@@ -1,4 +1,5 @@
--- An offer is what the dispatcher chooses, branch by branch.
+-- The machine's offer is what the dispatcher of its subscription chooses with the machine's rule, branch by branch; and what its change
+-- makes of the subscription is, to the dispatcher, what it makes of itself for that choice.
 use Rattle.std.proofs.Common.{◌≡◌, ℕ, zero, suc, ◌+◌, Bool, true, false, List, [], ◌∷◌, length, refl, ap, sym, ◌∙◌}
 use Rattle.std.specs.Prelude.{if◌then◌else◌, Option, Some, None, slice_get}
 use Rattle.dispatcher.specs.declared.offering.Choice.{Choice}
@@ -13,7 +14,7 @@ use Rattle.geo_base.specs.Entry.{is_data, key_bytes}
 use Rattle.geo_base.specs.Offering.{message, offer, offer_entry, own_snapshot, passes_by}
 use Rattle.geo_base.specs.Plan.{Plan, idle_plan, plan_of, unless_found}
 use Rattle.geo_base.specs.Subscription.{Subscription}
-use Rattle.dispatcher_laws.specs.Offers.{due_key, key_at, offered, plan_of_choice}
+use Rattle.dispatcher.specs.Events.{offered, plan_of_choice}
 
 -- what is due does not ask for what a dispatcher and a cursor leave out of a subscription
 least_from : (s : Subscription) (from more : ℕ) → least_due_from (sub_with s.cursor (dispatch_of s)) from more ≡ least_due_from s from more
@@ -36,7 +37,7 @@ by_test f true p q x y h k = h
 by_test f false p q x y h k = k
 
 entry_as_chosen : (h : Site) (b : Broker) (s : Subscription) (i : ℕ) (o : Option Entry) → slice_get b.entries i ≡ o
-    → unless_found idle_plan o (λ e. offer_entry h b s i e) ≡ plan_of_choice h b s (choice_at pick (dispatch_of s) b.entries (key_at b.entries (Some i)) (Some i))
+    → unless_found idle_plan o (λ e. offer_entry h b s i e) ≡ plan_of_choice h b s (choice_at pick (dispatch_of s) b.entries (Some i))
 entry_as_chosen h b s i None at = rw at refl
 entry_as_chosen h b s i (Some e) at = rw at
     (by_test (plan_of_choice h b s) (is_data e.content) _ _ (choice_data i (pick s.kind s.consumers (key_bytes e.meta.key))) (does.Pass i)
@@ -44,16 +45,16 @@ entry_as_chosen h b s i (Some e) at = rw at
     (at_entry (slice_get b.entries i) e (λ (e : Entry). passes_by h b s i (own_snapshot h b s e.ident.origin e.content)) at))
 
 index_as_chosen : (h : Site) (b : Broker) (s : Subscription) (o : Option ℕ)
-    → unless_found idle_plan o (λ i. unless_found idle_plan (slice_get b.entries i) (λ e. offer_entry h b s i e)) ≡ plan_of_choice h b s (choice_at pick (dispatch_of s) b.entries (key_at b.entries o) o)
+    → unless_found idle_plan o (λ i. unless_found idle_plan (slice_get b.entries i) (λ e. offer_entry h b s i e)) ≡ plan_of_choice h b s (choice_at pick (dispatch_of s) b.entries o)
 index_as_chosen h b s None = refl
 index_as_chosen h b s (Some i) = entry_as_chosen h b s i (slice_get b.entries i) refl
 
 pub offer_as_chosen : (h : Site) (b : Broker) (n : List ℕ) (s : Subscription) → sub_named b.subs n ≡ Some s
-    → offer h b n ≡ plan_of_choice h b s (choice pick (dispatch_of s) s.cursor b.entries (due_key s b.entries))
+    → offer h b n ≡ plan_of_choice h b s (choice pick (dispatch_of s) s.cursor b.entries)
 unfolding offer
 offer_as_chosen h b n s is = rw is
     (index_as_chosen h b s (least_due s (length b.entries))
-    ∙ ap (λ (o : Option ℕ). plan_of_choice h b s (choice_at pick (dispatch_of s) b.entries (due_key s b.entries) o)) (sym (least_from s 0 (length b.entries))))
+    ∙ ap (λ (o : Option ℕ). plan_of_choice h b s (choice_at pick (dispatch_of s) b.entries o)) (sym (least_from s 0 (length b.entries))))
 
 pub idle_without : (h : Site) (b : Broker) (n : List ℕ) → sub_named b.subs n ≡ None → offer h b n ≡ idle_plan
 unfolding offer

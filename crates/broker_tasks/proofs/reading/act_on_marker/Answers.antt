@@ -1,6 +1,6 @@
 use Rattle.std.proofs.Common.{◌∙◌}
 use Rattle.broker_tasks.proofs.Entries.{ready_from}
-use Rattle.broker_tasks.proofs.reading.read_at.Goals as goal
+use Rattle.broker_tasks.proofs.reading.act_on_marker.Goals as goal
 
 pub returns-in-Ready-clause-prepared : goal.returns-in-Ready-clause-prepared
 returns-in-Ready-clause-prepared c =
