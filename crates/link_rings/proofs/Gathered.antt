@@ -1,12 +1,14 @@
 -- Pieces that are popped and joined.
-use Rattle.std.proofs.Common.{◌≡◌, List, [], ◌∷◌, ◌++◌, sym, ap, ◌∙◌}
-use Rattle.std.proofs.lemmas.List.{append-nil, append_assoc}
+use Rattle.std.proofs.Common.{◌≡◌, ℕ, ◌+◌, ◌-◌, List, [], ◌∷◌, ◌++◌, length, refl, sym, ap, ◌∙◌, arith, true≢false}
+use Rattle.std.specs.Prelude.{None, is_some, slice_get, take}
+use Rattle.std.proofs.lemmas.List.{append-nil, append_assoc, length-append}
+use Rattle.std.proofs.Math.Seq.{take-append_seam}
 use Rattle.wire_ends.specs.declared.packet.WirePacket.{WirePacket}
 use Rattle.wire_ends.specs.declared.piece.Piece.{Piece}
 use Rattle.wire_ends.specs.Joined.{Joined, with_piece, with_pieces}
-use Rattle.wire_ends.specs.Pieces.{begun_after, begun_at_end, gives, packets_from}
+use Rattle.wire_ends.specs.Pieces.{begun_after, begun_at_end, gives, packets, packets_from}
 use Rattle.wire_ends.proofs.Joining.{begun_append, packets_append}
-use Rattle.link_rings.specs.Gathering.{Gives, behind, nothing}
+use Rattle.link_rings.specs.Gathering.{Gives, all_but_last, behind, nothing}
 
 -- pieces one behind another
 both : (j : Joined) (ps qs : List Piece) → with_pieces j (ps ++ qs) ≡ with_pieces (with_pieces j ps) qs
@@ -34,3 +36,21 @@ takes received taken g after w ps first same h =
     h ∙ ap (λ (ws : List WirePacket). with_pieces (record { begun = g.begun; whole = taken ++ ws }) ps) first
     ∙ ap (λ (ws : List WirePacket). with_pieces (record { begun = g.begun; whole = ws }) ps) (sym (append_assoc taken (w ∷ []) after.whole))
     ∙ ap (λ o. with_pieces (record { begun = o; whole = taken ++ w ∷ [] ++ after.whole }) ps) (sym same)
+
+-- where no packet is shown, none was gathered
+pub none_shown : (ws : List WirePacket) → slice_get ws 0 ≡ None → ws ≡ []
+none_shown [] e = refl
+none_shown (w ∷ ws) e = absurd (true≢false (ap is_some e))
+
+none_there : (ws : List WirePacket) → length ws ≡ 0 → ws ≡ []
+none_there [] e = refl
+none_there (w ∷ ws) e = absurd (omega (arith, e))
+
+-- a piece is popped while none is gathered: those before it give the packets that were taken
+pub last_one : (received new : List Piece) (taken : List WirePacket) (g : Joined) (p : Piece) → new ≡ received ++ p ∷ [] → length g.whole ≡ 0 → Gives received taken g []
+    → packets (all_but_last new) ≡ taken
+last_one received new taken g p more none h =
+    let count : length (received ++ p ∷ []) - 1 ≡ length received = omega (arith, length-append received (p ∷ [])) in
+    let before : all_but_last (received ++ p ∷ []) ≡ received = ap (λ (n : ℕ). take n (received ++ p ∷ [])) count ∙ take-append_seam received (p ∷ []) in
+    ap (λ (ps : List Piece). packets (all_but_last ps)) more ∙ ap packets before
+    ∙ ap (λ (j : Joined). j.whole) h ∙ append-nil (taken ++ g.whole) ∙ ap (λ (ws : List WirePacket). taken ++ ws) (none_there g.whole none) ∙ append-nil taken

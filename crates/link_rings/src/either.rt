@@ -16,7 +16,7 @@ pub enum RingEnd {
 }
 
 impl End for RingEnd {
-    ghost use Rattle.link_rings.specs.Ends.{free_of, looks_of, sent_by, shown_by, taken_by};
+    ghost use Rattle.link_rings.specs.Ends.{free_of, looks_of, sent_by, shown_by, taken_by, waiting_at};
 
     ghost sent = { λ e. sent_by e };
 
@@ -25,6 +25,8 @@ impl End for RingEnd {
     ghost free = { λ e. free_of e };
 
     ghost shown = { λ e. shown_by e };
+
+    ghost waiting = { λ e. waiting_at e };
 
     ghost looks = { λ e. looks_of e };
 

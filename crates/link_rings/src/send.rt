@@ -84,6 +84,8 @@ impl End for RingSend {
 
     ghost shown = { λ _. None };
 
+    ghost waiting = { λ _. [] };
+
     ghost looks = { λ e. e.looks };
 
     ghost fits = { λ p. IsCut p };

@@ -5,7 +5,7 @@ ghost use Rattle.std.specs.Io.BufRead.{Rests};
 ghost use Rattle.std.specs.Option.{option_copied, option_to_list};
 ghost use Rattle.rtrb.specs.Ring.{known_items, received};
 ghost use Rattle.link_rings.specs.contracts.take.RingTake.{the_row};
-ghost use Rattle.link_rings.specs.Gathering.{Gives, nothing};
+ghost use Rattle.link_rings.specs.Gathering.{Gives, ShowsOne, nothing};
 ghost use Rattle.link_rings.specs.Rings.{ring_shown};
 ghost use Rattle.wire_ends.specs.declared.packet.WirePacket.{WirePacket};
 ghost use Rattle.wire_ends.specs.Looks.{Looked, Stays, one_more};
@@ -94,13 +94,15 @@ impl RingTake {
         Parcel::cut(self.alloc, packet, self.most)
     }
 
-    /// Looks what came, and brings it over until a packet is shown. Where one was shown before, it stays so and nothing is brought
-    /// over. An `Err` is want of memory, and no piece is lost.
+    /// Looks what came, and brings it over until a packet is shown, no piece more. Where one was shown before, it stays so and
+    /// nothing is brought over. An `Err` is want of memory, and no piece is lost.
+    #[tactic(auto, using(crate::proofs::Gathered::none_shown))]
     pub fn gather(&mut self) -> Result<(), Memory>
         ensures looked { Looked self.old.looks self.new.looks }
         ensures taken { self.new.taken ≡ self.old.taken }
         ensures stays { Stays (ring_shown self.old) (ring_shown self.new) }
-        ensures all { OnOk result (self.new.gathered.whole ≡ [] → (self.new.known ≡ []) × (self.new.waiting ≡ [])) }
+        ensures all { OnOk result (ring_shown self.new ≡ None → self.new.waiting ++ self.new.known ≡ []) }
+        ensures bound { ShowsOne self.old.received self.new.received self.old.taken }
         ensures one { 0 < length self.old.gathered.whole → self.new ≡ record self.old { looks = self.new.looks } }
     {
         self.look();
@@ -141,7 +143,7 @@ impl fmt::Debug for RingTake {
 }
 
 /// Looks once, and brings pieces over until a packet is whole or no piece that the look has shown is left.
-#[tactic(auto, using(crate::proofs::Gathered::popped, wire_ends::proofs::Joining::stays_on))]
+#[tactic(auto, using(crate::proofs::Gathered::popped, crate::proofs::Gathered::last_one, wire_ends::proofs::Joining::stays_on))]
 fn bring(
     consumer: &mut Consumer<Piece, Global>,
     waiting: &mut Option<Piece>,
@@ -151,6 +153,8 @@ fn bring(
         → Gives (received consumer.new) taken gathered.new (option_to_list waiting.new) }
     ensures all { OnOk result (gathered.new.whole ≡ [] → known_items consumer.new ≡ []) }
     ensures none { OnOk result (waiting.new ≡ None) }
+    ensures bound { (taken : List WirePacket) → Gives (received consumer.old) taken gathered.old (option_to_list waiting.old)
+        → ShowsOne (received consumer.old) (received consumer.new) taken }
     ensures stays { Stays (slice_get gathered.old.whole 0) (slice_get gathered.new.whole 0) }
 {
     if let Some(piece) = waiting.take() {

@@ -1,5 +1,5 @@
 //! What a node sees of a link.
-ghost use Rattle.std.specs.Prelude.{◌≡◌, ◌≤◌, ◌+◌, ◌∷◌, ◌++◌, [], ℕ, List, Option, IfOk, OnErr};
+ghost use Rattle.std.specs.Prelude.{◌≡◌, ◌≤◌, ◌+◌, ◌∷◌, ◌++◌, [], ℕ, List, Option, None, IfOk, OnOk, OnErr};
 ghost use Rattle.std.specs.Borrow.{sem};
 ghost use Rattle.std.specs.Io.BufRead.{Rests};
 ghost use Rattle.std.specs.Option.{option_copied, option_to_list};
@@ -17,6 +17,7 @@ use std::fmt::Debug;
 /// other end did is known by a look alone, and no clause says that a look is up to date.
 pub trait End: Drop + Debug {
     ghost use Rattle.wire_ends.specs.declared.packet.WirePacket.{WirePacket};
+    ghost use Rattle.wire_ends.specs.declared.piece.Piece.{Piece};
     ghost use Rattle.wire_ends.specs.Parcels.{Packed};
 
     /// The packets sent here, in order.
@@ -30,6 +31,9 @@ pub trait End: Drop + Debug {
 
     /// The packet shown: what the next `take` gives.
     ghost shown: { Self → Option WirePacket };
+
+    /// The pieces that a look has shown and that are joined to no packet yet.
+    ghost waiting: { Self → List Piece };
 
     /// How often this end has looked; a count that gets to its greatest value stays there.
     ghost looks: { Self → ℕ };
@@ -66,8 +70,10 @@ pub trait End: Drop + Debug {
         ensures stays { Stays (shown self.old) (shown self.new) }
         ensures looks { looks self.new ≡ looks self.old };
 
-    /// Looks what came, and brings it over. What was shown stays so. An `Err` is want of memory.
+    /// Looks what came, and brings it over. What was shown stays so; where no packet is shown then, no piece waits. An `Err` is
+    /// want of memory.
     fn gather(&mut self) -> Result<(), Memory>
+        ensures left { OnOk result (shown self.new ≡ None → waiting self.new ≡ []) }
         ensures looked { Looked (looks self.old) (looks self.new) }
         ensures sent { sent self.new ≡ sent self.old }
         ensures taken { taken self.new ≡ taken self.old }

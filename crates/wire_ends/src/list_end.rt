@@ -86,6 +86,9 @@ impl End for ListEnd {
 
     ghost shown = { λ e. list_shown e };
 
+    // What was put here is shown.
+    ghost waiting = { λ _. [] };
+
     ghost looks = { λ e. e.looks };
 
     ghost fits = { λ p. IsWhole p };

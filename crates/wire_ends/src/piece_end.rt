@@ -65,6 +65,7 @@ impl PieceEnd {
         ensures gathered { IfOk result (λ e. e.gathered ≡ record { begun = None; whole = [] }) }
         ensures passed { IfOk result (λ e. (e.sent ≡ []) × (e.taken ≡ [])) }
         ensures most { IfOk result (λ e. e.most ≡ most) }
+        ensures unused { IfOk result (λ e. (e.room ≡ 0) × (e.looks ≡ 0)) }
     {
         Ok(PieceEnd::from_pieces(alloc, VecDeque::new(alloc), most))
     }
@@ -77,6 +78,7 @@ impl PieceEnd {
         ensures untaken { untaken result ≡ packets pieces.items }
         ensures passed { (result.sent ≡ []) × (result.taken ≡ []) }
         ensures most { result.most ≡ most }
+        ensures unused { (result.room ≡ 0) × (result.looks ≡ 0) }
     {
         PieceEnd {
             alloc,
@@ -196,6 +198,8 @@ impl End for PieceEnd {
     ghost free = { λ e. e.room };
 
     ghost shown = { λ e. piece_shown e };
+
+    ghost waiting = { λ e. e.pieces };
 
     ghost looks = { λ e. e.looks };
 
